@@ -1,0 +1,3 @@
+-- What the contracts of `counters` cite. Assumes nothing.
+pub mod Counters
+pub mod Tables
