@@ -24,6 +24,7 @@ pub use digests::digest_all;
 pub use digests::digest_start;
 pub use digests::digest_step;
 pub use parts::count;
+pub use parts::first;
 pub use parts::part;
 pub use parts::same;
 pub use reading::Number;

@@ -22,6 +22,16 @@ pub fn count(line: &[u8]) -> usize
     n
 }
 
+// The first n bytes of what a buffer holds, all of them where it holds fewer.
+pub fn first(buffer: &[u8], n: usize) -> &[u8]
+    ensures { λ r. ⌜ now r ≡ take n (now (buffer .entry)) ⌝ }
+{
+    if n < buffer.len() {
+        return &buffer[..n];
+    }
+    buffer
+}
+
 // Part k of the line, the first is 0; empty where there are fewer.
 pub fn part(line: &[u8], k: usize) -> &[u8]
     ensures { λ r. ⌜ now r ≡ partOf k (now (line .entry)) ⌝ }
