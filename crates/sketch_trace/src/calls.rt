@@ -1,7 +1,6 @@
 // The calls of the trace, on a lent table and the sketch's record. Assumes nothing.
 ghost use Prim.Native.Nat.{_≤_};
-ghost use mathlib.Core.Path.{_≡_};
-ghost use lib.ListN.{length, replicate};
+ghost use lib.ListN.{length};
 use crate::answers::Reply;
 use lines::Kind;
 use lines::Number;
@@ -91,7 +90,7 @@ fn lend(table: &mut [u64], s: State, words: Number) -> Turn
     if n > table.len() {
         return leave(s, Reply::Bad);
     }
-    clear(&mut table[..n]);
+    sketch::unchecked::clear(table, n);
     let sketch = sketch::unused();
     let state = State {
         lent: true,
@@ -101,17 +100,6 @@ fn lend(table: &mut [u64], s: State, words: Number) -> Turn
     Turn {
         state,
         reply: Reply::Good,
-    }
-}
-
-// Sets every word to 0.
-fn clear(words: &mut [u64])
-    ensures { λ _. ⌜ now (words .exit) ≡ replicate (length (now (words .entry))) 0 ⌝ }
-{
-    let mut i = 0;
-    while i < words.len() {
-        words[i] = 0;
-        i += 1;
     }
 }
 
