@@ -3,17 +3,9 @@
 mod requests;
 mod work;
 
-ghost use Prim.Native.Nat.{_<_};
+use lines::Source;
 use requests::answer;
 use requests::say;
-
-// Where the run stands: whether there may be more input, how many bytes of an unfinished line are
-// held, and how many bytes of answers wait.
-struct Progress {
-    open: bool,
-    held: usize,
-    waiting: usize,
-}
 
 fn main() {
     let mut table = [0u64; 65536];
@@ -23,90 +15,31 @@ fn main() {
     run(&mut table, &mut block, &mut line, &mut out);
 }
 
-// Reads block by block to the end of the input. A proved loop has to end, so this one counts its
-// turns down from a number that no run uses up.
+// Answers line by line to the end of the input.
 fn run(table: &mut [u64], block: &mut [u8], line: &mut [u8], out: &mut [u8]) {
-    let mut p = Progress {
-        open: true,
-        held: 0,
-        waiting: 0,
-    };
+    let mut source = lines::begin();
+    let mut waiting = 0;
     let mut turns = u64::MAX;
     while turns > 0 {
-        p = answer_some(table, block, line, out, p);
-        turns = left_after(turns, p.open);
+        source = lines::next_line(block, line, source);
+        waiting = answer_line(table, line, out, waiting, source);
+        turns = lines::turns_left(turns, source.more);
     }
-    finish(table, line, out, p);
+    lines::flush(out, waiting);
 }
 
-// The turns that are left after one more: none at the end of the input.
-fn left_after(turns: u64, open: bool) -> u64
-    requires { ⌜ 0 < turns ⌝ }
-    ensures { λ r. ⌜ r < turns ⌝ }
-{
-    if open { turns - 1 } else { 0 }
-}
-
-// Reads once, and answers the lines that end in what came.
-fn answer_some(
-    table: &mut [u64],
-    block: &mut [u8],
-    line: &mut [u8],
-    out: &mut [u8],
-    p: Progress,
-) -> Progress {
-    let n = lines::read_block(block);
-    if n == 0 {
-        let mut q = p;
-        q.open = false;
-        return q;
-    }
-    answer_block(table, lines::first(block, n), line, out, p)
-}
-
-// Answers the lines that end in this block, and writes the answers out.
-fn answer_block(
-    table: &mut [u64],
-    block: &[u8],
-    line: &mut [u8],
-    out: &mut [u8],
-    p: Progress,
-) -> Progress {
-    let mut q = p;
-    let mut from = 0;
-    while from < block.len() {
-        let c = lines::collect(block, from, line, q.held);
-        from = c.next;
-        q = answer_held(table, line, out, q, c.kept, c.ended);
-    }
-    lines::flush(out, q.waiting);
-    q.waiting = 0;
-    q
-}
-
-// Answers the line that is held, if it has ended.
-fn answer_held(
+// Answers the line that was found, if there was one, and answers how many bytes wait then.
+fn answer_line(
     table: &mut [u64],
     line: &[u8],
     out: &mut [u8],
-    p: Progress,
-    held: usize,
-    ended: bool,
-) -> Progress {
-    let mut q = p;
-    q.held = held;
-    if !ended {
-        return q;
+    waiting: usize,
+    source: Source,
+) -> usize {
+    if !source.more {
+        return waiting;
     }
-    let reply = answer(table, lines::first(line, held));
-    q.held = 0;
-    q.waiting = say(out, q.waiting, reply);
-    q
-}
-
-// Answers a last line that no line end follows, and writes out what waits.
-fn finish(table: &mut [u64], line: &[u8], out: &mut [u8], p: Progress) {
-    let held = p.held;
-    let q = answer_held(table, line, out, p, held, held > 0);
-    lines::flush(out, q.waiting);
+    let reply = answer(table, lines::first(line, source.held));
+    let said = say(out, waiting, reply);
+    lines::settle(out, said, source)
 }

@@ -75,7 +75,7 @@ pub fn say(out: &mut [u8], at: usize, reply: Reply) -> usize {
 }
 
 fn say_digest(out: &mut [u8], at: usize, n: u64) -> usize {
-    let worded = lines::append(out, at, b"digest ");
-    let numbered = lines::append_decimal(out, worded, n);
-    lines::append(out, numbered, b"\n")
+    let worded = lines::append(out, at, b"digest");
+    let last = lines::append_field(out, worded, n);
+    lines::append(out, last, b"\n")
 }

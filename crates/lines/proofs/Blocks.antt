@@ -1,6 +1,6 @@
 -- The loop of `collect`: what it has reached, and what it answers where it stops. Assumes nothing.
 use Prim.Native.Nat.{ℕ, zero, suc, _+_, _-_, _≤_, _<_}
-use mathlib.Core.Path.{_≡_, refl, sym, ap, _∙_}
+use mathlib.Core.Path.{_≡_, refl, sym, ap, subst, _∙_}
 use mathlib.Core.Bool.{Bool, true, false, cond}
 use mathlib.Core.List.{List, [], _∷_, _++_}
 use native.Mathlib.Omega.{arith}
@@ -8,7 +8,8 @@ use lib.Dec.{ltb}
 use lib.ListN.{length, take, drop, getD, length-drop}
 use borrow.Author.Tests.{lt-ltb, le-ltb}
 use Rattle.lines.specs.Parts.{before}
-use Rattle.lines.specs.Collected.{Collects, Keeps, lineEnd, thisLine}
+use Rattle.lines.specs.Collected.{Collects, Keeps, NextLine, lineEnd, lineThere, passed, thisLine}
+use Rattle.lines.specs.declared.collecting.Source.{Source}
 use Rattle.lines.specs.declared.collecting.Collected.{Collected}
 use Rattle.lines.proofs.Scans.{before-stop, before-on, before-end}
 use Rattle.lines.proofs.Waiting.{held}
@@ -74,3 +75,41 @@ module _ (block : List ℕ) (from : ℕ) (line₀ : List ℕ) (kept : ℕ) (line
         onward = λ w. omega (arith, r .on);
         within = λ w. omega (arith, r .within w, r .long);
       }
+
+-- no turns, whether or not the loop goes on
+pub turns-none : (t : ℕ) (b : Bool) → t ≡ 0 → _≡_ {A = ℕ} 0 (cond b (t - 1) 0)
+turns-none t true e = omega arith
+turns-none t false e = refl
+
+never : (t : Bool) → t ≡ false → t ≡ true → ⊥
+never t p q = let z : _≡_ {A = ℕ} 0 1 = cc in omega arith
+
+module _ (block line : List ℕ) (s : Source) (part line′ : List ℕ) (r : Collected) (e : part ≡ take (s .upto) block) (k : Collects part (s .from) line 0 line′ r) where
+  -- the line ends in the block: it is the next line
+  pub line-found : r .ended ≡ true → NextLine block line s block line′ (record { from = r .next; upto = s .upto; held = r .kept; more = true })
+  line-found h =
+      record {
+        taken = λ w. subst (λ (b : List ℕ). Collects b (s .from) line 0 line′ (record { next = r .next; kept = r .kept; ended = true })) e ends-so;
+        unmoved = λ w. (refl, refl);
+      }
+    where
+      ends-so : Collects part (s .from) line 0 line′ (record { next = r .next; kept = r .kept; ended = true })
+      ends-so =
+          record {
+            holds = k .holds;
+            goes = k .goes ∙ ap (λ (t : Bool). s .from + length (thisLine part (s .from)) + passed t) h;
+            ends = sym h ∙ k .ends;
+            onward = k .onward;
+            within = k .within;
+          }
+
+  -- it does not: there is no line end in the block
+  pub line-not-there : r .ended ≡ false → (block′ line″ : List ℕ) (r′ : Source) → NextLine block line s block′ line″ r′
+  line-not-there h block′ line″ r′ =
+      record {
+        taken = λ w. absurd (never (lineThere block s) (there ∙ h) w);
+        unmoved = λ w. absurd (never (lineThere block s) (there ∙ h) w);
+      }
+    where
+      there : lineThere block s ≡ r .ended
+      there = ap (λ (b : List ℕ). ltb (length (thisLine b (s .from))) (length (drop (s .from) b))) (sym e) ∙ sym (k .ends)

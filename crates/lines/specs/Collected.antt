@@ -1,5 +1,5 @@
--- Lines as they come out of blocks: what `collect`, `keep` and `kind_of` promise. Assumes nothing.
-use Prim.Native.Nat.{ℕ, _+_, _≤_, _<_}
+-- Lines as they come out of blocks: what the functions of `collecting` promise. Assumes nothing.
+use Prim.Native.Nat.{ℕ, _+_, _-_, _≤_, _<_}
 use mathlib.Core.Path.{_≡_}
 use mathlib.Core.Bool.{Bool, true, false, cond}
 use mathlib.Core.List.{List, [], _∷_, _++_}
@@ -7,6 +7,7 @@ use lib.ListN.{length, take, drop, getD}
 use lib.Dec.{eqb, ltb}
 use Rattle.lines.specs.Parts.{before}
 use Rattle.lines.specs.declared.collecting.Collected.{Collected}
+use Rattle.lines.specs.declared.collecting.Source.{Source}
 use Rattle.lines.specs.declared.collecting.Kind.{Kind}
 use Rattle.lines.specs.declared.collecting.Kind.the-variants.{Silent, Long, Call}
 
@@ -39,6 +40,24 @@ pub record Keeps (line : List ℕ) (n b : ℕ) (buffer : List ℕ) (r : ℕ) : T
   pub holds : (rest : List ℕ) → take (length line) (take r buffer ++ rest) ≡ take (length line) (take n line ++ b ∷ rest)
   pub long : length buffer ≡ length line
   pub within : n ≤ length line → r ≤ length line
+
+-- the reading before the first line: nothing of the block is read yet
+abbrev pub unread : Source
+unread = record { from = 0; upto = 0; held = 0; more = true }
+
+-- what is read of the block and yet to be taken holds the end of a line
+abbrev pub lineThere : List ℕ → Source → Bool
+lineThere block s = ltb (length (thisLine (take (s .upto) block) (s .from))) (length (drop (s .from) (take (s .upto) block)))
+
+-- The next line, as far as it stands in the block already: then it is taken from there, and nothing is read. No contract can say what a read brings.
+pub record NextLine (block line : List ℕ) (s : Source) (block′ line′ : List ℕ) (r : Source) : Type 0 where
+  pub taken : lineThere block s ≡ true → Collects (take (s .upto) block) (s .from) line 0 line′ (record { next = r .from; kept = r .held; ended = r .more })
+  pub unmoved : lineThere block s ≡ true → (block′ ≡ block) × (r .upto ≡ s .upto)
+
+-- The turns that a loop has left.
+pub record TurnsLeft (turns : ℕ) (on : Bool) (r : ℕ) : Type 0 where
+  pub is : r ≡ cond on (turns - 1) 0
+  pub less : 0 < turns → r < turns
 
 -- a comment begins with `#`
 abbrev pub isComment : List ℕ → Bool

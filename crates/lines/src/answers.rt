@@ -4,7 +4,8 @@ ghost use mathlib.Core.Path.{_≡_};
 ghost use Prim.Native.Nat.{_+_, _≤_, _<_};
 ghost use lib.ListN.{length};
 ghost use lib.Seq.{paste};
-ghost use Rattle.lines.specs.Answers.{Appended, AppendedNumber, placeOf};
+ghost use Rattle.lines.specs.Answers.{Appended, AppendedNumber, AppendedField, placeOf, settled};
+use crate::collecting::Source;
 use libc::STDOUT_FILENO;
 
 // Writes the first n bytes of out to standard output, all of them where it has fewer, and answers
@@ -15,6 +16,19 @@ pub fn flush(out: &[u8], n: usize) -> bool {
     } else {
         io::write_all(STDOUT_FILENO, out)
     }
+}
+
+// Writes out the `at` bytes that wait in out where all of the block is answered, so that nothing
+// waits while more is read; answers how many wait then.
+pub fn settle(out: &[u8], at: usize, s: Source) -> usize
+    ensures { λ r. ⌜ r ≡ settled at s ⌝ }
+{
+    let from = s.from;
+    let upto = s.upto;
+    if from < upto {
+        return at;
+    }
+    emptied(out, at)
 }
 
 // Puts text after the `at` bytes that wait in out, and answers how many wait then. Where there is
@@ -39,6 +53,14 @@ pub fn append_decimal(out: &mut [u8], at: usize, n: u64) -> usize
     let mut text = [0u8; 20];
     let k = io::decimal(n, &mut text);
     append(out, at, &text[..k])
+}
+
+// Puts a space and n in decimal after the `at` bytes that wait in out, as `append` does.
+pub fn append_field(out: &mut [u8], at: usize, n: u64) -> usize
+    ensures { λ r. ⌜ AppendedField (now (out .entry)) at n (now (out .exit)) r ⌝ }
+{
+    let spaced = append(out, at, b" ");
+    append_decimal(out, spaced, n)
 }
 
 // Where n more bytes go: after the `at` that wait, or at the start once these are written out.

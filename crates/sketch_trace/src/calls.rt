@@ -1,7 +1,6 @@
 // The calls of the trace, on a lent table and the sketch's record. Assumes nothing.
 ghost use Prim.Native.Nat.{_≤_};
 ghost use lib.ListN.{length};
-use crate::answers::Label;
 use crate::answers::Reply;
 use lines::Kind;
 use lines::Number;
@@ -114,7 +113,7 @@ fn index(line: &[u8]) -> Reply {
     let Number::Is(mask) = lines::number_at(line, 3) else {
         return Reply::Bad;
     };
-    Reply::One(Label::Index, sketch::word_index(hash, depth, mask))
+    Reply::One(sketch::word_index(hash, depth, mask))
 }
 
 // A call on the words that are lent, which keeps their number.
@@ -134,7 +133,7 @@ fn call_lent(table: &mut [u64], s: State, line: &[u8]) -> Turn
 
 fn call_by_count(lent: &mut [u64], s: Sketch, line: &[u8]) -> Called {
     match lines::count(line) {
-        1 => call_alone(lent, s, lines::part(line, 0)),
+        1 => call_alone(lent, s, line),
         2 => call_number(lent, s, line),
         3 => poke_word(lent, s, line),
         4 => poke_record(s, line),
@@ -148,12 +147,12 @@ fn keep(s: Sketch, reply: Reply) -> Called {
 }
 
 // `record` and `digest`.
-fn call_alone(lent: &[u64], s: Sketch, word: &[u8]) -> Called {
-    if lines::same(word, b"record") {
-        return keep(s, Reply::Record(s.used as u64, s.sample, s.size));
+fn call_alone(lent: &[u64], s: Sketch, line: &[u8]) -> Called {
+    if lines::is_part(line, 0, b"record") {
+        return keep(s, Reply::Three(s.used as u64, s.sample, s.size));
     }
-    if lines::same(word, b"digest") {
-        return keep(s, Reply::One(Label::Digest, digest(lent, s)));
+    if lines::is_part(line, 0, b"digest") {
+        return keep(s, Reply::One(digest(lent, s)));
     }
     keep(s, Reply::Bad)
 }
@@ -171,17 +170,21 @@ fn call_number(lent: &mut [u64], s: Sketch, line: &[u8]) -> Called {
     let Number::Is(n) = lines::number_at(line, 1) else {
         return keep(s, Reply::Bad);
     };
-    let word = lines::part(line, 0);
-    if lines::same(word, b"increase") {
+    if lines::is_part(line, 0, b"increase") {
         return increase(lent, s, n);
     }
-    if lines::same(word, b"estimate") {
+    if lines::is_part(line, 0, b"estimate") {
         return keep(s, estimate(lent, s, n));
     }
-    if lines::same(word, b"ensure") {
+    call_other(lent, s, line, n)
+}
+
+// Those whose number is no hash.
+fn call_other(lent: &mut [u64], s: Sketch, line: &[u8], n: u64) -> Called {
+    if lines::is_part(line, 0, b"ensure") {
         return ensure(lent, s, n);
     }
-    if lines::same(word, b"word") {
+    if lines::is_part(line, 0, b"word") {
         return keep(s, word_at(lent, n as usize));
     }
     keep(s, Reply::Bad)
@@ -190,27 +193,27 @@ fn call_number(lent: &mut [u64], s: Sketch, line: &[u8]) -> Called {
 fn increase(lent: &mut [u64], s: Sketch, hash: u64) -> Called {
     match sketch::increase(lent, s, hash) {
         Increased::Done(after) => keep(after, Reply::Good),
-        Increased::Refused(n) => keep(s, Reply::One(Label::Refused, n)),
+        Increased::Refused(n) => keep(s, Reply::Refused(n)),
     }
 }
 
 fn estimate(lent: &[u64], s: Sketch, hash: u64) -> Reply {
     match sketch::estimate(lent, s, hash) {
-        Estimated::Least(n) => Reply::One(Label::Estimate, n),
-        Estimated::Refused(n) => Reply::One(Label::Refused, n),
+        Estimated::Least(n) => Reply::One(n),
+        Estimated::Refused(n) => Reply::Refused(n),
     }
 }
 
 fn ensure(lent: &mut [u64], s: Sketch, capacity: u64) -> Called {
     match sketch::ensure_capacity(lent, s, capacity) {
         Ensured::Done(after) => keep(after, Reply::Good),
-        Ensured::Refused(n) => keep(s, Reply::One(Label::Refused, n)),
+        Ensured::Refused(n) => keep(s, Reply::Refused(n)),
     }
 }
 
 fn word_at(lent: &[u64], i: usize) -> Reply {
     if i < lent.len() {
-        Reply::One(Label::Word, lent[i])
+        Reply::One(lent[i])
     } else {
         Reply::Bad
     }

@@ -3,19 +3,17 @@
 mod answers;
 mod calls;
 
-ghost use Prim.Native.Nat.{_≤_, _<_};
+ghost use Prim.Native.Nat.{_≤_};
 ghost use lib.ListN.{length};
 use answers::say;
 use calls::State;
 use calls::answer;
 use calls::before_lend;
+use lines::Source;
 
-// Where the run stands: the sketch's state, whether there may be more input, how many bytes of an
-// unfinished line are held, and how many bytes of answers wait.
+// What goes from line to line: the sketch's state, and how many bytes of answers wait.
 struct Progress {
     state: State,
-    open: bool,
-    held: usize,
     waiting: usize,
 }
 
@@ -27,116 +25,48 @@ fn main() {
     run(&mut table, &mut block, &mut line, &mut out);
 }
 
-// Reads block by block to the end of the input. A proved loop has to end, so this one counts its
-// turns down from a number that no run uses up.
+// Answers line by line to the end of the input.
 fn run(table: &mut [u64], block: &mut [u8], line: &mut [u8], out: &mut [u8]) {
-    let mut p = begin();
+    let mut source = lines::begin();
+    let mut p = at_start();
     let mut turns = u64::MAX;
     while turns > 0 {
-        p = answer_some(table, block, line, out, p);
-        turns = left_after(turns, p.open);
+        source = lines::next_line(block, line, source);
+        p = answer_line(table, line, out, p, source);
+        turns = lines::turns_left(turns, source.more);
     }
-    finish(table, line, out, p);
+    lines::flush(out, p.waiting);
 }
 
-// The turns that are left after one more: none at the end of the input.
-fn left_after(turns: u64, open: bool) -> u64
-    requires { ⌜ 0 < turns ⌝ }
-    ensures { λ r. ⌜ r < turns ⌝ }
-{
-    if open { turns - 1 } else { 0 }
-}
-
-fn begin() -> Progress
+fn at_start() -> Progress
     ensures { λ r. ⌜ r .state .words ≤ 0 ⌝ }
 {
     let state = before_lend();
-    Progress {
-        state,
-        open: true,
-        held: 0,
-        waiting: 0,
-    }
+    Progress { state, waiting: 0 }
 }
 
-// Reads once, and answers the lines that end in what came.
-fn answer_some(
-    table: &mut [u64],
-    block: &mut [u8],
-    line: &mut [u8],
-    out: &mut [u8],
-    p: Progress,
-) -> Progress
-    requires { ⌜ p .state .words ≤ length (now table) ⌝ }
-    ensures { λ r. ⌜ r .state .words ≤ length (now (table .exit)) ⌝ }
-{
-    let n = lines::read_block(block);
-    if n == 0 {
-        let mut q = p;
-        q.open = false;
-        return q;
-    }
-    answer_block(table, lines::first(block, n), line, out, p)
-}
-
-// Answers the lines that end in this block, and writes the answers out.
-fn answer_block(
-    table: &mut [u64],
-    block: &[u8],
-    line: &mut [u8],
-    out: &mut [u8],
-    p: Progress,
-) -> Progress
-    requires { ⌜ p .state .words ≤ length (now table) ⌝ }
-    ensures { λ r. ⌜ r .state .words ≤ length (now (table .exit)) ⌝ }
-{
-    let mut q = p;
-    let mut from = 0;
-    while from < block.len() {
-        let c = lines::collect(block, from, line, q.held);
-        from = c.next;
-        q = answer_held(table, line, out, q, c.kept, c.ended);
-    }
-    lines::flush(out, q.waiting);
-    q.waiting = 0;
-    q
-}
-
-// Answers the line that is held, if it has ended.
-fn answer_held(
+// Answers the line that was found, if there was one.
+fn answer_line(
     table: &mut [u64],
     line: &[u8],
     out: &mut [u8],
     p: Progress,
-    held: usize,
-    ended: bool,
+    source: Source,
 ) -> Progress
     requires { ⌜ p .state .words ≤ length (now table) ⌝ }
     ensures { λ r. ⌜ r .state .words ≤ length (now (table .exit)) ⌝ }
 {
-    if !ended {
-        let mut q = p;
-        q.held = held;
-        return q;
+    if !source.more {
+        return p;
     }
+    let held = lines::first(line, source.held);
     let s = p.state;
-    let turn = answer(table, s, lines::first(line, held));
+    let turn = answer(table, s, held);
     let reply = turn.reply;
-    let waiting = say(out, p.waiting, reply);
+    let said = say(out, p.waiting, held, reply);
     let state = turn.state;
     Progress {
         state,
-        open: true,
-        held: 0,
-        waiting,
+        waiting: lines::settle(out, said, source),
     }
-}
-
-// Answers a last line that no line end follows, and writes out what waits.
-fn finish(table: &mut [u64], line: &[u8], out: &mut [u8], p: Progress)
-    requires { ⌜ p .state .words ≤ length (now table) ⌝ }
-{
-    let held = p.held;
-    let q = answer_held(table, line, out, p, held, held > 0);
-    lines::flush(out, q.waiting);
 }

@@ -1,38 +1,44 @@
--- `sketch_trace::run` ends, and keeps the lent words within the table. The measure is the number of turns that are left. Assumes nothing.
+-- `sketch_trace::run` is safe and ends, and keeps the lent words within the table. The measure is the number of turns that are left. Assumes nothing.
 use borrow.Author.Needs.{needs}
 use native.Mathlib.Omega.{arith}
 use Prim.Native.Nat.{ℕ, _+_, _-_, _*_, _^_, _≤_, _<_}
 use mathlib.Core.Path.{_≡_, refl, sym, ap, subst, _∙_}
-use lib.ListN.{length, take, drop, getD}
+use lib.ListN.{length}
 use Rattle.sketch_trace.proofs.run.Statement.{statement}
 use Rattle.sketch_trace.proofs.run.Tie as tie
 
 abbrev Inv-loop : tie.InvT-loop
-Inv-loop table₀ block₀ line₀ out₀ p₀ turns₀ table block line out p turns = (p .state .words ≤ length table) × (length table ≡ length table₀) × (length block ≡ length block₀) × (length line ≡ length line₀) × (length out ≡ length out₀)
+Inv-loop table₀ block₀ line₀ out₀ source₀ p₀ turns₀ table block line out source p turns = (p .state .words ≤ length table) × (length table ≡ length table₀) × (length block ≡ length block₀) × (length line ≡ length line₀) × (length out ≡ length out₀)
 
 abbrev μ-loop : tie.MeasureT-loop
-μ-loop table₀ block₀ line₀ out₀ p₀ turns₀ table block line out p turns = turns
+μ-loop table₀ block₀ line₀ out₀ source₀ p₀ turns₀ table block line out source p turns = turns
 
 begin-requires : tie.Need-begin-requires Inv-loop μ-loop
 begin-requires c κs = search needs
 
+at-start-requires : tie.Need-at-start-requires Inv-loop μ-loop
+at-start-requires c κs = search needs
+
 loop-holds : tie.Need-loop-holds Inv-loop μ-loop
 loop-holds c = search needs
 
-answer-some-requires : tie.Need-answer-some-requires Inv-loop μ-loop
-answer-some-requires c κs = search needs
+next-line-requires : tie.Need-next-line-requires Inv-loop μ-loop
+next-line-requires c κs = search needs
 
-left-after-requires : tie.Need-left-after-requires Inv-loop μ-loop
-left-after-requires c κs = search needs
+answer-line-requires : tie.Need-answer-line-requires Inv-loop μ-loop
+answer-line-requires c κs = search needs
+
+turns-left-requires : tie.Need-turns-left-requires Inv-loop μ-loop
+turns-left-requires c κs = search needs
 
 loop-less : tie.Need-loop-less Inv-loop μ-loop
-loop-less c = search needs
+loop-less c = c .turns-left .ensures .less (omega arith)
 
 loop-again : tie.Need-loop-again Inv-loop μ-loop
 loop-again c = search needs
 
-finish-requires : tie.Need-finish-requires Inv-loop μ-loop
-finish-requires c κs = search needs
+flush-requires : tie.Need-flush-requires Inv-loop μ-loop
+flush-requires c κs = search needs
 
 same-length : tie.Need-same-length Inv-loop μ-loop
 same-length c = search needs
@@ -56,12 +62,14 @@ run-spec =
     Inv-loop
     μ-loop
     begin-requires
+    at-start-requires
     loop-holds
-    answer-some-requires
-    left-after-requires
+    next-line-requires
+    answer-line-requires
+    turns-left-requires
     loop-less
     loop-again
-    finish-requires
+    flush-requires
     same-length
     same-length-2
     same-length-3
