@@ -1,0 +1,64 @@
+-- `bench_sketch::run` is safe and ends. What is written keeps its length; the measure is the number of turns that are left. Assumes nothing.
+use borrow.Author.Needs.{needs}
+use Prim.Native.Nat.{ℕ, _+_, _-_, _*_, _^_, _≤_, _<_}
+use mathlib.Core.Path.{_≡_, refl, sym, ap, subst, _∙_}
+use lib.ListN.{length, take, drop, getD}
+use Rattle.bench_sketch.proofs.run.Statement.{statement}
+use Rattle.bench_sketch.proofs.run.Tie as tie
+
+abbrev Inv-loop : tie.InvT-loop
+Inv-loop table₀ block₀ line₀ out₀ p₀ turns₀ table block line out p turns = (length table ≡ length table₀) × (length block ≡ length block₀) × (length line ≡ length line₀) × (length out ≡ length out₀)
+
+abbrev μ-loop : tie.MeasureT-loop
+μ-loop table₀ block₀ line₀ out₀ p₀ turns₀ table block line out p turns = turns
+
+loop-holds : tie.Need-loop-holds Inv-loop μ-loop
+loop-holds c = search needs
+
+answer-some-requires : tie.Need-answer-some-requires Inv-loop μ-loop
+answer-some-requires c κs = search needs
+
+left-after-requires : tie.Need-left-after-requires Inv-loop μ-loop
+left-after-requires c κs = search needs
+
+loop-less : tie.Need-loop-less Inv-loop μ-loop
+loop-less c = search needs
+
+loop-again : tie.Need-loop-again Inv-loop μ-loop
+loop-again c = search needs
+
+finish-requires : tie.Need-finish-requires Inv-loop μ-loop
+finish-requires c κs = search needs
+
+same-length : tie.Need-same-length Inv-loop μ-loop
+same-length c = search needs
+
+same-length-2 : tie.Need-same-length-2 Inv-loop μ-loop
+same-length-2 c = search needs
+
+same-length-3 : tie.Need-same-length-3 Inv-loop μ-loop
+same-length-3 c = search needs
+
+same-length-4 : tie.Need-same-length-4 Inv-loop μ-loop
+same-length-4 c = search needs
+
+returns : tie.Need-returns Inv-loop μ-loop
+returns c = search needs
+
+pub run-spec : {M : Type 1} → statement M
+run-spec =
+    tie.close
+    (tie.spec
+    Inv-loop
+    μ-loop
+    loop-holds
+    answer-some-requires
+    left-after-requires
+    loop-less
+    loop-again
+    finish-requires
+    same-length
+    same-length-2
+    same-length-3
+    same-length-4
+    returns)
