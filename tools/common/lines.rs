@@ -55,14 +55,99 @@ pub fn refused(number: u32) -> String {
     format!("refused {number}")
 }
 
-/// A number, or `-`.
-pub fn show(link: Option<usize>) -> String {
-    link.map_or("-".to_string(), |n| n.to_string())
+/// The answer to a call that gives nothing but success.
+pub fn ok() -> String {
+    "ok".to_string()
+}
+
+/// The slots of a list after its word.
+pub fn listed(word: &str, slots: &[usize]) -> String {
+    slots.iter().fold(word.to_string(), |line, slot| format!("{line} {slot}"))
 }
 
 /// FNV-1a over 64-bit words.
 pub fn digest(numbers: impl IntoIterator<Item = u64>) -> u64 {
     numbers.into_iter().fold(14695981039346656037, |h, x| (h ^ x).wrapping_mul(1099511628211))
+}
+
+/// A number of a dump line.
+#[derive(Clone, Copy)]
+pub enum Field {
+    Is(u64),
+    None,
+    End,
+    /// An entry's deadline: two numbers in a digest.
+    Deadline(Option<u64>),
+}
+
+impl Field {
+    pub fn link(link: Option<usize>) -> Self {
+        link.map_or(Self::None, |slot| Self::Is(slot as u64))
+    }
+
+    fn text(self) -> String {
+        match self {
+            Self::Is(n) | Self::Deadline(Some(n)) => n.to_string(),
+            Self::None | Self::Deadline(None) => "-".to_string(),
+            Self::End => "end".to_string(),
+        }
+    }
+}
+
+/// Takes the lines of a dump one by one.
+pub trait Dump {
+    fn line(&mut self, word: &str, fields: &[Field]);
+}
+
+/// The lines as text.
+#[derive(Default)]
+pub struct Text(Vec<String>);
+
+impl Dump for Text {
+    fn line(&mut self, word: &str, fields: &[Field]) {
+        self.0.push(fields.iter().fold(word.to_string(), |line, field| line + " " + &field.text()));
+    }
+}
+
+impl Text {
+    pub fn answer(self) -> String {
+        self.0.join("\n")
+    }
+}
+
+/// The digest of the same numbers.
+pub struct Digest(u64);
+
+impl Default for Digest {
+    fn default() -> Self {
+        Self(digest([]))
+    }
+}
+
+impl Digest {
+    fn add(&mut self, number: u64) {
+        self.0 = (self.0 ^ number).wrapping_mul(1099511628211);
+    }
+
+    pub fn answer(self) -> String {
+        format!("digest {}", self.0)
+    }
+}
+
+impl Dump for Digest {
+    fn line(&mut self, _: &str, fields: &[Field]) {
+        for field in fields {
+            match *field {
+                Field::Is(n) => self.add(n),
+                Field::None => self.add(u64::MAX),
+                Field::End => self.add(u64::MAX - 1),
+                Field::Deadline(deadline) => {
+                    self.add(u64::from(deadline.is_some()));
+                    self.add(deadline.unwrap_or(0));
+                }
+            }
+        }
+    }
 }
 
 /// A reader of one module's calls.

@@ -3,10 +3,14 @@
 //! The three files are included from the folder that RUST_SOURCE names when this is compiled; nothing of them is copied.
 //! The refusals, slots, serials and free chains that the port adds are a thin layer around them.
 
+mod common;
+mod deque;
 #[path = "../common/lines.rs"]
+#[allow(dead_code)]
 mod lines;
 mod sketch;
 mod trips;
+mod wheel;
 
 use lines::Module;
 use std::io;
@@ -16,6 +20,8 @@ const USAGE: &str = "usage: oracle sketch|deque|wheel < TRACE";
 fn module(name: &str) -> Option<Box<dyn Module>> {
     match name {
         "sketch" => Some(Box::new(sketch::Sketch::default())),
+        "deque" => Some(Box::new(deque::Deques::default())),
+        "wheel" => Some(Box::new(wheel::Wheel::default())),
         _ => None,
     }
 }

@@ -1,6 +1,6 @@
 //! The sketch: the Rust's table stands for the used part of the lent one; the words beyond are kept beside it.
 
-use crate::lines::{digest, number, refused, Module};
+use crate::lines::{digest, number, ok, refused, Module};
 use crate::trips;
 
 /// The longest table, and the largest capacity.
@@ -126,7 +126,7 @@ impl Lent {
         }
         rust.ensure_capacity(capacity as u32);
         rest.drain(..rust.words().len() - used);
-        "ok".to_string()
+        ok()
     }
 
     fn increase(&mut self, hash: u64) -> String {
@@ -135,7 +135,7 @@ impl Lent {
             *self = Self::Tripped;
             return "tripped".to_string();
         }
-        "ok".to_string()
+        ok()
     }
 
     fn estimate(&self, hash: u64) -> String {
@@ -164,7 +164,6 @@ fn index(hash: u64, depth: u64, mask: u64) -> usize {
 
 impl Module for Sketch {
     fn call(&mut self, fields: &[&str]) -> Option<String> {
-        let ok = || "ok".to_string();
         let numbers: Vec<u64> = fields[1..].iter().map(|f| number(f)).collect::<Option<_>>()?;
         match (fields[0], &numbers[..]) {
             ("index", &[hash, depth, mask]) => return Some(format!("index {}", index(hash, depth, mask))),
