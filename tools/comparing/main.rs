@@ -7,10 +7,18 @@ mod align;
 #[path = "../common/lines.rs"]
 #[allow(dead_code)]
 mod lines;
+#[path = "../model/links.rs"]
+mod links;
+#[path = "../model/deque.rs"]
+mod model_deque;
+#[path = "../model/wheel.rs"]
+mod model_wheel;
 mod random;
 #[macro_use]
 mod trace;
+mod deque;
 mod sketch;
+mod wheel;
 
 use align::Answers;
 use lines::Line;
@@ -29,6 +37,10 @@ const SHOWN: u64 = 8;
 /// Makes traces, session by session.
 pub trait Source {
     fn session(&mut self, trace: &mut Trace);
+    /// A reader that follows the trace, if the sessions need one.
+    fn model(&self) -> Option<Box<dyn lines::Module>> {
+        None
+    }
     fn summary(&self) -> String {
         String::new()
     }
@@ -39,16 +51,18 @@ fn fail(message: &str) -> ! {
     exit(2)
 }
 
-fn source(module: &str, _damage: bool) -> Box<dyn Source> {
+fn source(module: &str, damage: bool) -> Box<dyn Source> {
     match module {
         "sketch" => Box::new(sketch::Sketches::default()),
+        "deque" => Box::new(deque::Deques { damage }),
+        "wheel" => Box::new(wheel::Wheels { damage, placed: 0 }),
         _ => fail(&format!("no such module: {module}")),
     }
 }
 
 /// Sessions until there are enough lines.
 fn make(source: &mut dyn Source, seed: u64, chunk: u64, lines: u64) -> Trace {
-    let mut trace = Trace::new(seed.wrapping_mul(0x2545_f491_4f6c_dd1d).wrapping_add(chunk));
+    let mut trace = Trace::new(seed.wrapping_mul(0x2545_f491_4f6c_dd1d).wrapping_add(chunk), source.model());
     while trace.lines < lines {
         source.session(&mut trace);
     }

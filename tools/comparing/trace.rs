@@ -1,12 +1,20 @@
 //! A trace under construction: call lines, with a few per cent of odd lines among them.
 
+use crate::lines::{split, Line, Module};
 use crate::random::Random;
 
-/// Adds a call to a trace; the fields may draw on the trace's random numbers.
-macro_rules! call {
+/// Adds a call to a trace and gives the model's answer; the fields may draw on the trace's random numbers.
+macro_rules! answer {
     ($trace:expr, $($line:tt)*) => {{
         let line = format!($($line)*);
         $trace.call(&line)
+    }};
+}
+
+/// Adds a call to a trace.
+macro_rules! call {
+    ($trace:expr, $($line:tt)*) => {{
+        answer!($trace, $($line)*);
     }};
 }
 
@@ -14,15 +22,29 @@ pub struct Trace {
     pub bytes: Vec<u8>,
     pub lines: u64,
     pub random: Random,
+    /// Follows the trace, so that calls can name handles and slots that are there.
+    model: Option<Box<dyn Module>>,
 }
 
 impl Trace {
-    pub fn new(seed: u64) -> Self {
-        Self { bytes: Vec::new(), lines: 0, random: Random::new(seed) }
+    pub fn new(seed: u64, model: Option<Box<dyn Module>>) -> Self {
+        Self { bytes: Vec::new(), lines: 0, random: Random::new(seed), model }
     }
 
-    /// Adds a call, now and then with an odd line before it.
-    pub fn call(&mut self, line: &str) {
+    /// The model's answer to a line that is not part of the trace.
+    pub fn ask(&mut self, line: &str) -> String {
+        self.answer(line.as_bytes())
+    }
+
+    fn answer(&mut self, line: &[u8]) -> String {
+        match (&mut self.model, split(line)) {
+            (Some(model), Line::Fields(fields)) => model.call(&fields).unwrap_or_default(),
+            _ => String::new(),
+        }
+    }
+
+    /// Adds a call, now and then with an odd line before it. Gives the model's answer.
+    pub fn call(&mut self, line: &str) -> String {
         let line = line.as_bytes();
         if self.random.once_in(40) {
             let odd = self.odd(line);
@@ -30,9 +52,9 @@ impl Trace {
         }
         if self.random.once_in(200) {
             let padded = self.padded(line, 256);
-            self.put(&padded);
+            self.put(&padded)
         } else {
-            self.put(line);
+            self.put(line)
         }
     }
 
@@ -47,10 +69,11 @@ impl Trace {
         }
     }
 
-    fn put(&mut self, line: &[u8]) {
+    fn put(&mut self, line: &[u8]) -> String {
         self.bytes.extend_from_slice(line);
         self.bytes.push(b'\n');
         self.lines += 1;
+        self.answer(line)
     }
 
     /// The line with leading zeros in its last number, filled up to `length` bytes.
