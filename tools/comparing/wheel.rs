@@ -13,11 +13,19 @@ pub struct Wheels {
     pub placed: u64,
 }
 
-/// What is lent in the session, and handles that were given.
+/// What is lent in the session, the generations that entries were set to, and the handles that were given.
 struct Lent {
     nodes: u64,
     entries: u64,
-    handles: Vec<(u64, u64)>,
+    generations: [u64; 9],
+    handles: Vec<Handle>,
+}
+
+#[derive(Clone, Copy)]
+struct Handle {
+    slot: u64,
+    serial: u64,
+    generation: u64,
 }
 
 const SHIFTS: [u32; 5] = [30, 36, 42, 47, 49];
@@ -79,10 +87,10 @@ fn near(r: &mut Random, reading: u64) -> u64 {
 }
 
 fn generation(r: &mut Random) -> u64 {
-    match r.below(40) {
-        0 => u64::from(u32::MAX),
-        1 => 1 << 32,
-        2..=7 => 1,
+    match r.below(20) {
+        0 => r.pick(&[1 << 32, u64::MAX]),
+        1 | 2 => r.pick(&[u64::from(u32::MAX), 1 << 31, 1 << 16, 4096, 256]),
+        3..=7 => r.below(3),
         _ => 0,
     }
 }
@@ -112,7 +120,7 @@ fn begin(t: &mut Trace, nodes: u64, entries: u64) -> Lent {
     };
     call!(t, "create {serial}");
     call!(t, "enable");
-    Lent { nodes, entries, handles: Vec::new() }
+    Lent { nodes, entries, generations: [0; 9], handles: Vec::new() }
 }
 
 /// A wheel through many calls and advances.
@@ -129,7 +137,7 @@ fn lesson(t: &mut Trace) {
         _ => t.random.range(2, 12),
     };
     let mut lent = begin(t, nodes, entries);
-    (0..entries.min(9)).for_each(|_| set(t, &lent));
+    (0..entries.min(9)).for_each(|_| set(t, &mut lent));
     let calls = t.random.range(30, 900);
     let end = t.lines + calls;
     let eager = t.random.below(4);
@@ -142,22 +150,25 @@ fn lesson(t: &mut Trace) {
                 call!(t, "digest");
                 call!(t, "armed");
                 call!(t, "enable");
+                lent.generations = [0; 9];
             }
             3..=5 => handle_call(t, &mut lent),
-            6 | 7 => set(t, &lent),
+            6 | 7 => set(t, &mut lent),
             _ => arm(t, &mut lent),
         }
     }
 }
 
-fn set(t: &mut Trace, lent: &Lent) {
+fn set(t: &mut Trace, lent: &mut Lent) {
     let now = reading(t);
     let r = &mut t.random;
     let (entry, generation) = (entry(r, lent), generation(r));
-    if r.once_in(6) {
-        call!(t, "set {entry} - {generation}");
-    } else {
-        call!(t, "set {entry} {} {generation}", near(&mut t.random, now));
+    let answer = match r.below(6) {
+        0 => answer!(t, "set {entry} - {generation}"),
+        _ => answer!(t, "set {entry} {} {generation}", near(&mut t.random, now)),
+    };
+    if let (Some(held), "ok") = (lent.generations.get_mut(entry as usize), answer.as_str()) {
+        *held = generation;
     }
 }
 
@@ -167,15 +178,14 @@ fn arm(t: &mut Trace, lent: &mut Lent) {
         set(t, lent);
     }
     let r = &mut t.random;
-    let (entry, generation) = (entry(r, lent), generation(r));
-    let mut answer = answer!(t, "schedule {entry} {generation}");
-    if answer == "refused 8" && !t.random.once_in(4) {
-        answer = answer!(t, "schedule {entry} {}", 1 - generation.min(1));
-    }
+    let entry = entry(r, lent);
+    let held = lent.generations.get(entry as usize).copied().unwrap_or(0);
+    let generation = if r.once_in(8) { generation(r) } else { held };
+    let answer = answer!(t, "schedule {entry} {generation}");
     let mut words = answer.split(' ');
     if words.next() == Some("armed") {
         let mut number = || words.next().and_then(|n| n.parse().ok()).unwrap_or(0);
-        lent.handles.push((number(), number()));
+        lent.handles.push(Handle { slot: number(), serial: number(), generation });
     }
 }
 
@@ -183,7 +193,8 @@ fn arm(t: &mut Trace, lent: &mut Lent) {
 fn handle_call(t: &mut Trace, lent: &mut Lent) {
     let r = &mut t.random;
     let at = r.below(lent.handles.len() as u64) as usize;
-    let (mut slot, mut serial) = lent.handles.get(at).copied().unwrap_or((165, 0));
+    let none = Handle { slot: 165, serial: 0, generation: 0 };
+    let Handle { mut slot, mut serial, generation: held } = lent.handles.get(at).copied().unwrap_or(none);
     match r.below(30) {
         0 => slot = r.pick(&[0, 64, 164, lent.nodes, lent.nodes - 1, 4096, 5000, 1 << 32, u64::MAX]),
         1 => serial = serial.wrapping_add(1),
@@ -191,7 +202,7 @@ fn handle_call(t: &mut Trace, lent: &mut Lent) {
         3 => slot += 1,
         _ => (),
     }
-    let generation = generation(r);
+    let generation = if r.once_in(10) { generation(r) } else { held };
     if r.once_in(5) {
         set(t, lent);
     }
@@ -278,7 +289,7 @@ fn odd_lengths(t: &mut Trace) {
     let mut lent = begin(t, nodes, entries);
     for _ in 0..t.random.below(12) {
         match t.random.below(5) {
-            0 => set(t, &lent),
+            0 => set(t, &mut lent),
             1 => arm(t, &mut lent),
             2 => call!(t, "start {}", t.random.edge()),
             3 => call!(t, "pull"),
@@ -331,7 +342,7 @@ fn damaged(t: &mut Trace) {
     }
     for _ in 0..t.random.range(2, 8) {
         match t.random.below(10) {
-            0 => set(t, &lent),
+            0 => set(t, &mut lent),
             1 => arm(t, &mut lent),
             2 => handle_call(t, &mut lent),
             3 => call!(t, "abandon"),
@@ -401,7 +412,7 @@ fn write_bucket(t: &mut Trace, lent: &mut Lent, bucket: u64, slots: &[u64]) {
             call!(t, "poke-node {slot} bucket {bucket}");
             call!(t, "poke-node {slot} serial {slot}");
             call!(t, "poke-node {slot} entry {}", t.random.below(lent.entries));
-            lent.handles.push((*slot, *slot));
+            lent.handles.push(Handle { slot: *slot, serial: *slot, generation: 0 });
         }
     }
     call!(t, "poke-bucket {bucket} head {}", shown(slots.first()));
