@@ -385,6 +385,7 @@ fn sculpt(t: &mut Trace, lent: &mut Lent) {
         let at = t.random.below(buckets[i].1.len() as u64 + 1) as usize;
         buckets[i].1.insert(at, slot);
     }
+    misplace(&mut t.random, &mut buckets, &mut free);
     for (bucket, slots) in &buckets {
         write_bucket(t, lent, *bucket, slots);
     }
@@ -397,10 +398,37 @@ fn sculpt(t: &mut Trace, lent: &mut Lent) {
         }
     }
     call!(t, "poke-clock free {}", shown(free.first()));
-    call!(t, "poke-clock serial {}", lent.nodes + t.random.below(3));
+    call!(t, "poke-clock serial {}", lent.nodes - 1 + t.random.below(4));
     call!(t, "poke-clock reading {now}");
     if !t.random.once_in(3) {
         write_position(t, previous, now);
+    }
+}
+
+/// Now and then two sentinels stand in each other's bucket, or one is free: links that run well and are not sound.
+fn misplace(r: &mut Random, buckets: &mut [(u64, Vec<u64>)], free: &mut Vec<u64>) {
+    let kind = r.below(24);
+    if kind == 0 && !buckets.is_empty() {
+        let (bucket, slots) = &mut buckets[0];
+        slots.retain(|slot| slot != bucket);
+        free.push(*bucket);
+    }
+    if kind == 1 && buckets.len() > 1 {
+        let (a, b) = (buckets[0].0, buckets[1].0);
+        let all = buckets.iter_mut().flat_map(|(_, slots)| slots);
+        all.for_each(|slot| *slot = if *slot == a { b } else if *slot == b { a } else { *slot });
+    }
+}
+
+/// The end of some list or of the free chain goes on to what is no record, or to a record.
+fn overrun(t: &mut Trace, lent: &Lent) {
+    let dump = t.ask("dump");
+    let nodes = dump.lines().filter_map(|line| line.strip_prefix("node "));
+    let ends: Vec<&str> = nodes.filter(|node| node.split(' ').nth(1) == Some("-")).collect();
+    let last: Vec<u64> = ends.iter().rev().take(8).filter_map(|node| node.split(' ').next()?.parse().ok()).collect();
+    if !last.is_empty() {
+        let slot = t.random.pick(&last);
+        call!(t, "poke-node {slot} next {}", t.random.pick(&[lent.nodes, lent.nodes, 4095, slot, 0, 165]));
     }
 }
 
@@ -408,8 +436,8 @@ fn write_bucket(t: &mut Trace, lent: &mut Lent, bucket: u64, slots: &[u64]) {
     for (i, slot) in slots.iter().enumerate() {
         call!(t, "poke-node {slot} next {}", shown(slots.get(i + 1)));
         call!(t, "poke-node {slot} prev {}", shown(i.checked_sub(1).and_then(|i| slots.get(i))));
+        call!(t, "poke-node {slot} bucket {bucket}");
         if *slot >= BUCKETS {
-            call!(t, "poke-node {slot} bucket {bucket}");
             call!(t, "poke-node {slot} serial {slot}");
             call!(t, "poke-node {slot} entry {}", t.random.below(lent.entries));
             lent.handles.push(Handle { slot: *slot, serial: *slot, generation: 0 });
@@ -455,7 +483,8 @@ fn poke(t: &mut Trace, lent: &Lent) {
         _ => r.range(BUCKETS, lent.nodes - 1),
     };
     let value = link(r, lent);
-    match r.below(24) {
+    match r.below(25) {
+        24 => overrun(t, lent),
         0..=2 => call!(t, "poke-node {slot} next {value}"),
         3..=5 => call!(t, "poke-node {slot} prev {value}"),
         6 | 7 => {
@@ -465,7 +494,8 @@ fn poke(t: &mut Trace, lent: &Lent) {
         8 => call!(t, "poke-node {slot} bucket {value}"),
         9 => call!(t, "poke-node {slot} entry {}", t.random.pick(&[0, 1, lent.entries - 1, lent.entries, 4096, u64::MAX])),
         10 => call!(t, "poke-node {slot} generation {}", generation(&mut t.random)),
-        11 | 12 => call!(t, "poke-node {slot} serial {}", t.random.pick(&[0, 1, 165, 166, 167, 170, u64::MAX])),
+        11 => call!(t, "poke-node {slot} serial {}", t.random.range(BUCKETS, lent.nodes)),
+        12 => call!(t, "poke-node {slot} serial {}", t.random.pick(&[0, 1, 2, 165, 166, u64::MAX])),
         13 => call!(t, "poke-bucket {} head {value}", t.random.pick(&[0, 1, 64, 164, 165])),
         14 => call!(t, "poke-bucket {} tail {value}", t.random.pick(&[0, 1, 64, 164, 165])),
         15 => call!(t, "poke-clock free {value}"),
