@@ -3,11 +3,33 @@
 //!   bench MODULE ROUNDS PROGRAM RUST
 //!
 //! A round runs both programs once as processes of their own, the order swapped from round to round. The rounds of the
-//! workloads alternate too, so that a slow spell of the machine meets all of them.
+//! workloads alternate too, so that a slow spell of the machine meets all of them. Times are processor time (user and
+//! system), so that other work on the machine counts as little as can be.
 
 use std::io::Write;
 use std::process::{exit, Command, Stdio};
-use std::time::Instant;
+
+/// The system's record of used time: user and system time as seconds and microseconds, and 14 further counts.
+#[repr(C)]
+struct Usage {
+    times: [i64; 4],
+    counts: [i64; 14],
+}
+
+extern "C" {
+    fn getrusage(who: i32, usage: *mut Usage) -> i32;
+}
+
+/// Processor seconds of all processes that were run and have ended.
+fn used() -> f64 {
+    const CHILDREN: i32 = -1;
+    let mut usage = Usage { times: [0; 4], counts: [0; 14] };
+    if unsafe { getrusage(CHILDREN, &mut usage) } != 0 {
+        fail("the system does not tell the used time");
+    }
+    let [user, user_micros, system, system_micros] = usage.times.map(|n| n as f64);
+    user + system + (user_micros + system_micros) / 1e6
+}
 
 fn fail(message: &str) -> ! {
     eprintln!("{message}");
@@ -24,9 +46,17 @@ struct Workload {
 
 /// Sizes for about 0.3 seconds each on a machine of 2 GHz.
 fn sketch() -> Vec<Workload> {
-    let sizes = [("increase", 64, 32_000_000), ("increase", 4_096, 32_000_000), ("increase", 65_536, 32_000_000),
-        ("estimate", 64, 40_000_000), ("estimate", 4_096, 40_000_000), ("estimate", 65_536, 40_000_000),
-        ("index", 64, 120_000_000), ("index", 4_096, 120_000_000), ("index", 65_536, 120_000_000)];
+    let sizes = [
+        ("increase", 64, 32_000_000),
+        ("increase", 4_096, 32_000_000),
+        ("increase", 65_536, 32_000_000),
+        ("estimate", 64, 40_000_000),
+        ("estimate", 4_096, 40_000_000),
+        ("estimate", 65_536, 40_000_000),
+        ("index", 64, 120_000_000),
+        ("index", 4_096, 120_000_000),
+        ("index", 65_536, 120_000_000),
+    ];
     let make = |(kind, words, calls): (&str, u64, u64)| Workload {
         name: format!("{kind}-{words}"),
         line: format!("{kind} {words} {calls} 20261115\n"),
@@ -38,7 +68,7 @@ fn sketch() -> Vec<Workload> {
 
 /// Seconds of one run and what it wrote.
 fn run(program: &str, input: &str) -> (f64, String) {
-    let begun = Instant::now();
+    let before = used();
     let mut child = Command::new(program)
         .stdin(Stdio::piped())
         .stdout(Stdio::piped())
@@ -47,7 +77,7 @@ fn run(program: &str, input: &str) -> (f64, String) {
     // The pipe closes at the end of this statement; a program that has ended already shows below by its answer.
     let _ = child.stdin.take().map(|mut pipe| pipe.write_all(input.as_bytes()));
     let output = child.wait_with_output().unwrap_or_else(|e| fail(&format!("{program}: {e}")));
-    let seconds = begun.elapsed().as_secs_f64();
+    let seconds = used() - before;
     if !output.status.success() {
         fail(&format!("{program} ended with {} on: {}", output.status, input.trim_end()));
     }
@@ -60,7 +90,10 @@ fn round(workload: &mut Workload, programs: [&str; 2], swapped: bool) {
         let (seconds, answer) = run(programs[side], &workload.line);
         let expected = workload.digest.get_or_insert_with(|| answer.clone());
         if *expected != answer || !answer.starts_with("digest ") {
-            fail(&format!("digests differ on {}: {} answered '{answer}', expected '{expected}'", workload.name, programs[side]));
+            fail(&format!(
+                "digests differ on {}: {} answered '{answer}', expected '{expected}'",
+                workload.name, programs[side]
+            ));
         }
         workload.times[side].push(seconds);
     }
@@ -74,7 +107,11 @@ fn median(times: &[f64]) -> f64 {
     let mut sorted = times.to_vec();
     sorted.sort_by(f64::total_cmp);
     let half = sorted.len() / 2;
-    if sorted.len() % 2 == 1 { sorted[half] } else { (sorted[half - 1] + sorted[half]) / 2.0 }
+    if sorted.len() % 2 == 1 {
+        sorted[half]
+    } else {
+        (sorted[half - 1] + sorted[half]) / 2.0
+    }
 }
 
 fn main() {
@@ -97,7 +134,14 @@ fn main() {
     for w in &workloads {
         let [rattle, rust] = &w.times;
         let digest = w.digest.as_deref().unwrap_or_default().trim_start_matches("digest ");
-        println!("| {} | {:.3} | {:.3} | {:.3} | {:.3} | {digest} |", w.name, best(rattle), best(rust), best(rattle) / best(rust), median(rattle) / median(rust));
+        println!(
+            "| {} | {:.3} | {:.3} | {:.3} | {:.3} | {digest} |",
+            w.name,
+            best(rattle),
+            best(rust),
+            best(rattle) / best(rust),
+            median(rattle) / median(rust)
+        );
     }
     println!();
     for w in &workloads {

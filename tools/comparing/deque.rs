@@ -205,7 +205,16 @@ fn poke(t: &mut Trace, pool: Pool) {
         13 => call!(t, "poke-deque {at} cursor end"),
         14 => call!(t, "poke-free {value}"),
         _ => {
-            let odd = ["poke-node 0 element -", "poke-deque 0 length -", "poke-node 0 bucket 1", "poke-deque 0 next 1", "poke-free end", "poke-free", "poke-node 0 next", "poke-deque 0 length 18446744073709551615"];
+            let odd = [
+                "poke-node 0 element -",
+                "poke-deque 0 length -",
+                "poke-node 0 bucket 1",
+                "poke-deque 0 next 1",
+                "poke-free end",
+                "poke-free",
+                "poke-node 0 next",
+                "poke-deque 0 length 18446744073709551615",
+            ];
             let odd = t.random.pick(&odd);
             call!(t, "{odd}")
         }

@@ -153,13 +153,18 @@ fn compare(chunk: u64, trace: &[u8], program: &[u8], reference: &[u8], totals: &
         lines.pop();
     }
     let count = lines.len();
-    let mut run = Run { chunk, lines, program: Answers::new(program), reference: Answers::new(reference), tripped: false };
+    let mut run =
+        Run { chunk, lines, program: Answers::new(program), reference: Answers::new(reference), tripped: false };
     for at in 0..count {
         run.line(at, totals);
     }
     if run.program.left() || run.reference.left() {
         totals.differences += 1;
-        println!("trace {chunk}: more answers than calls (program: {}, reference: {})", run.program.left(), run.reference.left());
+        println!(
+            "trace {chunk}: more answers than calls (program: {}, reference: {})",
+            run.program.left(),
+            run.reference.left()
+        );
     }
 }
 
@@ -209,7 +214,14 @@ fn main() {
             while totals.compared < calls && !totals.ended_badly {
                 let lines = (calls - totals.compared).min(CHUNK);
                 let trace = make(source.as_mut(), seed, at, lines);
-                chunk(Path::new(folder), &format!("{module}.{seed}"), at, &trace.bytes, [program, reference], &mut totals);
+                chunk(
+                    Path::new(folder),
+                    &format!("{module}.{seed}"),
+                    at,
+                    &trace.bytes,
+                    [program, reference],
+                    &mut totals,
+                );
                 at += 1;
             }
             println!("{module}: {at} traces from seed {seed}; {}", source.summary());

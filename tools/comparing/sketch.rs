@@ -220,7 +220,15 @@ fn near_the_sample(t: &mut Trace) {
     let capacity = t.random.range(words / 2 + 1, words).min(words);
     call!(t, "lend {lent}");
     call!(t, "ensure {capacity}");
-    let patterns = [0, u64::MAX, 0x1111111111111111, 0x7777777777777777, 0x0123456789abcdef, 0xeeeeeeeeeeeeeeee, 0xf0f0f0f0f0f0f0f0];
+    let patterns = [
+        0,
+        u64::MAX,
+        0x1111111111111111,
+        0x7777777777777777,
+        0x0123456789abcdef,
+        0xeeeeeeeeeeeeeeee,
+        0xf0f0f0f0f0f0f0f0,
+    ];
     let one = t.random.pick(&patterns);
     for i in 0..lent.min(80) {
         let at = if lent <= 80 { i } else { t.random.below(lent) };
@@ -250,7 +258,19 @@ fn odd_tables(t: &mut Trace) {
     call!(t, "lend {lent}");
     for _ in 0..t.random.range(3, 20) {
         let capacity = match t.random.below(4) {
-            0 => t.random.pick(&[0, 1, MOST, MOST + 1, MOST + 2, 70_000, 1 << 30, 1 << 32, (1 << 32) + 5, 1 << 40, u64::MAX]),
+            0 => t.random.pick(&[
+                0,
+                1,
+                MOST,
+                MOST + 1,
+                MOST + 2,
+                70_000,
+                1 << 30,
+                1 << 32,
+                (1 << 32) + 5,
+                1 << 40,
+                u64::MAX,
+            ]),
             1 => t.random.edge(),
             2 => lent.saturating_add(t.random.below(3)),
             _ => t.random.below(2 * lent.min(MOST) + 2),
@@ -335,7 +355,16 @@ fn places(t: &mut Trace) {
         };
         let mask = match t.random.below(8) {
             0 => t.random.edge(),
-            1 => t.random.pick(&[(1 << 17) - 1, (1 << 18) - 1, (1 << 32) - 1, (1 << 48) - 1, (1 << 63) - 1, u64::MAX, MOST, 65_534]),
+            1 => t.random.pick(&[
+                (1 << 17) - 1,
+                (1 << 18) - 1,
+                (1 << 32) - 1,
+                (1 << 48) - 1,
+                (1 << 63) - 1,
+                u64::MAX,
+                MOST,
+                65_534,
+            ]),
             2 => t.random.below(70_000),
             _ => (1 << t.random.below(17)) - 1,
         };

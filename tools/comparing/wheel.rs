@@ -110,7 +110,22 @@ fn reading(t: &mut Trace) -> u64 {
 fn begin(t: &mut Trace, nodes: u64, entries: u64) -> Lent {
     call!(t, "lend {nodes} {entries}");
     if t.random.once_in(8) {
-        call!(t, "{}", t.random.pick(&["pull", "armed", "due", "abandon", "set 0 1 0", "schedule 0 0", "start 5", "clock", "digest", "bucket 3"]));
+        call!(
+            t,
+            "{}",
+            t.random.pick(&[
+                "pull",
+                "armed",
+                "due",
+                "abandon",
+                "set 0 1 0",
+                "schedule 0 0",
+                "start 5",
+                "clock",
+                "digest",
+                "bucket 3"
+            ])
+        );
     }
     let serial = match t.random.below(5) {
         0 => 0,
@@ -416,7 +431,15 @@ fn misplace(r: &mut Random, buckets: &mut [(u64, Vec<u64>)], free: &mut Vec<u64>
     if kind == 1 && buckets.len() > 1 {
         let (a, b) = (buckets[0].0, buckets[1].0);
         let all = buckets.iter_mut().flat_map(|(_, slots)| slots);
-        all.for_each(|slot| *slot = if *slot == a { b } else if *slot == b { a } else { *slot });
+        all.for_each(|slot| {
+            *slot = if *slot == a {
+                b
+            } else if *slot == b {
+                a
+            } else {
+                *slot
+            }
+        });
     }
 }
 
@@ -492,7 +515,11 @@ fn poke(t: &mut Trace, lent: &Lent) {
             call!(t, "poke-node {slot} bucket {bucket}")
         }
         8 => call!(t, "poke-node {slot} bucket {value}"),
-        9 => call!(t, "poke-node {slot} entry {}", t.random.pick(&[0, 1, lent.entries - 1, lent.entries, 4096, u64::MAX])),
+        9 => call!(
+            t,
+            "poke-node {slot} entry {}",
+            t.random.pick(&[0, 1, lent.entries - 1, lent.entries, 4096, u64::MAX])
+        ),
         10 => call!(t, "poke-node {slot} generation {}", generation(&mut t.random)),
         11 => call!(t, "poke-node {slot} serial {}", t.random.range(BUCKETS, lent.nodes)),
         12 => call!(t, "poke-node {slot} serial {}", t.random.pick(&[0, 1, 2, 165, 166, u64::MAX])),
@@ -500,7 +527,9 @@ fn poke(t: &mut Trace, lent: &Lent) {
         14 => call!(t, "poke-bucket {} tail {value}", t.random.pick(&[0, 1, 64, 164, 165])),
         15 => call!(t, "poke-clock free {value}"),
         16 => call!(t, "poke-clock serial {}", t.random.pick(&[0, 1, 165, 167, 170, u64::MAX])),
-        17 => call!(t, "poke-clock nodes {}", t.random.pick(&[lent.nodes, lent.nodes - 1, lent.nodes + 1, 0, u64::MAX])),
+        17 => {
+            call!(t, "poke-clock nodes {}", t.random.pick(&[lent.nodes, lent.nodes - 1, lent.nodes + 1, 0, u64::MAX]))
+        }
         18 => call!(t, "poke-clock entries {}", t.random.pick(&[lent.entries, lent.entries - 1, lent.entries + 1, 0])),
         19 => call!(t, "poke-clock open {}", t.random.below(3)),
         20 => call!(t, "poke-clock level {}", t.random.pick(&[0, 1, 2, 3, 4, 5, 1 << 32, u64::MAX])),
@@ -510,7 +539,18 @@ fn poke(t: &mut Trace, lent: &Lent) {
             call!(t, "poke-clock {field} {}", time(&mut t.random))
         }
         _ => {
-            let odd = ["poke-clock free end", "poke-clock enabled 2", "poke-clock enabled 0", "poke-clock open -", "poke-node 0 home 1", "poke-bucket 0 next 1", "poke-node 165 serial -", "poke-clock channel 1", "poke-node 166 entry -", "poke-clock level -"];
+            let odd = [
+                "poke-clock free end",
+                "poke-clock enabled 2",
+                "poke-clock enabled 0",
+                "poke-clock open -",
+                "poke-node 0 home 1",
+                "poke-bucket 0 next 1",
+                "poke-node 165 serial -",
+                "poke-clock channel 1",
+                "poke-node 166 entry -",
+                "poke-clock level -",
+            ];
             let odd = t.random.pick(&odd);
             call!(t, "{odd}")
         }

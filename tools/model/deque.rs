@@ -165,7 +165,8 @@ impl Made {
             out.line("deque", &[Field::Is(at as u64), head, tail, Field::Is(self.length[at]), cursor]);
         }
         for slot in 0..self.element.len() {
-            let [next, prev, home] = [&self.links.next, &self.links.prev, &self.links.place].map(|links| Field::link(links[slot]));
+            let [next, prev, home] =
+                [&self.links.next, &self.links.prev, &self.links.place].map(|links| Field::link(links[slot]));
             out.line("node", &[Field::Is(slot as u64), next, prev, home, Field::Is(self.element[slot])]);
         }
         out.line("free", &[Field::link(self.links.free)]);
@@ -220,7 +221,9 @@ impl Module for Deques {
         let made = self.made.as_mut()?;
         match *fields {
             ["push", at, element] => Some(made.push(number(at)?, number(element)?)),
-            [word @ ("pop" | "front" | "back" | "length" | "next" | "reset"), at] => Some(made.on(word, number(at)?, None)),
+            [word @ ("pop" | "front" | "back" | "length" | "next" | "reset"), at] => {
+                Some(made.on(word, number(at)?, None))
+            }
             [word @ ("move" | "unlink"), at, slot] => Some(made.on(word, number(at)?, Some(number(slot)?))),
             ["list", at] => {
                 let head = made.links.head.get(usize::try_from(number(at)?).ok()?)?;

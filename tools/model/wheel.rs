@@ -82,7 +82,12 @@ impl Lent {
     fn new(nodes: usize, entries: usize) -> Self {
         let zeros = vec![Some(0); nodes];
         let links = Links { next: zeros.clone(), prev: zeros.clone(), place: zeros, ..Links::default() };
-        let mut lent = Self { clock: Clock::default(), links, timers: vec![Timer::default(); nodes], entries: vec![Entry::default(); entries] };
+        let mut lent = Self {
+            clock: Clock::default(),
+            links,
+            timers: vec![Timer::default(); nodes],
+            entries: vec![Entry::default(); entries],
+        };
         lent.create(0);
         lent
     }
@@ -110,7 +115,10 @@ impl Lent {
         let (nodes, entries) = (self.timers.len() as u64, self.entries.len() as u64);
         self.clock = Clock { enabled: true, reading, serial, nodes, entries, ..Clock::default() };
         (0..self.timers.len()).for_each(|slot| self.links.forget(slot));
-        self.links.store(&Lists { at: (0..BUCKETS).map(|b| vec![b]).collect(), free: (BUCKETS..self.timers.len()).collect() });
+        self.links.store(&Lists {
+            at: (0..BUCKETS).map(|b| vec![b]).collect(),
+            free: (BUCKETS..self.timers.len()).collect(),
+        });
         self.timers.fill(Timer::default());
         self.entries.fill(Entry::default());
         ok()
@@ -131,7 +139,8 @@ impl Lent {
         if !sentinels || !kinds || !self.position_sound() {
             return None;
         }
-        let armed: Vec<&Timer> = (0..self.timers.len()).filter(|slot| self.armed(*slot)).map(|slot| &self.timers[slot]).collect();
+        let armed: Vec<&Timer> =
+            (0..self.timers.len()).filter(|slot| self.armed(*slot)).map(|slot| &self.timers[slot]).collect();
         let exist = armed.iter().all(|timer| timer.entry < self.entries.len() as u64);
         let below = armed.iter().all(|timer| timer.serial < self.clock.serial);
         let differ = armed.iter().enumerate().all(|(i, a)| armed[..i].iter().all(|b| a.serial != b.serial));
@@ -197,7 +206,8 @@ impl Lent {
 
     /// The slot of a handle and generation, or 12, or 13.
     fn handle(&self, slot: u64, serial: u64, generation: u32) -> Result<usize, String> {
-        if slot >= self.timers.len() as u64 || !self.armed(slot as usize) || self.timers[slot as usize].serial != serial {
+        if slot >= self.timers.len() as u64 || !self.armed(slot as usize) || self.timers[slot as usize].serial != serial
+        {
             return Err(refused(12));
         }
         if self.timers[slot as usize].generation != generation {
@@ -260,7 +270,10 @@ impl Lent {
         let here = visits(self.clock.level as usize, from, to).unwrap_or(0);
         if self.clock.step < here {
             self.clock.step += 1;
-        } else if self.clock.step > 0 && self.clock.level < 4 && visits(self.clock.level as usize + 1, from, to).is_some() {
+        } else if self.clock.step > 0
+            && self.clock.level < 4
+            && visits(self.clock.level as usize + 1, from, to).is_some()
+        {
             self.clock.level += 1;
             self.clock.step = 1;
         } else {
@@ -382,7 +395,8 @@ impl Lent {
 
     fn show_clock(&self, out: &mut dyn Dump) {
         let c = &self.clock;
-        let numbers = [c.enabled.into(), c.reading, c.serial, c.open.into(), c.previous, c.level, c.step, c.nodes, c.entries];
+        let numbers =
+            [c.enabled.into(), c.reading, c.serial, c.open.into(), c.previous, c.level, c.step, c.nodes, c.entries];
         let mut fields = numbers.map(Field::Is).to_vec();
         fields.push(Field::link(self.links.free));
         out.line("clock", &fields);
@@ -391,14 +405,32 @@ impl Lent {
     fn dump(&self, out: &mut dyn Dump) {
         self.show_clock(out);
         for bucket in 0..BUCKETS {
-            out.line("bucket", &[Field::Is(bucket as u64), Field::link(self.links.head[bucket]), Field::link(self.links.tail[bucket])]);
+            out.line(
+                "bucket",
+                &[Field::Is(bucket as u64), Field::link(self.links.head[bucket]), Field::link(self.links.tail[bucket])],
+            );
         }
         for (slot, timer) in self.timers.iter().enumerate() {
-            let [next, prev, bucket] = [&self.links.next, &self.links.prev, &self.links.place].map(|links| Field::link(links[slot]));
-            out.line("node", &[Field::Is(slot as u64), next, prev, bucket, Field::Is(timer.entry), Field::Is(timer.generation.into()), Field::Is(timer.serial)]);
+            let [next, prev, bucket] =
+                [&self.links.next, &self.links.prev, &self.links.place].map(|links| Field::link(links[slot]));
+            out.line(
+                "node",
+                &[
+                    Field::Is(slot as u64),
+                    next,
+                    prev,
+                    bucket,
+                    Field::Is(timer.entry),
+                    Field::Is(timer.generation.into()),
+                    Field::Is(timer.serial),
+                ],
+            );
         }
         for (at, entry) in self.entries.iter().enumerate() {
-            out.line("entry", &[Field::Is(at as u64), Field::Deadline(entry.deadline), Field::Is(entry.generation.into())]);
+            out.line(
+                "entry",
+                &[Field::Is(at as u64), Field::Deadline(entry.deadline), Field::Is(entry.generation.into())],
+            );
         }
     }
 

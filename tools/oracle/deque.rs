@@ -130,7 +130,12 @@ impl Made {
                 Some((home, node)) => {
                     let node = unsafe { node.as_ref() };
                     let (next, prev) = node.links();
-                    [Field::link(slot(next)), Field::link(slot(prev)), Field::link(Some(*home)), Field::Is(node.element.element)]
+                    [
+                        Field::link(slot(next)),
+                        Field::link(slot(prev)),
+                        Field::link(Some(*home)),
+                        Field::Is(node.element.element),
+                    ]
                 }
             };
             out.line("node", &[&[Field::Is(at as u64)], &fields[..]].concat());
@@ -180,7 +185,9 @@ impl Module for Deques {
                 made.dump(&mut digest);
                 Some(digest.answer())
             }
-            (word, &[at, ref rest @ ..]) if (ONE.contains(&word) && rest.is_empty()) || (TWO.contains(&word) && rest.len() == 1) => {
+            (word, &[at, ref rest @ ..])
+                if (ONE.contains(&word) && rest.is_empty()) || (TWO.contains(&word) && rest.len() == 1) =>
+            {
                 if at >= made.deques.len() as u64 {
                     return Some(refused(16));
                 }

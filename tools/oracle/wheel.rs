@@ -79,7 +79,11 @@ fn handle(timer: &Timer) -> (Option<usize>, u64) {
 fn slot_in(bucket: usize, link: Link<Timer>) -> Option<usize> {
     link.and_then(|node| {
         let timer = unsafe { &node.as_ref().element };
-        if timer.sentinel() { Some(bucket) } else { handle(timer).0 }
+        if timer.sentinel() {
+            Some(bucket)
+        } else {
+            handle(timer).0
+        }
     })
 }
 
@@ -158,7 +162,12 @@ impl Lent {
     }
 
     /// The Rust's schedule with a node that would stand in this slot.
-    fn schedule_as(&mut self, entry: Rc<EntryInfo<Key>>, slot: Option<usize>, generation: u32) -> Option<TimerPointer<Key>> {
+    fn schedule_as(
+        &mut self,
+        entry: Rc<EntryInfo<Key>>,
+        slot: Option<usize>,
+        generation: u32,
+    ) -> Option<TimerPointer<Key>> {
         let nodes = DeqNodes { slot, serial: self.serial, freed: self.freed.clone(), keys: PhantomData };
         self.wheel_mut().schedule(entry, Rc::new(Mutex::new(nodes)), generation)
     }
@@ -263,7 +272,8 @@ impl Lent {
     fn bucket(&self, bucket: u64) -> Option<String> {
         let bucket = usize::try_from(bucket).ok().filter(|b| *b < BUCKETS)?;
         let deque = self.wheel().buckets().nth(bucket);
-        let slots: Vec<usize> = deque.map_or(Vec::new(), |d| d.members().filter_map(|n| slot_in(bucket, Some(n))).collect());
+        let slots: Vec<usize> =
+            deque.map_or(Vec::new(), |d| d.members().filter_map(|n| slot_in(bucket, Some(n))).collect());
         Some(listed("bucket", &slots))
     }
 
@@ -289,20 +299,40 @@ impl Lent {
     fn record(bucket: usize, node: &DeqNode<Timer>) -> Record {
         let (next, prev) = node.links();
         let timer = &node.element;
-        let links = Record { next: slot_in(bucket, next), prev: slot_in(bucket, prev), bucket: Some(bucket), ..Record::default() };
+        let links = Record {
+            next: slot_in(bucket, next),
+            prev: slot_in(bucket, prev),
+            bucket: Some(bucket),
+            ..Record::default()
+        };
         if timer.sentinel() {
             return links;
         }
         let at = timer.at().map(|(level, index)| FIRST[level] + index);
         assert!(at == Some(bucket), "a timer's position is not its bucket");
-        Record { entry: timer.entry_info().key as u64, generation: timer.expiry_gen(), serial: handle(timer).1, ..links }
+        Record {
+            entry: timer.entry_info().key as u64,
+            generation: timer.expiry_gen(),
+            serial: handle(timer).1,
+            ..links
+        }
     }
 
     fn clock(&self, out: &mut dyn Dump) {
         let enabled = self.wheel().is_enabled();
         let (previous, level, step) = self.advance.as_ref().map_or((0, 0, 0), Advance::stands);
         let (nodes, entries) = if enabled { (self.slots.len(), self.entries.len()) } else { (0, 0) };
-        let numbers = [u64::from(enabled), self.wheel().reading(), self.serial, u64::from(self.advance.is_some()), previous, level as u64, step, nodes as u64, entries as u64];
+        let numbers = [
+            u64::from(enabled),
+            self.wheel().reading(),
+            self.serial,
+            u64::from(self.advance.is_some()),
+            previous,
+            level as u64,
+            step,
+            nodes as u64,
+            entries as u64,
+        ];
         let mut fields: Vec<Field> = numbers.into_iter().map(Field::Is).collect();
         fields.push(Field::link(self.freed.borrow().last().copied()));
         out.line("clock", &fields);
@@ -318,7 +348,18 @@ impl Lent {
         }
         for (at, r) in self.records().iter().enumerate() {
             let [next, prev, bucket] = [r.next, r.prev, r.bucket].map(Field::link);
-            out.line("node", &[Field::Is(at as u64), next, prev, bucket, Field::Is(r.entry), Field::Is(r.generation.into()), Field::Is(r.serial)]);
+            out.line(
+                "node",
+                &[
+                    Field::Is(at as u64),
+                    next,
+                    prev,
+                    bucket,
+                    Field::Is(r.entry),
+                    Field::Is(r.generation.into()),
+                    Field::Is(r.serial),
+                ],
+            );
         }
         for (at, entry) in self.entries.iter().enumerate() {
             let deadline = Field::Deadline(entry.deadline.get().map(|time| time.0));
