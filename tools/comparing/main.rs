@@ -1,6 +1,7 @@
 //! Seeded random traces through two readers of the text format, compared call by call.
 //!
 //!   compare MODULE CALLS SEED DAMAGE FOLDER PROGRAM REFERENCE     DAMAGE: yes or no; programs with their arguments
+//!   compare --file MODULE TRACE FOLDER PROGRAM REFERENCE          a trace that is there
 //!   compare --trace MODULE LINES SEED DAMAGE                      the trace alone, to standard output
 
 mod align;
@@ -195,6 +196,30 @@ fn whole(text: &str, what: &str) -> u64 {
     lines::number(text).unwrap_or_else(|| fail(&format!("{what} is not a number: {text}")))
 }
 
+/// What was compared; the last line of every run.
+fn finish(totals: &Totals) -> ! {
+    println!("skipped: {} calls; {} trips of the reference", totals.skipped, totals.trips);
+    println!("{} compared, {} differences", totals.compared, totals.differences);
+    exit(i32::from(totals.differences > 0 || totals.ended_badly))
+}
+
+/// Seeded traces until enough calls were compared.
+fn seeded(module: &str, calls: u64, seed: u64, damage: &str, folder: &str, commands: [&str; 2]) -> ! {
+    let mut source = source(module, damage == "yes");
+    let mut totals = Totals::default();
+    let mut at = 0;
+    while totals.compared < calls && !totals.ended_badly {
+        let lines = (calls - totals.compared).min(CHUNK);
+        let trace = make(source.as_mut(), seed, at, lines);
+        let name = format!("{module}.{seed}");
+        chunk(Path::new(folder), &name, at, &trace.bytes, commands, &mut totals);
+        at += 1;
+    }
+    let summary = source.summary();
+    println!("{module}: {at} traces from seed {seed}{}{summary}", if summary.is_empty() { "" } else { "; " });
+    finish(&totals)
+}
+
 fn main() {
     let arguments: Vec<String> = std::env::args().skip(1).collect();
     let words: Vec<&str> = arguments.iter().map(String::as_str).collect();
@@ -206,28 +231,14 @@ fn main() {
                 exit(2);
             }
         }
-        [module, calls, seed, damage, folder, program, reference] => {
-            let mut source = source(module, damage == "yes");
-            let (calls, seed) = (whole(calls, "CALLS"), whole(seed, "SEED"));
+        ["--file", module, file, folder, program, reference] => {
+            let trace = fs::read(file).unwrap_or_else(|e| fail(&format!("cannot read {file}: {e}")));
             let mut totals = Totals::default();
-            let mut at = 0;
-            while totals.compared < calls && !totals.ended_badly {
-                let lines = (calls - totals.compared).min(CHUNK);
-                let trace = make(source.as_mut(), seed, at, lines);
-                chunk(
-                    Path::new(folder),
-                    &format!("{module}.{seed}"),
-                    at,
-                    &trace.bytes,
-                    [program, reference],
-                    &mut totals,
-                );
-                at += 1;
-            }
-            println!("{module}: {at} traces from seed {seed}; {}", source.summary());
-            println!("skipped: {} calls after {} trips of the reference", totals.skipped, totals.trips);
-            println!("{} compared, {} differences", totals.compared, totals.differences);
-            exit(i32::from(totals.differences > 0 || totals.ended_badly));
+            chunk(Path::new(folder), &format!("{module}.file"), 0, &trace, [program, reference], &mut totals);
+            finish(&totals)
+        }
+        [module, calls, seed, damage, folder, program, reference] => {
+            seeded(module, whole(calls, "CALLS"), whole(seed, "SEED"), damage, folder, [program, reference])
         }
         _ => fail("usage: compare MODULE CALLS SEED DAMAGE FOLDER PROGRAM REFERENCE"),
     }
