@@ -25,13 +25,13 @@ fn request(table: &mut [u64], line: &[u8]) -> Reply {
     if lines::count(line) != 4 {
         return Reply::Bad;
     }
-    let Number::Is(words) = lines::read_number(lines::part(line, 1)) else {
+    let Number::Is(words) = lines::number_at(line, 1) else {
         return Reply::Bad;
     };
-    let Number::Is(calls) = lines::read_number(lines::part(line, 2)) else {
+    let Number::Is(calls) = lines::number_at(line, 2) else {
         return Reply::Bad;
     };
-    let Number::Is(seed) = lines::read_number(lines::part(line, 3)) else {
+    let Number::Is(seed) = lines::number_at(line, 3) else {
         return Reply::Bad;
     };
     if !numbers::is_power(words) {

@@ -60,6 +60,13 @@ pub fn same(text: &[u8], word: &[u8]) -> bool
     true
 }
 
+// Whether part k of the line is word.
+pub fn is_part(line: &[u8], k: usize, word: &[u8]) -> bool
+    ensures { λ r. ⌜ r ≡ alike (partOf k (now (line .entry))) (now (word .entry)) ⌝ }
+{
+    same(part(line, k), word)
+}
+
 // Where part k begins: past k spaces, or at the end of the line.
 fn skip(line: &[u8], k: usize) -> usize
     ensures { λ r. ⌜ (r ≤ length (now (line .entry))) × (drop r (now (line .entry)) ≡ skipped k (now (line .entry))) ⌝ }

@@ -2,6 +2,8 @@
 ghost use mathlib.Core.Path.{_≡_};
 ghost use Prim.Native.Nat.{_+_, _*_, _-_, _≤_, _<_};
 ghost use Rattle.lines.specs.Numbers.{numberOf, digitOf, readOn, dashOf};
+ghost use Rattle.lines.specs.Parts.{partOf};
+use crate::parts::part;
 
 const DASH: u8 = 45;
 
@@ -12,6 +14,13 @@ pub enum Number {
     Is(u64),
     Dash,
     Other,
+}
+
+// What part k of the line says.
+pub fn number_at(line: &[u8], k: usize) -> Number
+    ensures { λ r. ⌜ r ≡ numberOf (partOf k (now (line .entry))) ⌝ }
+{
+    read_number(part(line, k))
 }
 
 // What the part says.

@@ -1,6 +1,7 @@
 // The calls of the trace, on a lent table and the sketch's record. Assumes nothing.
 ghost use Prim.Native.Nat.{_≤_};
 ghost use lib.ListN.{length};
+use crate::answers::Label;
 use crate::answers::Reply;
 use lines::Kind;
 use lines::Number;
@@ -65,11 +66,10 @@ fn call(table: &mut [u64], s: State, line: &[u8]) -> Turn
     ensures { λ r. ⌜ r .state .words ≤ length (now (table .exit)) ⌝ }
 {
     let parts = lines::count(line);
-    let word = lines::part(line, 0);
-    if parts == 2 && lines::same(word, b"lend") {
-        return lend(table, s, lines::read_number(lines::part(line, 1)));
+    if parts == 2 && lines::is_part(line, 0, b"lend") {
+        return lend(table, s, lines::number_at(line, 1));
     }
-    if parts == 4 && lines::same(word, b"index") {
+    if parts == 4 && lines::is_part(line, 0, b"index") {
         return leave(s, index(line));
     }
     if !s.lent {
@@ -105,16 +105,16 @@ fn lend(table: &mut [u64], s: State, words: Number) -> Turn
 
 // `index HASH DEPTH MASK`, of which the word is known.
 fn index(line: &[u8]) -> Reply {
-    let Number::Is(hash) = lines::read_number(lines::part(line, 1)) else {
+    let Number::Is(hash) = lines::number_at(line, 1) else {
         return Reply::Bad;
     };
-    let Number::Is(depth) = lines::read_number(lines::part(line, 2)) else {
+    let Number::Is(depth) = lines::number_at(line, 2) else {
         return Reply::Bad;
     };
-    let Number::Is(mask) = lines::read_number(lines::part(line, 3)) else {
+    let Number::Is(mask) = lines::number_at(line, 3) else {
         return Reply::Bad;
     };
-    Reply::Index(sketch::word_index(hash, depth, mask))
+    Reply::One(Label::Index, sketch::word_index(hash, depth, mask))
 }
 
 // A call on the words that are lent, which keeps their number.
@@ -150,10 +150,10 @@ fn keep(s: Sketch, reply: Reply) -> Called {
 // `record` and `digest`.
 fn call_alone(lent: &[u64], s: Sketch, word: &[u8]) -> Called {
     if lines::same(word, b"record") {
-        return keep(s, Reply::Record(s.used, s.sample, s.size));
+        return keep(s, Reply::Record(s.used as u64, s.sample, s.size));
     }
     if lines::same(word, b"digest") {
-        return keep(s, Reply::Digest(digest(lent, s)));
+        return keep(s, Reply::One(Label::Digest, digest(lent, s)));
     }
     keep(s, Reply::Bad)
 }
@@ -168,7 +168,7 @@ fn digest(lent: &[u64], s: Sketch) -> u64 {
 
 // The calls with one number.
 fn call_number(lent: &mut [u64], s: Sketch, line: &[u8]) -> Called {
-    let Number::Is(n) = lines::read_number(lines::part(line, 1)) else {
+    let Number::Is(n) = lines::number_at(line, 1) else {
         return keep(s, Reply::Bad);
     };
     let word = lines::part(line, 0);
@@ -190,27 +190,27 @@ fn call_number(lent: &mut [u64], s: Sketch, line: &[u8]) -> Called {
 fn increase(lent: &mut [u64], s: Sketch, hash: u64) -> Called {
     match sketch::increase(lent, s, hash) {
         Increased::Done(after) => keep(after, Reply::Good),
-        Increased::Refused(n) => keep(s, Reply::Refused(n)),
+        Increased::Refused(n) => keep(s, Reply::One(Label::Refused, n)),
     }
 }
 
 fn estimate(lent: &[u64], s: Sketch, hash: u64) -> Reply {
     match sketch::estimate(lent, s, hash) {
-        Estimated::Least(n) => Reply::Estimate(n),
-        Estimated::Refused(n) => Reply::Refused(n),
+        Estimated::Least(n) => Reply::One(Label::Estimate, n),
+        Estimated::Refused(n) => Reply::One(Label::Refused, n),
     }
 }
 
 fn ensure(lent: &mut [u64], s: Sketch, capacity: u64) -> Called {
     match sketch::ensure_capacity(lent, s, capacity) {
         Ensured::Done(after) => keep(after, Reply::Good),
-        Ensured::Refused(n) => keep(s, Reply::Refused(n)),
+        Ensured::Refused(n) => keep(s, Reply::One(Label::Refused, n)),
     }
 }
 
 fn word_at(lent: &[u64], i: usize) -> Reply {
     if i < lent.len() {
-        Reply::Word(lent[i])
+        Reply::One(Label::Word, lent[i])
     } else {
         Reply::Bad
     }
@@ -218,13 +218,13 @@ fn word_at(lent: &[u64], i: usize) -> Reply {
 
 // `poke-word I V`.
 fn poke_word(lent: &mut [u64], s: Sketch, line: &[u8]) -> Called {
-    if !lines::same(lines::part(line, 0), b"poke-word") {
+    if !lines::is_part(line, 0, b"poke-word") {
         return keep(s, Reply::Bad);
     }
-    let Number::Is(i) = lines::read_number(lines::part(line, 1)) else {
+    let Number::Is(i) = lines::number_at(line, 1) else {
         return keep(s, Reply::Bad);
     };
-    let Number::Is(v) = lines::read_number(lines::part(line, 2)) else {
+    let Number::Is(v) = lines::number_at(line, 2) else {
         return keep(s, Reply::Bad);
     };
     keep(s, put_word(lent, i as usize, v))
@@ -240,16 +240,16 @@ fn put_word(lent: &mut [u64], i: usize, v: u64) -> Reply {
 
 // `poke-record USED SAMPLE SIZE`.
 fn poke_record(s: Sketch, line: &[u8]) -> Called {
-    if !lines::same(lines::part(line, 0), b"poke-record") {
+    if !lines::is_part(line, 0, b"poke-record") {
         return keep(s, Reply::Bad);
     }
-    let Number::Is(used) = lines::read_number(lines::part(line, 1)) else {
+    let Number::Is(used) = lines::number_at(line, 1) else {
         return keep(s, Reply::Bad);
     };
-    let Number::Is(sample) = lines::read_number(lines::part(line, 2)) else {
+    let Number::Is(sample) = lines::number_at(line, 2) else {
         return keep(s, Reply::Bad);
     };
-    let Number::Is(size) = lines::read_number(lines::part(line, 3)) else {
+    let Number::Is(size) = lines::number_at(line, 3) else {
         return keep(s, Reply::Bad);
     };
     let poked = Sketch {

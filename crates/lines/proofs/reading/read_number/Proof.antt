@@ -7,7 +7,7 @@ use Rattle.lines.proofs.reading.read_number.Statement.{statement}
 use Rattle.lines.proofs.reading.read_number.Tie as tie
 
 returns : tie.Need-returns
-returns c = simp (eq-eqb _ 0 (c .if1 .taken))
+returns c = simp (eq-eqb _ _ (c .if1 .taken))
 
 shared-slice-read-first : tie.Need-shared-slice-read-first
 shared-slice-read-first c = search needs
@@ -16,13 +16,13 @@ dashed-requires : tie.Need-dashed-requires
 dashed-requires c κs = search needs
 
 returns-2 : tie.Need-returns-2
-returns-2 c = simp (ne-eqb _ 0 (c .before .before .before .if1 .left), eq-eqb _ 45 (c .before .if2 .taken)) (c .dashed .ensures)
+returns-2 c = simp (ne-eqb _ _ (c .before .before .before .if1 .left), eq-eqb _ _ (c .before .if2 .taken)) (c .dashed .ensures)
 
 digits-requires : tie.Need-digits-requires
 digits-requires c κs = search needs
 
 returns-3 : tie.Need-returns-3
-returns-3 c = simp (ne-eqb _ 0 (c .before .before .before .if1 .left), ne-eqb _ 45 (c .before .if2 .left)) (c .digits .ensures)
+returns-3 c = simp (ne-eqb _ _ (c .before .before .before .if1 .left), ne-eqb _ _ (c .before .if2 .left)) (c .digits .ensures)
 
 pub read-number-spec : {M : Type 1} → statement M
 read-number-spec =
