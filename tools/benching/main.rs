@@ -40,36 +40,74 @@ fn fail(message: &str) -> ! {
 struct Workload {
     name: String,
     line: String,
+    /// Where it has no counterpart in the Rust: over how much one call goes, times the calls.
+    alone: Option<f64>,
     times: [Vec<f64>; 2],
     digest: Option<String>,
 }
 
-/// Sizes for about 0.3 seconds each on a machine of 2 GHz.
-fn sketch() -> Vec<Workload> {
-    let sizes = [
-        ("increase", 64, 32_000_000),
-        ("increase", 4_096, 32_000_000),
-        ("increase", 65_536, 32_000_000),
-        ("estimate", 64, 40_000_000),
-        ("estimate", 4_096, 40_000_000),
-        ("estimate", 65_536, 40_000_000),
-        ("index", 64, 120_000_000),
-        ("index", 4_096, 120_000_000),
-        ("index", 65_536, 120_000_000),
-    ];
-    let make = |(kind, words, calls): (&str, u64, u64)| Workload {
-        name: format!("{kind}-{words}"),
-        line: format!("{kind} {words} {calls} 20261115\n"),
+fn workload((kind, size, calls): (&str, u64, u64)) -> Workload {
+    Workload {
+        name: format!("{kind}-{size}"),
+        line: format!("{kind} {size} {calls} 20261115\n"),
+        alone: (kind == "checked").then_some((size * calls) as f64),
         times: [Vec::new(), Vec::new()],
         digest: None,
-    };
-    sizes.into_iter().map(make).collect()
+    }
 }
 
+/// Sizes for about 0.3 seconds each on a machine of 2 GHz.
+fn workloads(module: &str) -> Vec<Workload> {
+    let sizes: &[(&str, u64, u64)] = match module {
+        "sketch" => &[
+            ("increase", 64, 32_000_000),
+            ("increase", 4_096, 32_000_000),
+            ("increase", 65_536, 32_000_000),
+            ("estimate", 64, 40_000_000),
+            ("estimate", 4_096, 40_000_000),
+            ("estimate", 65_536, 40_000_000),
+            ("index", 64, 120_000_000),
+            ("index", 4_096, 120_000_000),
+            ("index", 65_536, 120_000_000),
+        ],
+        "deque" => &[
+            ("queue", 16, 15_000_000),
+            ("queue", 4_096, 15_000_000),
+            ("move", 16, 40_000_000),
+            ("move", 4_096, 40_000_000),
+            ("unlink", 16, 12_000_000),
+            ("unlink", 4_096, 12_000_000),
+            ("walk", 16, 300_000_000),
+            ("walk", 4_096, 150_000_000),
+            ("checked", 16, 2_000_000),
+            ("checked", 256, 200_000),
+            ("checked", 4_096, 15_000),
+        ],
+        "wheel" => &[
+            ("cancel", 229, 5_000_000),
+            ("cancel", 4_096, 5_000_000),
+            ("ticks", 229, 2_000_000),
+            ("ticks", 4_096, 40_000),
+            ("jumps", 229, 600_000),
+            ("jumps", 4_096, 100_000),
+            ("checked", 166, 200_000),
+            ("checked", 512, 80_000),
+            ("checked", 4_096, 10_000),
+        ],
+        _ => fail(&format!("no benchmark for {module}")),
+    };
+    sizes.iter().copied().map(workload).collect()
+}
+
+/// A program and its arguments.
+type Side<'a> = &'a [&'a str];
+
 /// Seconds of one run and what it wrote.
-fn run(program: &str, input: &str) -> (f64, String) {
+fn run(side: Side, input: &str) -> (f64, String) {
+    let program = side[0];
     let before = used();
     let mut child = Command::new(program)
+        .args(&side[1..])
         .stdin(Stdio::piped())
         .stdout(Stdio::piped())
         .spawn()
@@ -84,18 +122,20 @@ fn run(program: &str, input: &str) -> (f64, String) {
     (seconds, String::from_utf8_lossy(&output.stdout).trim_end().to_string())
 }
 
-fn round(workload: &mut Workload, programs: [&str; 2], swapped: bool) {
-    let order = if swapped { [1, 0] } else { [0, 1] };
+fn round(workload: &mut Workload, sides: [Side; 2], swapped: bool) {
+    let order: &[usize] = match (workload.alone, swapped) {
+        (Some(_), _) => &[0],
+        (None, false) => &[0, 1],
+        (None, true) => &[1, 0],
+    };
     for side in order {
-        let (seconds, answer) = run(programs[side], &workload.line);
+        let (seconds, answer) = run(sides[*side], &workload.line);
         let expected = workload.digest.get_or_insert_with(|| answer.clone());
         if *expected != answer || !answer.starts_with("digest ") {
-            fail(&format!(
-                "digests differ on {}: {} answered '{answer}', expected '{expected}'",
-                workload.name, programs[side]
-            ));
+            let (name, program) = (&workload.name, sides[*side][0]);
+            fail(&format!("digests differ on {name}: {program} answered '{answer}', expected '{expected}'"));
         }
-        workload.times[side].push(seconds);
+        workload.times[*side].push(seconds);
     }
 }
 
@@ -114,37 +154,38 @@ fn median(times: &[f64]) -> f64 {
     }
 }
 
+fn row(w: &Workload) -> String {
+    let [rattle, rust] = &w.times;
+    let digest = w.digest.as_deref().unwrap_or_default().trim_start_matches("digest ");
+    let (best_ratio, median_ratio) = (best(rattle) / best(rust), median(rattle) / median(rust));
+    let (rattle, rust) = (best(rattle), best(rust));
+    format!("| {} | {rattle:.3} | {rust:.3} | {best_ratio:.3} | {median_ratio:.3} | {digest} |", w.name)
+}
+
+fn report(workloads: &[Workload]) {
+    println!("| Workload | Rattle best s | Rust best s | Ratio of bests | Ratio of medians | Digest |");
+    println!("|---|---|---|---|---|---|");
+    workloads.iter().filter(|w| w.alone.is_none()).for_each(|w| println!("{}", row(w)));
+    println!();
+    for w in workloads {
+        match w.alone {
+            None => println!("{} {:.3}", w.name, best(&w.times[0]) / best(&w.times[1])),
+            Some(records) => println!("{} {:.3} ns per node", w.name, best(&w.times[0]) * 1e9 / records),
+        }
+    }
+}
+
 fn main() {
     let arguments: Vec<String> = std::env::args().skip(1).collect();
     let [module, rounds, program, rust] = &arguments[..] else {
         fail("usage: bench MODULE ROUNDS PROGRAM RUST");
     };
     let rounds: u64 = rounds.parse().ok().filter(|n| *n > 0).unwrap_or_else(|| fail("ROUNDS is not a number from 1"));
-    let mut workloads = match module.as_str() {
-        "sketch" => sketch(),
-        _ => fail(&format!("no benchmark for {module} yet")),
-    };
+    let mut workloads = workloads(module);
     for at in 0..rounds {
         for workload in &mut workloads {
-            round(workload, [program, rust], at % 2 == 1);
+            round(workload, [&[program], &[rust, module]], at % 2 == 1);
         }
     }
-    println!("| Workload | Rattle best s | Rust best s | Ratio of bests | Ratio of medians | Digest |");
-    println!("|---|---|---|---|---|---|");
-    for w in &workloads {
-        let [rattle, rust] = &w.times;
-        let digest = w.digest.as_deref().unwrap_or_default().trim_start_matches("digest ");
-        println!(
-            "| {} | {:.3} | {:.3} | {:.3} | {:.3} | {digest} |",
-            w.name,
-            best(rattle),
-            best(rust),
-            best(rattle) / best(rust),
-            median(rattle) / median(rust)
-        );
-    }
-    println!();
-    for w in &workloads {
-        println!("{} {:.3}", w.name, best(&w.times[0]) / best(&w.times[1]));
-    }
+    report(&workloads);
 }

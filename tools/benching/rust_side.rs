@@ -1,36 +1,20 @@
 //! The Rust side of the benchmarks: the ported Rust, unchanged, in a plain release build.
 //!
-//! Standard input has lines `WORKLOAD WORDS CALLS SEED`; each answers `digest D`. The sketch needs no stand-in.
+//!   rust_side MODULE    standard input has lines `WORKLOAD SIZE CALLS SEED`; each answers `digest D`
 
+mod common;
+mod deque;
 #[path = "../common/lines.rs"]
 #[allow(dead_code)]
 mod lines;
+mod sketch;
+mod wheel;
 
-use lines::{digest, number, Module};
+use lines::{number, Module};
 use std::io;
 
-#[allow(dead_code)]
-mod source {
-    include!(concat!(env!("RUST_SOURCE"), "/src/common/frequency_sketch.rs"));
-
-    /// The Rust's private fields and its index function.
-    impl FrequencySketch {
-        pub fn numbers(&self) -> impl Iterator<Item = u64> + '_ {
-            let record = [self.table.len() as u64, u64::from(self.sample_size), u64::from(self.size)];
-            self.table.iter().copied().chain(record)
-        }
-
-        #[inline]
-        pub fn place(&self, hash: u64, depth: u8) -> usize {
-            self.index_of(hash, depth)
-        }
-    }
-}
-
-use source::FrequencySketch;
-
 /// The workload's numbers.
-struct Numbers(u64);
+pub struct Numbers(u64);
 
 impl Numbers {
     fn new(seed: u64) -> Self {
@@ -38,7 +22,7 @@ impl Numbers {
     }
 
     #[inline]
-    fn next(&mut self) -> u64 {
+    pub fn next(&mut self) -> u64 {
         self.0 ^= self.0 << 13;
         self.0 ^= self.0 >> 7;
         self.0 ^= self.0 << 17;
@@ -46,60 +30,30 @@ impl Numbers {
     }
 }
 
-fn sketch(words: u64) -> FrequencySketch {
-    let mut sketch = FrequencySketch::default();
-    sketch.ensure_capacity(words as u32);
-    sketch
-}
-
-fn increase(words: u64, calls: u64, numbers: &mut Numbers) -> FrequencySketch {
-    let mut sketch = sketch(words);
-    for _ in 0..calls {
-        sketch.increment(numbers.next());
-    }
-    sketch
-}
-
-fn estimate(words: u64, calls: u64, numbers: &mut Numbers) -> u64 {
-    let sketch = increase(words, 8 * words, numbers);
-    let mut sum = 0u64;
-    for _ in 0..calls {
-        sum = sum.wrapping_add(u64::from(sketch.frequency(numbers.next())));
-    }
-    sum
-}
-
-fn index(words: u64, calls: u64, numbers: &mut Numbers) -> u64 {
-    let sketch = sketch(words);
-    let mut sum = 0u64;
-    for i in 0..calls {
-        sum = sum.wrapping_add(sketch.place(numbers.next(), (i % 4) as u8) as u64);
-    }
-    sum
-}
-
-struct Workloads;
+struct Workloads(fn(&str, u64, u64, Numbers) -> Option<u64>);
 
 impl Module for Workloads {
     fn call(&mut self, fields: &[&str]) -> Option<String> {
-        let [name, words, calls, seed] = fields else { return None };
-        let (words, calls, mut numbers) = (number(words)?, number(calls)?, Numbers::new(number(seed)?));
-        if !words.is_power_of_two() || words > 65_536 {
-            return None;
-        }
-        let result = match *name {
-            "increase" => digest(increase(words, calls, &mut numbers).numbers()),
-            "estimate" => estimate(words, calls, &mut numbers),
-            "index" => index(words, calls, &mut numbers),
-            _ => return None,
-        };
+        let [workload, size, calls, seed] = fields else { return None };
+        let numbers = Numbers::new(number(seed)?);
+        let result = (self.0)(workload, number(size)?, number(calls)?, numbers)?;
         Some(format!("digest {result}"))
     }
 }
 
 fn main() {
-    if let Err(error) = lines::answer_all(&mut Workloads, io::stdin().lock(), io::stdout().lock()) {
-        eprintln!("bench: {error}");
+    let module = std::env::args().nth(1).unwrap_or_default();
+    let mut workloads = match module.as_str() {
+        "sketch" => Workloads(sketch::run),
+        "deque" => Workloads(deque::run),
+        "wheel" => Workloads(wheel::run),
+        _ => {
+            eprintln!("usage: rust_side sketch|deque|wheel < WORKLOADS");
+            std::process::exit(2);
+        }
+    };
+    if let Err(error) = lines::answer_all(&mut workloads, io::stdin().lock(), io::stdout().lock()) {
+        eprintln!("rust_side: {error}");
         std::process::exit(2);
     }
 }

@@ -1,6 +1,6 @@
 //! Seeded random traces through two readers of the text format, compared call by call.
 //!
-//!   compare MODULE CALLS SEED DAMAGE FOLDER PROGRAM REFERENCE     DAMAGE: yes or no; programs with their arguments
+//!   compare MODULE CALLS SEED DAMAGE FOLDER PROGRAM REFERENCE     DAMAGE: yes or no; a program's arguments on lines of their own
 //!   compare --file MODULE TRACE FOLDER PROGRAM REFERENCE          a trace that is there
 //!   compare --trace MODULE LINES SEED DAMAGE                      the trace alone, to standard output
 
@@ -72,7 +72,7 @@ fn make(source: &mut dyn Source, seed: u64, chunk: u64, lines: u64) -> Trace {
 }
 
 fn start(command: &str, input: &Path, output: &Path) -> Child {
-    let mut words = command.split(' ');
+    let mut words = command.split('\n');
     let read = File::open(input).unwrap_or_else(|e| fail(&format!("cannot read {}: {e}", input.display())));
     let write = File::create(output).unwrap_or_else(|e| fail(&format!("cannot write {}: {e}", output.display())));
     Command::new(words.next().unwrap_or_default())

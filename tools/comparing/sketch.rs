@@ -153,7 +153,7 @@ fn aging(t: &mut Trace) {
 
 /// From an empty sketch to its first aging with as many odd counters as hashes can be found for: the listed difference.
 fn tripping(t: &mut Trace) {
-    let capacity = t.random.pick(&[3, 5, 5, 5, 6, 9, 10, 11, 12, 17, 18, 20, 33]);
+    let capacity = t.random.pick(&[3, 3, 5, 5, 5, 6, 6, 9, 10, 11, 12, 17, 18, 20, 33, 65]);
     let words = words_for(capacity);
     call!(t, "lend {words}");
     call!(t, "ensure {capacity}");
@@ -165,7 +165,14 @@ fn tripping(t: &mut Trace) {
             continue;
         }
         let gain = |hash: u64| counters(hash).filter(|c| !odd[*c]).count();
-        let best = (0..300).map(|_| t.random.bits()).max_by_key(|h| gain(*h)).unwrap_or(0);
+        let mut best = t.random.bits();
+        for _ in 0..20_000 {
+            let hash = t.random.bits();
+            if gain(best) == 4 {
+                break;
+            }
+            best = if gain(hash) > gain(best) { hash } else { best };
+        }
         counters(best).for_each(|c| odd[c] = !odd[c]);
         call!(t, "increase {best}");
         if left % 8 == 0 {
