@@ -41,16 +41,23 @@ impl Source for Sketches {
 }
 
 impl Sketches {
-    /// The next capacity of the sweep, on an unused sketch with a table that just fits, is longer, or is one word short.
+    /// The next capacity of the sweep, on an unused sketch with a table that just fits or is longer; at times first with one
+    /// that is a word short, or with whatever was lent before.
     fn sweep(&mut self, t: &mut Trace) {
         let capacity = self.swept * 24_421 % (MOST + 1);
         self.swept += 1;
         let words = words_for(capacity);
-        match t.random.below(6) {
-            0 => call!(t, "lend {}", words - 1),
-            1 => call!(t, "lend {MOST}"),
-            2 => call!(t, "lend {}", t.random.range(words, MOST)),
-            3 => call!(t, "poke-record 0 0 0"),
+        if t.random.once_in(4) {
+            match t.random.below(2) {
+                0 => call!(t, "lend {}", words - 1),
+                _ => call!(t, "poke-record 0 0 0"),
+            }
+            call!(t, "ensure {capacity}");
+            call!(t, "record");
+        }
+        match t.random.below(4) {
+            0 => call!(t, "lend {MOST}"),
+            1 => call!(t, "lend {}", t.random.range(words, MOST)),
             _ => call!(t, "lend {words}"),
         }
         call!(t, "ensure {capacity}");
