@@ -7,7 +7,7 @@ use native.Mathlib.Omega.{arith}
 use lib.Dec.{ltb, lit<}
 use lib.Pow.{shl-exact}
 use lib.Bits.{bitAnd, and-mask}
-use borrow.Author.Tests.{lt-ltb, le-ltb}
+use borrow.Author.Tests.{ltb-true, ltb-false, lt-ltb, le-ltb}
 use Rattle.counters.specs.Counters.{counter, raised, Raises}
 use Rattle.counters.proofs.Words.{pow16, counter-below, counter-first, counter-rest}
 
@@ -83,3 +83,11 @@ raised-same w k h = sym (full w k h .is)
 
 pub one-up : (k : ℕ) → 0 < 16 ^ k
 one-up k = one-le-pow k 16 (zero-lt-suc 15)
+
+-- whatever the counter is
+pub raises-at : (w k : ℕ) → Raises w k (raised w k)
+raises-at w k = go (ltb (counter w k) 15) refl
+  where
+    go : (b : Bool) → ltb (counter w k) 15 ≡ b → Raises w k (raised w k)
+    go true e = let l = ltb-true (counter w k) 15 e in subst (Raises w k) (sym (raised-new w k l)) (up w k l)
+    go false e = let l = ltb-false (counter w k) 15 e in subst (Raises w k) (sym (raised-same w k l)) (full w k l)

@@ -6,10 +6,10 @@ use Prim.Native.Nat.{ℕ, zero, suc, _+_, _-_, _*_, _/_, _%_, _^_, _≤_, _<_, m
 use native.Mathlib.Nat.{le-refl, le-step, le-of-suc-le-suc, eq-or-lt-of-le, mod-self, pow-suc}
 use native.Mathlib.Omega.{arith}
 use lib.Arith.{le-zero, lt-one}
-use lib.Dec.{eqb, leb}
+use lib.Dec.{eqb, ltb, leb}
 use lib.Pow.{pow-pos, pow-mono, pow-lt}
 use lib.Bits.{bitAnd, and-step, and-self, and-comm, and-mask}
-use borrow.Author.Tests.{eqb-true, eq-eqb, ne-eqb, leb-true, leb-false, le-leb, lt-leb}
+use borrow.Author.Tests.{eqb-true, eq-eqb, ne-eqb, ltb-true, ltb-false, leb-true, leb-false, le-leb, lt-leb}
 use Rattle.numbers.specs.Powers.{isPowerTo, powerFor}
 
 -- n is a power of two with an exponent up to k
@@ -48,6 +48,14 @@ power-least k n h = let p = power-means k n h in omega (arith, p .is, pow-pos (p
 
 pub power-most : (k n : ℕ) → isPowerTo k n ≡ true → n ≤ 2 ^ k
 power-most k n h = let p = power-means k n h in omega (arith, p .is, pow-mono (p .most))
+
+-- of two powers the smaller is at most half of the larger
+pub power-gap : (k a b : ℕ) → Power k a → Power k b → a < b → a + a ≤ b
+power-gap k a b p q l = go (ltb (p .exponent) (q .exponent)) refl
+  where
+    go : (t : Bool) → ltb (p .exponent) (q .exponent) ≡ t → a + a ≤ b
+    go true e = omega (arith, p .is, q .is, pow-suc 2 (p .exponent), pow-mono (ltb-true (p .exponent) (q .exponent) e))
+    go false e = absurd (omega (arith, p .is, q .is, pow-mono (ltb-false (p .exponent) (q .exponent) e)))
 
 -- ---- a power of two has no bit in common with the number below it
 

@@ -4,3 +4,7 @@ pub mod Counting
 pub mod Soundness
 pub mod Settling
 pub mod Promises
+pub mod Coincidence
+pub mod Kept
+pub mod Each
+pub mod Steps

@@ -35,20 +35,20 @@ gives-inside c n t = omega (arith, gives-words c n t, power-for-above 16 c (give
 
 -- ---- the test, case by case, as the code takes it
 
-unused : (lent : ℕ) (s : Sketch) → s .used ≡ 0 → sound lent s ≡ unusedSound s
+pub sound-unused : (lent : ℕ) (s : Sketch) → s .used ≡ 0 → sound lent s ≡ unusedSound s
 unfolding sound
-unused lent s e = simp (eq-eqb (s .used) 0 e, le-leb (s .used) lent (omega arith))
+sound-unused lent s e = simp (eq-eqb (s .used) 0 e, le-leb (s .used) lent (omega arith))
 
 used : (lent : ℕ) (s : Sketch) → (s .used ≡ 0 → ⊥) → s .used ≤ lent → isPowerTo 16 (s .used) ≡ true → sound lent s ≡ usedSound s
 unfolding sound
 used lent s n l p = simp (ne-eqb (s .used) 0 n, le-leb (s .used) lent l, p)
 
 pub blank-size : (lent : ℕ) (s : Sketch) → s .used ≡ 0 → s .sample ≡ 0 → eqb (s .size) 0 ≡ sound lent s
-blank-size lent s e z = sym (unused lent s e ∙ ap (λ (b : Bool). b && eqb (s .size) 0) (eq-eqb (s .sample) 0 z))
+blank-size lent s e z = sym (sound-unused lent s e ∙ ap (λ (b : Bool). b && eqb (s .size) 0) (eq-eqb (s .sample) 0 z))
 
 pub blank-sample : (lent : ℕ) (s : Sketch) → s .used ≡ 0 → (s .sample ≡ 0 → ⊥) → eqb (s .sample) 0 ≡ sound lent s
 blank-sample lent s e n =
-    let z = ne-eqb (s .sample) 0 n in z ∙ sym (unused lent s e ∙ and-not-left (eqb (s .sample) 0) _ z)
+    let z = ne-eqb (s .sample) 0 n in z ∙ sym (sound-unused lent s e ∙ and-not-left (eqb (s .sample) 0) _ z)
 
 pub not-inside : (lent : ℕ) (s : Sketch) → lent < s .used → false ≡ sound lent s
 unfolding sound

@@ -1,10 +1,10 @@
 -- The four counters of a hash in a table of n words: the least of them, and all four raised. Assumes nothing.
 use Prim.Native.Nat.{ℕ, zero, suc, _+_, _≤_, _<_, min}
 use mathlib.Core.Path.{_≡_}
-use mathlib.Core.Bool.{cond, true}
+use mathlib.Core.Bool.{Bool, cond, true, false, _&&_, _||_}
 use mathlib.Core.List.{List}
 use lib.ListN.{length, getD, set}
-use lib.Dec.{ltb}
+use lib.Dec.{eqb, ltb}
 use Rattle.numbers.specs.Powers.{isPowerTo}
 use Rattle.counters.specs.Counters.{counter, raised}
 use Rattle.sketch.specs.Index.{wordAt, counterOf}
@@ -46,3 +46,8 @@ rose hash n (suc i) t = rose hash n i t + risesAt (counted hash n i t) (wordAt h
 pub record Counts (hash n : ℕ) (t : List ℕ) (r : ℕ) (after : List ℕ) : Type 0 where
   pub rises : r ≡ rose hash n 4 t
   pub table : after ≡ counted hash n 4 t
+
+-- whether counter k of word j is the hash's own at one of the first i depths
+unfoldable pub isCountedAt : ℕ → ℕ → ℕ → ℕ → ℕ → Bool
+isCountedAt hash n zero j k = false
+isCountedAt hash n (suc i) j k = (eqb j (wordAt hash i n) && eqb k (counterOf hash i)) || isCountedAt hash n i j k

@@ -1,0 +1,40 @@
+-- Each row of the worked numbers is right: one test, computed over the whole table from the definitions that the promises cite.
+-- Assumes nothing.
+use Prim.Native.Nat.{ℕ}
+use mathlib.Core.Bool.{Bool, true, false, _&&_}
+use mathlib.Core.List.{List, [], _∷_, map}
+use lib.ListN.{length, replicate}
+use lib.Dec.{T, eqb}
+use Rattle.numbers.specs.Powers.{isPowerTo, powerFor}
+use Rattle.counters.specs.Counters.{counter, word, total, raised, halved, odds}
+use Rattle.counters.specs.Tables.{halvedTo, oddsTo}
+use Rattle.sketch.specs.Index.{product, folded, wordAt}
+use Rattle.sketch.specs.Hashes.{counted, rose}
+use Rattle.sketch.specs.Sound.{sound}
+use Rattle.sketch.specs.Aging.{increasedTable, increasedSketch}
+use Rattle.sketch.specs.Calls.{unusedSketch, ensureRefusal, ensuredTable, ensuredSketch, standing}
+use Rattle.sketch.specs.Histories.{Call, ensureCapacity, increaseHash, Held, run}
+use Rattle.worked.specs.Rows.{Row, sketched, rows}
+
+-- two lists of numbers are the same
+abbrev same : List ℕ → List ℕ → Bool
+same [] [] = true
+same [] (y ∷ ys) = false
+same (x ∷ xs) [] = false
+same (x ∷ xs) (y ∷ ys) = eqb x y && same xs ys
+
+-- an unused sketch on a zeroed table of n words, after a capacity was ensured and these hashes increased
+abbrev after : ℕ → ℕ → List ℕ → Held
+after n capacity hashes = run (record { table = replicate n 0; sketch = unusedSketch }) (ensureCapacity capacity ∷ map increaseHash hashes)
+
+abbrev pub isRight : Row → Bool
+isRight (sketched capacity hashes words size) =
+    same (after (length words) capacity hashes .table) words && eqb (after (length words) capacity hashes .sketch .size) size
+
+abbrev pub allRight : List Row → Bool
+allRight [] = true
+allRight (r ∷ rs) = isRight r && allRight rs
+
+pub all-right : T (allRight rows)
+unfolding isPowerTo powerFor counter word total raised halved odds halvedTo oddsTo product folded wordAt counted rose sound increasedTable increasedSketch ensureRefusal ensuredTable ensuredSketch standing
+all-right = tt
