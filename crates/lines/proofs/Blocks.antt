@@ -8,7 +8,7 @@ use lib.Dec.{ltb}
 use lib.ListN.{length, take, drop, getD, length-drop}
 use borrow.Author.Tests.{lt-ltb, le-ltb}
 use Rattle.lines.specs.Parts.{before}
-use Rattle.lines.specs.Collected.{Collects, Keeps, NextLine, lineEnd, lineThere, passed, thisLine}
+use Rattle.lines.specs.Collecting.{Collects, Keeps, NextLine, lineEnd, lineThere, passed, thisLine}
 use Rattle.lines.specs.declared.collecting.Source.{Source}
 use Rattle.lines.specs.declared.collecting.Collected.{Collected}
 use Rattle.lines.proofs.Scans.{before-stop, before-on, before-end}

@@ -7,7 +7,7 @@ use native.Mathlib.Omega.{arith}
 use lib.Dec.{eqb, ltb}
 use lib.ListN.{length, drop, getD, drop-of-length-le}
 use borrow.Author.Tests.{eq-eqb, ne-eqb, lt-ltb, le-ltb}
-use Rattle.lines.specs.Numbers.{digitOf, readOn}
+use Rattle.lines.specs.Reading.{digitOf, readOn}
 use Rattle.lines.specs.declared.reading.Number.{Number}
 use Rattle.lines.specs.declared.reading.Number.the-variants.{Is, Dash, Other}
 use Rattle.lines.proofs.Scans.{dropped}

@@ -2,5 +2,6 @@
 pub mod Blocks
 pub mod Decimals
 pub mod Mixes
+pub mod Returning
 pub mod Scans
 pub mod Waiting

@@ -1,6 +1,6 @@
 -- What the contracts of `lines` cite. Assumes nothing.
 pub mod Answers
-pub mod Collected
+pub mod Collecting
 pub mod Digests
-pub mod Numbers
+pub mod Reading
 pub mod Parts

@@ -5,7 +5,7 @@ use Prim.Native.Nat.{ℕ, _+_, _-_, _*_, _^_, _≤_, _<_}
 use mathlib.Core.Path.{_≡_, refl, sym, ap, subst, _∙_}
 use lib.ListN.{length, take, drop, getD}
 use Rattle.lines.proofs.Decimals.{read-none, read-over, read-more, read-end}
-use Rattle.lines.specs.Numbers.{readOn, digitOf}
+use Rattle.lines.specs.Reading.{readOn, digitOf}
 use Rattle.lines.proofs.reading.digits.Statement.{statement}
 use Rattle.lines.proofs.reading.digits.Tie as tie
 
