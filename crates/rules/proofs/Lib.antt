@@ -1,0 +1,4 @@
+pub mod Cases
+pub mod Ticks
+pub mod Placing
+pub mod Effective
