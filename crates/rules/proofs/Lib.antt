@@ -2,3 +2,11 @@ pub mod Cases
 pub mod Ticks
 pub mod Placing
 pub mod Effective
+pub mod Counting
+pub mod Standing
+pub mod Timers
+pub mod Pulling
+pub mod Gone
+pub mod Passing
+pub mod WaitingCalls
+pub mod PastCalls
