@@ -10,3 +10,5 @@ pub mod Gone
 pub mod Passing
 pub mod WaitingCalls
 pub mod PastCalls
+pub mod Positions
+pub mod SoundLists
