@@ -12,3 +12,4 @@ pub mod WaitingCalls
 pub mod PastCalls
 pub mod Positions
 pub mod SoundLists
+pub mod SoundCalls
