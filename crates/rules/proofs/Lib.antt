@@ -13,3 +13,4 @@ pub mod PastCalls
 pub mod Positions
 pub mod SoundLists
 pub mod SoundCalls
+pub mod Arming
