@@ -14,3 +14,4 @@ pub mod Positions
 pub mod SoundLists
 pub mod SoundCalls
 pub mod Arming
+pub mod Advances
