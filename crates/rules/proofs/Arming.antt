@@ -87,7 +87,7 @@ module _ (g : Geometry) (R : Run) (on : R .wheel .enabled ≡ true) (s : Sound g
       let b : ℕ = bucketOf g (w .reading) d in
       let v : Node = placedIn b (L .node x) in
       let m = link-own x (L .node x) (unlink x L) b v
-          (unlink-own x (L .node x) L (L .node x .bucket) refl (at-of (buckets g) (w .nodes) (w .entries) (w .next) x L (s .lists) l)) in
+      (unlink-own x (L .node x) L (L .node x .bucket) refl (at-of (buckets g) (w .nodes) (w .entries) (w .next) x L (s .lists) l)) in
       record {
         generation = L .node x .generation;
         waiting = record {

@@ -15,3 +15,4 @@ pub mod SoundLists
 pub mod SoundCalls
 pub mod Arming
 pub mod Advances
+pub mod Demand3
