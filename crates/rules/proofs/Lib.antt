@@ -16,3 +16,4 @@ pub mod SoundCalls
 pub mod Arming
 pub mod Advances
 pub mod Demand3
+pub mod Worked

@@ -9,3 +9,4 @@ pub mod Calls
 pub mod Sound
 pub mod Runs
 pub mod Demand3
+pub mod Worked
