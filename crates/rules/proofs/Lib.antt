@@ -17,3 +17,4 @@ pub mod Arming
 pub mod Advances
 pub mod Demand3
 pub mod Worked
+pub mod Premises
