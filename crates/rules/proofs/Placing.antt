@@ -1,6 +1,6 @@
 -- Laws of places and visits: a deadline is placed at the lowest level that fits, and an advance that passes a timer's tick visits its bucket. Assumes nothing.
 use Prim.Native.Nat.{ℕ, zero, suc, _+_, _-_, _*_, _/_, _%_, _^_, _≤_, _<_, min}
-use native.Mathlib.Nat.{mod-lt, mod-one, add-mod-mod, add-zero}
+use native.Mathlib.Nat.{mod-lt, mod-one, add-mod-mod, add-zero, add-suc, add-sub-of-le}
 use native.Mathlib.Omega.{arith}
 use mathlib.Core.Path.{_≡_, refl, sym, ap, subst, _∙_}
 use mathlib.Core.Logic.{_⊎_, inl, inr, ⊎-elim}
@@ -8,7 +8,7 @@ use mathlib.Core.Bool.{Bool, true, false, cond}
 use mathlib.Core.List.{List, [], _∷_, _++_}
 use lib.Dec.{ltb}
 use lib.ListN.{length}
-use lib.Pow.{pow-pos}
+use lib.Pow.{pow-pos, pow-mono}
 use borrow.Author.Tests.{lt-ltb, le-ltb}
 use Rattle.rules.specs.Geometry.{Geometry, tick, total, buckets, shiftOf, sizeOf, dense, firstOf}
 use Rattle.rules.specs.Place.{placeFrom, bucketOf}
@@ -49,6 +49,39 @@ place-lowest wide s (e ∷ es) base r d =
         → (l : ℕ) → l < suc (k .level) → 2 ^ (shiftOf s (e ∷ es) l + sizeOf (e ∷ es) l) ≤ d - r
     lower i k zero h = i
     lower i k (suc l) h = k .least l (omega arith)
+
+-- each next shift is the shift before plus the exponent of that level's count
+pub shift-next : (s : ℕ) (es : List ℕ) (l : ℕ) → shiftOf s es (suc l) ≡ shiftOf s es l + sizeOf es l
+shift-next s [] l = omega arith
+shift-next s (e ∷ []) zero = refl
+shift-next s (e ∷ e′ ∷ es) zero = refl
+shift-next s (e ∷ es) (suc l) = shift-next (s + e) es l
+
+pub shift-mono : (s : ℕ) (es : List ℕ) (k j : ℕ) → shiftOf s es k ≤ shiftOf s es (k + j)
+shift-mono s es k zero = omega (arith, ap (shiftOf s es) (add-zero k))
+shift-mono s es k (suc j) =
+    omega (arith, shift-mono s es k j, shift-next s es (k + j), ap (shiftOf s es) (add-suc k j))
+
+-- A level is the one that is used if its span is not above the difference (or it is level 0), and the next level's span is above it (or it is the last).
+pub lowest-is : (wide : ℕ → ℕ) (s : ℕ) (es : List ℕ) (base r d l : ℕ) → l ≤ length es → (0 < l → 2 ^ shiftOf s es l ≤ d - r)
+    → (l < length es → d - r < 2 ^ shiftOf s es (suc l))
+    → placeFrom wide s es base r d ≡ firstOf wide base es l + tick (shiftOf s es l) d % 2 ^ sizeOf es l
+lowest-is wide s es base r d l h low high = go (place-lowest wide s es base r d)
+  where
+    go : Lowest wide s es base r d (placeFrom wide s es base r d) → placeFrom wide s es base r d ≡ firstOf wide base es l + tick (shiftOf s es l) d % 2 ^ sizeOf es l
+    go k =
+        ⊎-elim
+        (λ (i : l < k .level). absurd (omega (arith, k .least l i, high (omega (arith, k .exists)), ap (λ (n : ℕ). 2 ^ n) (shift-next s es l))))
+        (λ (i : k .level ≤ l).
+        ⊎-elim
+        (λ (j : k .level < l).
+        let m : shiftOf s es (suc (k .level)) ≤ shiftOf s es l = omega (arith, shift-mono s es (suc (k .level)) (l - suc (k .level)), ap (shiftOf s es) (add-sub-of-le j)) in
+        absurd (omega (arith, k .fits (omega arith), low (omega arith), ap (λ (n : ℕ). 2 ^ n) (shift-next s es (k .level)), pow-mono m)))
+        (λ (j : l ≤ k .level).
+        let m : k .level ≡ l = omega arith in
+        k .is ∙ ap (λ (n : ℕ). firstOf wide base es n + tick (shiftOf s es n) d % 2 ^ sizeOf es n) m)
+        (below? (k .level) l))
+        (below? l (k .level))
 
 -- the bucket is one of the wheel's
 pub place-in : (s : ℕ) (es : List ℕ) (base r d : ℕ) → placeFrom dense s es base r d < base + total es
