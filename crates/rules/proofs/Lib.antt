@@ -18,3 +18,5 @@ pub mod Advances
 pub mod Demand3
 pub mod Worked
 pub mod Premises
+pub mod Order
+pub mod Counts

@@ -10,3 +10,4 @@ pub mod Sound
 pub mod Runs
 pub mod Demand3
 pub mod Worked
+pub mod Order
