@@ -20,3 +20,5 @@ pub mod Worked
 pub mod Premises
 pub mod Order
 pub mod Counts
+pub mod Turns
+pub mod Shows

@@ -11,3 +11,4 @@ pub mod Runs
 pub mod Demand3
 pub mod Worked
 pub mod Order
+pub mod Shows
