@@ -22,3 +22,4 @@ pub mod Order
 pub mod Counts
 pub mod Turns
 pub mod Shows
+pub mod ShowsClock

@@ -78,3 +78,24 @@ pub refusals :
     ok ∷ due none ∷ removed ∷ refused 12 ∷ []
 unfolding tick
 refusals = refl
+
+-- 11, "next serial is 2^64 - 1"; 10 comes before it
+pub spent :
+    answers wheel01 nothing (create (2 ^ 64 - 1) ∷ enable 166 1 ∷ setEntry 0 (some 9) 0 ∷ schedule 0 0 ∷ []) ≡ ok ∷ ok ∷ ok ∷ refused 11 ∷ []
+unfolding tick
+spent = refl
+
+-- "One entry may be armed more than once." "The free slot taken is the last one freed; at the start the lowest, 165 first."
+pub armed-twice :
+    answers wheel01 new (setEntry 0 (some 10) 0 ∷ schedule 0 0 ∷ schedule 0 0 ∷ schedule 0 0 ∷ deschedule 166 8 0 ∷ deschedule 165 7 0 ∷ schedule 0 0 ∷ schedule 0 0 ∷ armedCount ∷ [])
+    ≡ ok ∷ handle 165 7 ∷ handle 166 8 ∷ handle 167 9 ∷ ok ∷ ok ∷ handle 165 10 ∷ handle 166 11 ∷ number 3 ∷ []
+unfolding tick
+armed-twice = refl
+
+-- "Another create may give the same two again": the first handle of the second wheel is that of the first, and a call with it is a call on the timer that has it now
+pub given-again :
+    answers wheel01 new (
+    setEntry 0 (some 10) 0 ∷ schedule 0 0 ∷ create 7 ∷ enable 200 8 ∷ deschedule 165 7 0 ∷ setEntry 0 (some 20) 0 ∷ schedule 0 0 ∷ nextDue ∷ deschedule 165 7 0 ∷ nextDue ∷ [])
+    ≡ ok ∷ handle 165 7 ∷ ok ∷ ok ∷ refused 12 ∷ ok ∷ handle 165 7 ∷ due (some 20) ∷ ok ∷ due none ∷ []
+unfolding tick
+given-again = refl
