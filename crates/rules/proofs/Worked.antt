@@ -99,3 +99,13 @@ pub given-again :
     ≡ ok ∷ handle 165 7 ∷ ok ∷ ok ∷ refused 12 ∷ ok ∷ handle 165 7 ∷ due (some 20) ∷ ok ∷ due none ∷ []
 unfolding tick
 given-again = refl
+
+-- a timer's way through the levels: from level 2 to level 1 to level 0, and out
+abbrev far : ℕ
+far = 2 ^ 42 + 6 * 2 ^ 36 + 9 * 2 ^ 30
+
+pub way-through :
+    answers wheel01 new (setEntry 0 (some far) 0 ∷ schedule 0 0 ∷ start (2 ^ 42) ∷ pull ∷ pull ∷ start (2 ^ 42 + 6 * 2 ^ 36) ∷ pull ∷ pull ∷ start far ∷ pull ∷ pull ∷ [])
+    ≡ ok ∷ handle 165 7 ∷ ok ∷ rescheduled 0 7 (1 * 64 + 6) ∷ end ∷ ok ∷ rescheduled 0 7 (0 * 64 + 9) ∷ end ∷ ok ∷ expired 0 7 far ∷ end ∷ []
+unfolding tick
+way-through = refl
