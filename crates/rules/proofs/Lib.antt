@@ -1,0 +1,26 @@
+-- The laws of the rules. Demand3, SoundCalls, Order, Counts and Worked are what a reader looks for; Shows, ShowsClock and Turns serve the wheel on records. Assumes nothing.
+pub mod Cases
+pub mod Ticks
+pub mod Placing
+pub mod Effective
+pub mod Counting
+pub mod Standing
+pub mod Timers
+pub mod Pulling
+pub mod Gone
+pub mod Passing
+pub mod WaitingCalls
+pub mod PastCalls
+pub mod Positions
+pub mod SoundLists
+pub mod SoundCalls
+pub mod Arming
+pub mod Advances
+pub mod Demand3
+pub mod Worked
+pub mod Premises
+pub mod Order
+pub mod Counts
+pub mod Turns
+pub mod Shows
+pub mod ShowsClock

@@ -1,0 +1,15 @@
+-- The rules of the wheel, as definitions. The order is that of reading: times and places, the state, the calls, runs, demand 3; then what ties them to records. Assumes nothing.
+pub mod Geometry
+pub mod Place
+pub mod Visits
+pub mod Lists
+pub mod Wheel
+pub mod Refusals
+pub mod Pull
+pub mod Calls
+pub mod Sound
+pub mod Runs
+pub mod Demand3
+pub mod Worked
+pub mod Order
+pub mod Shows
