@@ -8,3 +8,9 @@ pub mod Cutting
 pub mod Turning
 pub mod Freeing
 pub mod Reading
+pub mod Counting
+pub mod Laying
+pub mod Walking
+pub mod WalkingFree
+pub mod Judging
+pub mod Verdicts

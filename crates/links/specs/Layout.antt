@@ -23,6 +23,17 @@ pub record Sizes (a : Links) : Type 0 where
   pub few : length (a .heads) ≤ none
   pub small : length (a .next) ≤ none
 
+-- the two halves of the work
+pub record Empties (heads₀ heads tails : List ℕ) : Type 0 where
+  pub heads-is : heads ≡ replicate (length heads₀) none
+  pub tails-is : tails ≡ replicate (length heads₀) none
+
+pub record Strings (next₀ next prev home : List ℕ) (r : ℕ) : Type 0 where
+  pub next-is : next ≡ nexts (upFrom (length next₀) 0)
+  pub prev-is : prev ≡ replicate (length next₀) none
+  pub home-is : home ≡ replicate (length next₀) none
+  pub free-is : r ≡ first (upFrom (length next₀) 0)
+
 -- r is the first free slot of the records b that are made of a
 pub record LaysOut (a b : Links) (r : ℕ) : Type 0 where
   pub is : b ≡ fresh (length (a .heads)) (length (a .next))

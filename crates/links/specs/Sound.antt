@@ -6,6 +6,7 @@ use mathlib.Core.List.{List, [], _∷_}
 use lib.ListN.{length, getD}
 use Rattle.links.specs.Chain.{none, In, Chain, Path, first}
 use Rattle.links.specs.Lists.{Links, Lists, Rep, step, homeOf}
+use Rattle.links.specs.Layout.{Sizes}
 
 -- the records stand for some lists with no slot loose, and free is the first free slot
 pub record Whole (a : Links) (free : ℕ) : Type 0 where
@@ -40,3 +41,8 @@ pub record WalkedFree (next home : List ℕ) (free r : ℕ) : Type 0 where
 pub record SizesFree (next home : List ℕ) : Type 0 where
   pub home-len : length home ≡ length next
   pub small : length next ≤ none
+
+-- the test of the lent lengths
+pub record Sized (a : Links) (r : Bool) : Type 0 where
+  pub sound : r ≡ true → Sizes a
+  pub complete : Sizes a → r ≡ true
