@@ -14,3 +14,5 @@ pub mod Walking
 pub mod WalkingFree
 pub mod Judging
 pub mod Verdicts
+pub mod Unique
+pub mod Members

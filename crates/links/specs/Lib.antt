@@ -7,3 +7,4 @@ pub mod Read
 pub mod Layout
 pub mod Sound
 pub mod Turn
+pub mod Listed
