@@ -16,3 +16,4 @@ pub mod Judging
 pub mod Verdicts
 pub mod Unique
 pub mod Members
+pub mod TurnRule
