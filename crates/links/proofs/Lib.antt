@@ -5,6 +5,7 @@ pub mod Arrays
 pub mod Swap
 pub mod Linking
 pub mod Cutting
+pub mod Moving
 pub mod Turning
 pub mod Freeing
 pub mod Reading

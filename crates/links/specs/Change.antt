@@ -36,6 +36,10 @@ cutOut a s =
     let q = getD (a .next) s 0 in
     links (endAt (a .heads) d p q) (endAt (a .tails) d q p) (set (a .next) p q) (set (a .prev) q p) (set (a .home) s none)
 
+-- s is moved to the back of the deque d, from whichever deque it is in
+abbrev pub moveBack : Links → ℕ → ℕ → Links
+moveBack a d s = linkBack (cutOut a s) d s
+
 -- the deque d is turned until s is last, in one splice: the old tail is followed by the old head, and the slot after s is the head
 abbrev pub turnNow : Links → ℕ → ℕ → ℕ → Links
 turnNow a d s q =
@@ -64,6 +68,15 @@ pub record Held (a : Links) (s : ℕ) : Type 0 where
   pub slot : s < v .slots
   pub homed : homeOf a s ≡ none → ⊥
 
+-- s is in a deque, and d is a deque
+pub record Movable (a : Links) (d s : ℕ) : Type 0 where
+  pub v : Lists
+  pub loose : List ℕ
+  pub rep : Rep a v loose
+  pub slot : s < v .slots
+  pub homed : homeOf a s ≡ none → ⊥
+  pub deque : d < v .count
+
 -- s is in the deque d
 pub record HeldBy (a : Links) (d s : ℕ) : Type 0 where
   pub v : Lists
@@ -81,6 +94,10 @@ pub record LinksBack (a b : Links) (d s : ℕ) : Type 0 where
 pub record CutsOut (a b : Links) (s : ℕ) : Type 0 where
   pub is : b ≡ cutOut a s
   pub does : (v : Lists) (loose : List ℕ) → Rep a v loose → Rep b (takeOut (homeOf a s) s v) (s ∷ loose)
+
+pub record MovesBack (a b : Links) (d s : ℕ) : Type 0 where
+  pub is : b ≡ moveBack a d s
+  pub does : (v : Lists) (loose : List ℕ) → Rep a v loose → Rep b (pushBack d s (takeOut (homeOf a s) s v)) loose
 
 pub record Turns (a b : Links) (d s : ℕ) : Type 0 where
   pub is : b ≡ turnTo a d s

@@ -1,6 +1,6 @@
 // Unchecked: link at the back, unlink, turn until a member is last. Each takes constant time.
 ghost use Rattle.links.specs.Lists.{links};
-ghost use Rattle.links.specs.Change.{CanPut, Puts, Linkable, LinksBack, Held, CutsOut, HeldBy, Turns};
+ghost use Rattle.links.specs.Change.{CanPut, Puts, Linkable, LinksBack, Held, CutsOut, Movable, MovesBack, HeldBy, Turns};
 use crate::NONE;
 
 // The slot after p in the deque d is q from now on: the head, where p is NONE. With tails and prev: the slot before p.
@@ -54,6 +54,23 @@ pub fn unlink(
     put(heads, next, d, p, q);
     put(tails, prev, d, q, p);
     home[s] = NONE;
+}
+
+// Moves the slot s from its deque to the back of the deque d, which may be the same.
+pub fn move_back(
+    heads: &mut [usize],
+    tails: &mut [usize],
+    next: &mut [usize],
+    prev: &mut [usize],
+    home: &mut [usize],
+    d: usize,
+    s: usize,
+)
+    requires { ⌜ Movable (links (now heads) (now tails) (now next) (now prev) (now home)) d s ⌝ }
+    ensures { λ _. ⌜ MovesBack (links (now (heads .entry)) (now (tails .entry)) (now (next .entry)) (now (prev .entry)) (now (home .entry))) (links (now (heads .exit)) (now (tails .exit)) (now (next .exit)) (now (prev .exit)) (now (home .exit))) d s ⌝ }
+{
+    unlink(heads, tails, next, prev, home, s);
+    link_back(heads, tails, next, prev, home, d, s);
 }
 
 // Turns the deque d until its member s is last: what stood after s, what stood before it, s. The records are those of moving nodes from front to back
