@@ -35,11 +35,11 @@ module _ (h n : List ℕ) (g : ℕ → ℕ) (d : ℕ) where
       go y [] k = k .0
       go y (z ∷ ys) k = k .0
 
-each-len : (n : ℕ) (next hs : List ℕ) → length (listEach n next hs) ≡ length hs
+pub each-len : (n : ℕ) (next hs : List ℕ) → length (listEach n next hs) ≡ length hs
 each-len n next [] = refl
 each-len n next (h ∷ hs) = ap suc (each-len n next hs)
 
-each-at : (n : ℕ) (next hs : List ℕ) (i : ℕ) → i < length hs → getD (listEach n next hs) i [] ≡ listFrom n next (getD hs i 0)
+pub each-at : (n : ℕ) (next hs : List ℕ) (i : ℕ) → i < length hs → getD (listEach n next hs) i [] ≡ listFrom n next (getD hs i 0)
 each-at n next [] i l = absurd (omega (arith, l))
 each-at n next (h ∷ hs) zero l = refl
 each-at n next (h ∷ hs) (suc i) l = each-at n next hs i (omega (arith, l))
