@@ -1,1 +1,3 @@
 -- The laws of the deque.
+pub mod Sounding
+pub mod Judging

@@ -36,5 +36,11 @@ abbrev pub nodeRows : State → ℕ → ℕ → ℕ → ℕ → Type 0
 nodeRows a free d s = row (Sound a free → ⊥) 4 (row (deques a ≤ d) 16 (row (InDeque a d s → ⊥) 17 answered))
 
 -- r is the number that the rows give
-pub record Refuses (rows : ℕ → Type 0) (r : ℕ) : Type 0 where
-  pub by : rows r
+pub record RefusesDeque (a : State) (free d r : ℕ) : Type 0 where
+  pub by : dequeRows a free d r
+
+pub record RefusesPush (a : State) (free d r : ℕ) : Type 0 where
+  pub by : pushRows a free d r
+
+pub record RefusesNode (a : State) (free d s r : ℕ) : Type 0 where
+  pub by : nodeRows a free d s r

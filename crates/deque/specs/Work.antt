@@ -6,8 +6,8 @@ use lib.ListN.{length, getD}
 use Rattle.links.specs.Chain.{none, remove}
 use Rattle.links.specs.Lists.{Lists, homeOf, deq, withDeque, pushBack, takeOut, taken, freed}
 use Rattle.deque.specs.State.{State, Shows}
-use Rattle.deque.specs.Step.{nextOf, elementOf, pushed, released, movedBack, stepped, popped}
-use Rattle.deque.specs.Answer.{Told, poppedTold, lookedTold, popTold, nextTold}
+use Rattle.deque.specs.Step.{nextOf, frontOf, backOf, elementOf, pushed, released, movedBack, stepped, popped}
+use Rattle.deque.specs.Answer.{Told, poppedTold, lookedTold, popTold, lookTold, nextTold}
 use Rattle.deque.specs.declared.answer.Popped.{Popped}
 use Rattle.deque.specs.declared.answer.Looked.{Looked}
 
@@ -57,10 +57,12 @@ pub record Pops (a b : State) (free d : ℕ) (r : Popped) : Type 0 where
   pub is : b ≡ popped a free d
   pub told : poppedTold r ≡ popTold a d
 
-pub record Looks (a : State) (t : Told) (r : Looked) : Type 0 where
-  pub told : lookedTold r ≡ t
+pub record LooksFront (a : State) (d : ℕ) (r : Looked) : Type 0 where
+  pub told : lookedTold r ≡ lookTold a (frontOf a d)
 
-pub record Steps (a b : State) (free d : ℕ) (r : Looked) : Type 0 where
+pub record LooksBack (a : State) (d : ℕ) (r : Looked) : Type 0 where
+  pub told : lookedTold r ≡ lookTold a (backOf a d)
+
+pub record Steps (a b : State) (d : ℕ) (r : Looked) : Type 0 where
   pub is : b ≡ stepped a d
   pub told : lookedTold r ≡ nextTold a d
-  pub does : (v : Lists) → Shows a free v → Shows b free v
