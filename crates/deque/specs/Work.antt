@@ -4,7 +4,9 @@ use mathlib.Core.Path.{_≡_}
 use mathlib.Core.List.{List, [], _∷_, _++_}
 use lib.ListN.{length, getD}
 use Rattle.links.specs.Chain.{none, remove}
-use Rattle.links.specs.Lists.{Lists, homeOf, deq, withDeque, pushBack, takeOut, taken, freed}
+use Rattle.links.specs.Lists.{Links, Lists, homeOf, deq, withDeque, pushBack, takeOut, taken, freed}
+use Rattle.links.specs.Change.{cutOut}
+use Rattle.links.specs.Free.{handBack}
 use Rattle.deque.specs.State.{State, Shows}
 use Rattle.deque.specs.Step.{nextOf, frontOf, backOf, elementOf, pushed, released, movedBack, stepped, popped}
 use Rattle.deque.specs.Answer.{Told, poppedTold, lookedTold, popTold, lookTold, nextTold}
@@ -43,6 +45,10 @@ pub record Pushes (a b : State) (free d e r : ℕ) : Type 0 where
   pub is : b ≡ pushed a free d e
   pub free-is : r ≡ nextOf a free
   pub does : (v : Lists) → Shows a free v → Shows b r (pushBack d free (taken v))
+
+-- the node s of the links a is taken out and given back
+pub record Frees (a b : Links) (free s : ℕ) : Type 0 where
+  pub is : b ≡ handBack (cutOut a s) s free
 
 pub record Drops (a b : State) (free d s r : ℕ) : Type 0 where
   pub is : b ≡ released a free d s
