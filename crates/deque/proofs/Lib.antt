@@ -4,3 +4,5 @@ pub mod Judging
 pub mod Keeping
 pub mod Refusing
 pub mod Working
+pub mod Clearing
+pub mod Calling

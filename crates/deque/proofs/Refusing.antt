@@ -1,5 +1,5 @@
 -- Why each way out of the refusals is right, and what a call that is not refused may rely on. Assumes nothing.
-use Prim.Native.Nat.{ℕ, _≤_, _<_}
+use Prim.Native.Nat.{ℕ, _*_, _^_, _≤_, _<_}
 use native.Mathlib.Omega.{arith}
 use mathlib.Core.Path.{_≡_, refl, sym, ap, _∙_}
 use mathlib.Core.Logic.{_⊎_, inl, inr, ⊎-elim}
@@ -7,6 +7,9 @@ use mathlib.Core.Bool.{Bool, true, false, false≢true, not}
 use mathlib.Core.List.{List, [], _∷_}
 use lib.ListN.{length, getD}
 use borrow.Author.Tests.{not-true, not-false}
+use borrow.Author.Needs.{scaled-fits}
+use mir.Syntax.{w64}
+use mir.Val.{Fits}
 use Rattle.links.specs.Chain.{none, In, first}
 use Rattle.links.specs.Lists.{Lists, homeOf}
 use Rattle.links.specs.Listed.{listed}
@@ -16,6 +19,7 @@ use Rattle.deque.specs.Sound.{Sound, Judged}
 use Rattle.deque.specs.Refuse.{unless, answered, dequeRows, pushRows, nodeRows, InDeque, RefusesDeque, RefusesPush, RefusesNode}
 use Rattle.deque.specs.Work.{DequeReady, PushReady, NodeReady}
 use Rattle.deque.proofs.Sounding.{sound-shows}
+use Rattle.deque.proofs.Keeping.{in-lens, in-cursors}
 
 -- ---- the ways out
 module _ (h t l c n p o e : List ℕ) (free d : ℕ) (b : Bool) (j : Judged (state h t l c n p o e) free b) where
@@ -98,3 +102,20 @@ module _ (a : State) (free d k : ℕ) (z : k ≡ 0) where
       let x = past 16 k (u .1) (λ i. omega (arith, z, i)) in
       let w = past 17 k (x .1) (λ i. omega (arith, z, i)) in
       record { v = listed (a .links) free; shows = sound-shows a free (u .0); slot = w .0 .0; deque = x .0; homed = w .0 .1 }
+
+-- a deque that exists has a length and a cursor: the index, and the index in bytes
+module _ (h t l c n p o e : List ℕ) (free d k : ℕ) (f : RefusesDeque (state h t l c n p o e) free d k) (z : k ≡ 0) where
+  ready : DequeReady (state h t l c n p o e) free d
+  ready = deque-ready (state h t l c n p o e) free d k z f
+
+  pub lens-index : d < length l
+  lens-index = in-lens (state h t l c n p o e) free (ready .v) (ready .shows) d (ready .deque)
+
+  pub lens-bytes : length l * 8 < 2 ^ 63 → Fits w64 (d * 8)
+  lens-bytes g = scaled-fits d (length l) 8 lens-index g
+
+  pub cursor-index : d < length c
+  cursor-index = in-cursors (state h t l c n p o e) free (ready .v) (ready .shows) d (ready .deque)
+
+  pub cursor-bytes : length c * 8 < 2 ^ 63 → Fits w64 (d * 8)
+  cursor-bytes g = scaled-fits d (length c) 8 cursor-index g

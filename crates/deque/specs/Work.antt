@@ -2,7 +2,7 @@
 use Prim.Native.Nat.{ℕ, _<_}
 use mathlib.Core.Path.{_≡_}
 use mathlib.Core.List.{List, [], _∷_, _++_}
-use lib.ListN.{length, getD}
+use lib.ListN.{length, getD, replicate}
 use Rattle.links.specs.Chain.{none, remove}
 use Rattle.links.specs.Lists.{Links, Lists, homeOf, deq, withDeque, pushBack, takeOut, taken, freed}
 use Rattle.links.specs.Change.{cutOut}
@@ -72,3 +72,8 @@ pub record LooksBack (a : State) (d : ℕ) (r : Looked) : Type 0 where
 pub record Steps (a b : State) (d : ℕ) (r : Looked) : Type 0 where
   pub is : b ≡ stepped a d
   pub told : lookedTold r ≡ nextTold a d
+
+-- every recorded length 0 and every cursor at none
+pub record Clears (lens₀ lens cursors : List ℕ) : Type 0 where
+  pub lens-is : lens ≡ replicate (length lens₀) 0
+  pub cursors-is : cursors ≡ replicate (length lens₀) none
