@@ -6,3 +6,5 @@ pub mod Refusing
 pub mod Working
 pub mod Clearing
 pub mod Calling
+pub mod Coincide
+pub mod Laws
