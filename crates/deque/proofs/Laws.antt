@@ -56,7 +56,7 @@ module _ (a : State) (free : ℕ) (s : Sound a free) where
   node-not-4 d x u = ⊎-elim (λ w. omega (arith, w .1)) (λ w. ⊎-elim (λ y. omega (arith, y .1)) (λ y. omega (arith, y .1)) (w .1)) (past-4 4 u)
 
 -- so a call whose rows never give 4 does not answer that refusal
-no-4 : (rows : ℕ → Type 0) (a b after : State) (t then : Told) → Meets rows a b t after then → (rows 4 → ⊥) → (then ≡ refused 4 → ⊥) → t ≡ refused 4 → ⊥
+pub no-4 : (rows : ℕ → Type 0) (a b after : State) (t then : Told) → Meets rows a b t after then → (rows 4 → ⊥) → (then ≡ refused 4 → ⊥) → t ≡ refused 4 → ⊥
 no-4 rows a b after t then m n q e =
     ⊎-elim
     (λ (z : m .number ≡ 0). q (sym (m .result z .0) ∙ e))
@@ -74,14 +74,14 @@ by-0 rows a b after t then m n =
     (λ (z : m .number ≡ 0 → ⊥). absurd (n (m .number) (m .refusal z .0)))
     (same? (m .number) 0)
 
-left-alone : (rows : ℕ → Type 0) (a b after : State) (k : ℕ) (then : Told) → Meets rows a b (refused k) after then → (refused k ≡ then → ⊥) → b ≡ a
+pub left-alone : (rows : ℕ → Type 0) (a b after : State) (k : ℕ) (then : Told) → Meets rows a b (refused k) after then → (refused k ≡ then → ⊥) → b ≡ a
 left-alone rows a b after k then m n =
     ⊎-elim (λ (z : m .number ≡ 0). absurd (n (m .result z .0))) (λ (z : m .number ≡ 0 → ⊥). m .refusal z .1) (same? (m .number) 0)
 
 not-refused : (xs : List ℕ) (k : ℕ) → values xs ≡ refused k → ⊥
 not-refused xs k e = let z : _≡_ {A = ℕ} 0 1 = cc in omega arith
 
-not-values : (xs : List ℕ) (k : ℕ) → refused k ≡ values xs → ⊥
+pub not-values : (xs : List ℕ) (k : ℕ) → refused k ≡ values xs → ⊥
 not-values xs k e = let z : _≡_ {A = ℕ} 0 1 = cc in omega arith
 
 nothing-refused : (k : ℕ) → nothing ≡ refused k → ⊥
@@ -91,19 +91,26 @@ nothing-values : (xs : List ℕ) → nothing ≡ values xs → ⊥
 nothing-values xs e = let z : _≡_ {A = ℕ} 0 1 = cc in omega arith
 
 -- a look tells a node or nothing
-look-refused : (a : State) (x k : ℕ) → lookTold a x ≡ refused k → ⊥
+pub look-refused : (a : State) (x k : ℕ) → lookTold a x ≡ refused k → ⊥
 look-refused a x k e =
     ⊎-elim
     (λ (i : x ≡ none). nothing-refused k (simp (eq-eqb x none i) at e))
     (λ (n : x ≡ none → ⊥). not-refused _ k (simp (ne-eqb x none n) at e))
     (same? x none)
 
-pop-refused : (a : State) (d k : ℕ) → refused k ≡ popTold a d → ⊥
+pub pop-refused : (a : State) (d k : ℕ) → refused k ≡ popTold a d → ⊥
 pop-refused a d k e =
     ⊎-elim
     (λ (i : frontOf a d ≡ none). nothing-refused k (sym (simp (eq-eqb (frontOf a d) none i) at e)))
     (λ (n : frontOf a d ≡ none → ⊥). not-values _ k (simp (ne-eqb (frontOf a d) none n) at e))
     (same? (frontOf a d) none)
+
+pub next-refused : (a : State) (d k : ℕ) → nextTold a d ≡ refused k → ⊥
+next-refused a d k e =
+    ⊎-elim
+    (λ (i : cursorNode a d ≡ pastEnd). nothing-refused k (simp (eq-eqb (cursorNode a d) pastEnd i) at e))
+    (λ (n : cursorNode a d ≡ pastEnd → ⊥). look-refused a (cursorNode a d) k (simp (ne-eqb (cursorNode a d) pastEnd n) at e))
+    (same? (cursorNode a d) pastEnd)
 
 -- ---- make: all deques empty, all nodes free in ascending order from 0, sound
 pub make-lists : (a b : State) (f : ℕ) → Make a b (First f) → Shows b f (allFree (deques a) (nodes a)) × (f ≡ first (upFrom (nodes a) 0))

@@ -8,3 +8,5 @@ pub mod Clearing
 pub mod Calling
 pub mod Coincide
 pub mod Laws
+pub mod Cursor
+pub mod Kept
