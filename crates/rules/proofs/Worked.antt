@@ -1,4 +1,4 @@
--- 01's worked numbers of the wheel: the table by one computed test, and the run examples of 01. Assumes nothing.
+-- 01's table of levels, and its run examples of the wheel, computed by the rules. (W1 to W9 stand in the crate worked.) Assumes nothing.
 use Prim.Native.Nat.{ℕ, _+_, _-_, _*_, _^_, _≤_, _<_}
 use native.Mathlib.Omega.{arith}
 use mathlib.Core.Path.{_≡_, refl}
@@ -9,13 +9,8 @@ use Rattle.rules.specs.Geometry.{wheel01, tick, shifts, counts, buckets}
 use Rattle.rules.specs.Wheel.{Call, create, enable, setEntry, schedule, reschedule, deschedule, start, pull, abandon, armedCount, nextDue, Answer, refused, ok, handle, removed, end, expired, rescheduled, number, due}
 use Rattle.rules.specs.Runs.{Run, answers, after, next}
 use Rattle.rules.specs.Demand3.{Demand3}
-use Rattle.rules.specs.Worked.{nothing, rows, allRight}
+use Rattle.rules.specs.Worked.{nothing}
 use Rattle.rules.proofs.Demand3.{demand3}
-
--- W1 to W9
-pub worked : allRight rows ≡ true
-unfolding tick
-worked = refl
 
 -- 01's table of levels
 pub table-shifts : shifts (wheel01 .shift) (wheel01 .sizes) ≡ 30 ∷ 36 ∷ 42 ∷ 47 ∷ 49 ∷ []

@@ -1,3 +1,3 @@
--- The worked numbers of 01 that are marked S (and W, once the wheel's rules are there). Assumes nothing.
+-- The worked numbers of 01 that are marked W and S. Assumes nothing.
 pub mod Rows
 pub mod Right

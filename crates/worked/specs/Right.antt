@@ -14,7 +14,9 @@ use Rattle.sketch.specs.Sound.{sound}
 use Rattle.sketch.specs.Aging.{increasedTable, increasedSketch}
 use Rattle.sketch.specs.Calls.{unusedSketch, ensureRefusal, ensuredTable, ensuredSketch, standing}
 use Rattle.sketch.specs.Histories.{Call, ensureCapacity, increaseHash, Held, run}
-use Rattle.worked.specs.Rows.{Row, sketched, rows}
+use Rattle.rules.specs.Geometry.{tick}
+use Rattle.rules.specs.Worked.{isPlaced, firesFirst}
+use Rattle.worked.specs.Rows.{Row, placed, fires, sketched, rows}
 
 -- two lists of numbers are the same
 abbrev same : List ℕ → List ℕ → Bool
@@ -28,6 +30,8 @@ abbrev after : ℕ → ℕ → List ℕ → Held
 after n capacity hashes = run (record { table = replicate n 0; sketch = unusedSketch }) (ensureCapacity capacity ∷ map increaseHash hashes)
 
 abbrev pub isRight : Row → Bool
+isRight (placed reading deadline level index) = isPlaced reading deadline level index
+isRight (fires reading deadline tick) = firesFirst reading deadline tick
 isRight (sketched capacity hashes words size) =
     same (after (length words) capacity hashes .table) words && eqb (after (length words) capacity hashes .sketch .size) size
 
@@ -36,5 +40,5 @@ allRight [] = true
 allRight (r ∷ rs) = isRight r && allRight rs
 
 pub all-right : T (allRight rows)
-unfolding isPowerTo powerFor counter word total raised halved odds halvedTo oddsTo product folded wordAt counted rose sound increasedTable increasedSketch ensureRefusal ensuredTable ensuredSketch standing
+unfolding tick isPowerTo powerFor counter word total raised halved odds halvedTo oddsTo product folded wordAt counted rose sound increasedTable increasedSketch ensureRefusal ensuredTable ensuredSketch standing
 all-right = tt
