@@ -1,5 +1,5 @@
 -- The loop of `collect`: what it has reached, and what it answers where it stops. Assumes nothing.
-use Prim.Native.Nat.{ℕ, zero, suc, _+_, _-_, _≤_, _<_}
+use Prim.Native.Nat.{ℕ, _+_, _-_, _≤_, _<_}
 use mathlib.Core.Path.{_≡_, refl, sym, ap, subst, _∙_}
 use mathlib.Core.Bool.{Bool, true, false, cond}
 use mathlib.Core.List.{List, [], _∷_, _++_}
@@ -7,7 +7,6 @@ use native.Mathlib.Omega.{arith}
 use lib.Dec.{ltb}
 use lib.ListN.{length, take, drop, getD, length-drop}
 use borrow.Author.Tests.{lt-ltb, le-ltb}
-use Rattle.lines.specs.Parts.{before}
 use Rattle.lines.specs.Collecting.{Collects, Keeps, NextLine, lineEnd, lineThere, passed, thisLine}
 use Rattle.lines.specs.declared.collecting.Source.{Source}
 use Rattle.lines.specs.declared.collecting.Collected.{Collected}

@@ -1,15 +1,11 @@
 -- One digit more of a number: what `readOn` is at index i of a text. Assumes nothing.
-use Prim.Native.Nat.{ℕ, zero, suc, _+_, _-_, _*_, _^_, _≤_, _<_}
-use mathlib.Core.Path.{_≡_, refl, sym, ap, subst, _∙_}
-use mathlib.Core.Bool.{Bool, true, false, cond}
-use mathlib.Core.List.{List, [], _∷_}
-use native.Mathlib.Omega.{arith}
-use lib.Dec.{eqb, ltb}
+use Prim.Native.Nat.{ℕ, _+_, _*_, _^_, _≤_, _<_}
+use mathlib.Core.Path.{_≡_, sym, ap, subst}
+use mathlib.Core.List.{List}
 use lib.ListN.{length, drop, getD, drop-of-length-le}
-use borrow.Author.Tests.{eq-eqb, ne-eqb, lt-ltb, le-ltb}
+use borrow.Author.Tests.{lt-ltb, le-ltb}
 use Rattle.lines.specs.Reading.{digitOf, readOn}
-use Rattle.lines.specs.declared.reading.Number.{Number}
-use Rattle.lines.specs.declared.reading.Number.the-variants.{Is, Dash, Other}
+use Rattle.lines.specs.declared.reading.Number.the-variants.{Is, Other}
 use Rattle.lines.proofs.Scans.{dropped}
 
 module _ (n : ℕ) (l : List ℕ) (i : ℕ) (h : i < length l) (d : ℕ) (e : d ≡ digitOf (getD l i 0)) where

@@ -1,7 +1,7 @@
 -- One number more of a digest. Assumes nothing.
 use Prim.Native.Nat.{ℕ, _+_, _≤_, _<_}
-use mathlib.Core.Path.{_≡_, refl, ap}
-use mathlib.Core.List.{List, [], _∷_}
+use mathlib.Core.Path.{_≡_, ap}
+use mathlib.Core.List.{List}
 use lib.ListN.{length, drop, getD, drop-of-length-le}
 use Rattle.lines.specs.Digests.{mixed, mixedAll}
 use Rattle.lines.proofs.Scans.{dropped}

@@ -1,17 +1,16 @@
 -- What `append_decimal` writes is what `read_number` reads: the digits of a number below 2^64 are that number. Assumes nothing.
-use Prim.Native.Nat.{ℕ, zero, suc, _+_, _-_, _*_, _/_, _%_, _^_, _≤_, _<_}
-use mathlib.Core.Path.{_≡_, refl, sym, ap, subst, _∙_}
-use mathlib.Core.Bool.{Bool, true, false, cond}
+use Prim.Native.Nat.{ℕ, zero, suc, _+_, _*_, _/_, _%_, _^_, _≤_, _<_}
+use mathlib.Core.Path.{_≡_, refl, ap, _∙_}
+use mathlib.Core.Bool.{Bool, true, false}
 use mathlib.Core.List.{List, [], _∷_, _++_}
 use native.Mathlib.Omega.{arith}
 use native.Mathlib.Nat.{pow-suc}
-use lib.Dec.{eqb, ltb}
+use lib.Dec.{ltb}
 use lib.ListN.{length, getD, length-append, List·getD-append}
 use borrow.Author.Tests.{ne-eqb, lt-ltb, le-ltb}
 use Rattle.io.specs.Digits.{digits, glyph}
 use Rattle.lines.specs.Reading.{digitOf, pickNumber, readOn, numberOf}
-use Rattle.lines.specs.declared.reading.Number.{Number}
-use Rattle.lines.specs.declared.reading.Number.the-variants.{Is, Dash, Other}
+use Rattle.lines.specs.declared.reading.Number.the-variants.{Is, Other}
 
 -- a digit's byte stands for it
 digit-back : (d : ℕ) → d ≤ 9 → digitOf (48 + d) ≡ d

@@ -1,12 +1,12 @@
 -- Bytes held in a buffer: one more of them, and the places of an answer. Assumes nothing.
-use Prim.Native.Nat.{ℕ, zero, suc, _+_, _-_, _≤_, _<_}
-use mathlib.Core.Path.{_≡_, refl, sym, ap, _∙_}
+use Prim.Native.Nat.{ℕ, _+_, _≤_, _<_}
+use mathlib.Core.Path.{_≡_, refl}
 use mathlib.Core.Bool.{Bool, true, false, cond}
 use mathlib.Core.List.{List, [], _∷_, _++_, append-assoc, append-nil}
 use native.Mathlib.Numerals.{add-one}
 use native.Mathlib.Omega.{arith}
 use lib.Dec.{leb}
-use lib.ListN.{length, take, drop, getD, set, length-append, length-take}
+use lib.ListN.{length, take, set, length-take}
 use lib.Seq.{paste, length-paste, take-all, take-length, take-append-le, take-suc-set}
 use borrow.Author.Tests.{le-leb, lt-leb, leb-true}
 use Rattle.lines.specs.Answers.{Appended, placeOf}

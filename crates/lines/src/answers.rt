@@ -1,21 +1,21 @@
 // Answers: bytes and numbers that wait in a buffer until they are written to standard output.
 // Assumes nothing.
 ghost use mathlib.Core.Path.{_≡_};
-ghost use Prim.Native.Nat.{_+_, _≤_, _<_};
+ghost use Prim.Native.Nat.{_+_, _≤_};
 ghost use lib.ListN.{length};
 ghost use lib.Seq.{paste};
 ghost use Rattle.lines.specs.Answers.{Appended, AppendedNumber, AppendedField, placeOf, settled};
 use crate::collecting::Source;
+use crate::parts::first;
 use libc::STDOUT_FILENO;
 
 // Writes the first n bytes of out to standard output, all of them where it has fewer, and answers
-// whether they were taken.
-pub fn flush(out: &[u8], n: usize) -> bool {
-    if n < out.len() {
-        io::write_all(STDOUT_FILENO, &out[..n])
-    } else {
-        io::write_all(STDOUT_FILENO, out)
-    }
+// how many wait then: none.
+pub fn flush(out: &[u8], n: usize) -> usize
+    ensures { λ r. ⌜ r ≡ 0 ⌝ }
+{
+    io::write_all(STDOUT_FILENO, first(out, n));
+    0
 }
 
 // Writes out the `at` bytes that wait in out where all of the block is answered, so that nothing
@@ -28,7 +28,7 @@ pub fn settle(out: &[u8], at: usize, s: Source) -> usize
     if from < upto {
         return at;
     }
-    emptied(out, at)
+    flush(out, at)
 }
 
 // Puts text after the `at` bytes that wait in out, and answers how many wait then. Where there is
@@ -68,20 +68,12 @@ fn room(out: &[u8], at: usize, n: usize) -> usize
     ensures { λ r. ⌜ r ≡ placeOf at n (length (now (out .entry))) ⌝ }
 {
     if out.len() < at {
-        return emptied(out, at);
+        return flush(out, at);
     }
     if out.len() - at < n {
-        return emptied(out, at);
+        return flush(out, at);
     }
     at
-}
-
-// Writes out what waits, and answers that nothing does.
-fn emptied(out: &[u8], at: usize) -> usize
-    ensures { λ r. ⌜ r ≡ 0 ⌝ }
-{
-    flush(out, at);
-    0
 }
 
 // Puts text into out, from start on.

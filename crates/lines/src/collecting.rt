@@ -1,7 +1,5 @@
 // From blocks of standard input to lines. Assumes nothing.
 ghost use mathlib.Core.Path.{_≡_};
-ghost use Prim.Native.Nat.{_≤_, _<_};
-ghost use lib.ListN.{length};
 ghost use Rattle.io.specs.Counts.{Counts};
 ghost use Rattle.lines.specs.Collecting.{Collects, Keeps, NextLine, TurnsLeft, unread, kindOf};
 use crate::parts::first;

@@ -1,6 +1,6 @@
 // A line's parts: what stands between its spaces. Assumes nothing.
 ghost use mathlib.Core.Path.{_≡_};
-ghost use Prim.Native.Nat.{_+_, _≤_, _<_};
+ghost use Prim.Native.Nat.{_+_, _≤_};
 ghost use lib.ListN.{length, take, drop};
 ghost use Rattle.lines.specs.Parts.{countOf, partOf, skipped, before, alike, space};
 

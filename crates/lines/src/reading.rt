@@ -1,6 +1,5 @@
 // A part of a line as a number. Assumes nothing.
 ghost use mathlib.Core.Path.{_≡_};
-ghost use Prim.Native.Nat.{_+_, _*_, _-_, _≤_, _<_};
 ghost use Rattle.lines.specs.Reading.{numberOf, digitOf, readOn, dashOf};
 ghost use Rattle.lines.specs.Parts.{partOf};
 use crate::parts::part;

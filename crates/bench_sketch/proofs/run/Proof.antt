@@ -1,14 +1,14 @@
 -- `bench_sketch::run` is safe and ends. What is written keeps its length; the measure is the number of turns that are left. Assumes nothing.
 use borrow.Author.Needs.{needs}
 use native.Mathlib.Omega.{arith}
-use Prim.Native.Nat.{ℕ, _+_, _-_, _*_, _^_, _≤_, _<_}
-use mathlib.Core.Path.{_≡_, refl, sym, ap, subst, _∙_}
+use mathlib.Core.Path.{_≡_}
 use lib.ListN.{length}
 use Rattle.bench_sketch.proofs.run.Statement.{statement}
 use Rattle.bench_sketch.proofs.run.Tie as tie
 
 abbrev Inv-loop : tie.InvT-loop
-Inv-loop table₀ block₀ line₀ out₀ source₀ waiting₀ turns₀ table block line out source waiting turns = (length table ≡ length table₀) × (length block ≡ length block₀) × (length line ≡ length line₀) × (length out ≡ length out₀)
+Inv-loop table₀ block₀ line₀ out₀ source₀ waiting₀ turns₀ table block line out source waiting turns =
+    (length table ≡ length table₀) × (length block ≡ length block₀) × (length line ≡ length line₀) × (length out ≡ length out₀)
 
 abbrev μ-loop : tie.MeasureT-loop
 μ-loop table₀ block₀ line₀ out₀ source₀ waiting₀ turns₀ table block line out source waiting turns = turns

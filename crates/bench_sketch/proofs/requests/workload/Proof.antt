@@ -1,6 +1,6 @@
 -- `bench_sketch::requests::workload` is safe and ends. Assumes nothing.
 use native.Mathlib.Omega.{arith}
-use mathlib.Core.Path.{_≡_, refl, sym, ap, subst, _∙_}
+use mathlib.Core.Path.{sym}
 use lib.Seq.{length-take-le}
 use borrow.Author.Needs.{needs}
 use Rattle.bench_sketch.proofs.requests.workload.Statement.{statement}

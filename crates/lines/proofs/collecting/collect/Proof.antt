@@ -1,9 +1,8 @@
 -- `lines::collecting::collect` meets its contract. The invariant is `Reached`. Assumes nothing.
 use borrow.Author.Needs.{needs}
 use native.Mathlib.Omega.{arith}
-use Prim.Native.Nat.{ℕ, _+_, _-_, _*_, _^_, _≤_, _<_}
-use mathlib.Core.Path.{_≡_, refl, sym, ap, subst, _∙_}
-use lib.ListN.{length, take, drop, getD}
+use Prim.Native.Nat.{_-_}
+use lib.ListN.{length}
 use Rattle.lines.proofs.Blocks.{Reached, reached-first, reached-next, reached-end, reached-last}
 use Rattle.lines.proofs.collecting.collect.Statement.{statement}
 use Rattle.lines.proofs.collecting.collect.Tie as tie
@@ -27,7 +26,9 @@ same-length : tie.Need-same-length Inv-loop μ-loop
 same-length c = search needs
 
 returns : tie.Need-returns Inv-loop μ-loop
-returns c = let s = c .before .before .before in reached-end _ _ _ _ _ _ _ (s .loop .inv) (omega arith) (c .if1 .taken)
+returns c =
+    let s = c .before .before .before in
+    reached-end _ _ _ _ _ _ _ (s .loop .inv) (omega arith) (c .if1 .taken)
 
 keep-requires : tie.Need-keep-requires Inv-loop μ-loop
 keep-requires c κs = search needs
@@ -36,13 +37,17 @@ loop-less : tie.Need-loop-less Inv-loop μ-loop
 loop-less c = search needs
 
 loop-again : tie.Need-loop-again Inv-loop μ-loop
-loop-again c = let s = c .before .before .before .before .before .before .before in reached-next _ _ _ _ _ _ _ (s .loop .inv) _ _ (omega arith) (c .before .before .before .before .if1 .left) (c .before .before .keep .ensures)
+loop-again c =
+    let s = c .before .before .before .before .before .before .before in
+    reached-next _ _ _ _ _ _ _ (s .loop .inv) _ _ (omega arith) (c .before .before .before .before .if1 .left) (c .before .before .keep .ensures)
 
 same-length-2 : tie.Need-same-length-2 Inv-loop μ-loop
 same-length-2 c = search needs
 
 returns-2 : tie.Need-returns-2 Inv-loop μ-loop
-returns-2 c = let s = c .before in reached-last _ _ _ _ _ _ _ (s .loop .inv) (omega arith)
+returns-2 c =
+    let s = c .before in
+    reached-last _ _ _ _ _ _ _ (s .loop .inv) (omega arith)
 
 pub collect-spec : {M : Type 1} → statement M
 collect-spec =

@@ -17,7 +17,9 @@ same-length-2 : tie.Need-same-length-2
 same-length-2 c = search needs
 
 returns : tie.Need-returns
-returns c = let k = c .before .before .before in line-found _ _ _ _ _ _ (k .before .before .first .ensures) (k .collect .ensures) (c .if1 .taken)
+returns c =
+    let k = c .before .before .before in
+    line-found _ _ _ _ _ _ (k .before .before .first .ensures) (k .collect .ensures) (c .if1 .taken)
 
 read-on-requires : tie.Need-read-on-requires
 read-on-requires c κs = search needs
@@ -29,7 +31,10 @@ same-length-4 : tie.Need-same-length-4
 same-length-4 c = search needs
 
 returns-2 : tie.Need-returns-2
-returns-2 c = let d = c .before .before .before .before .before .before .before in let k = d .before .before .before in line-not-there _ _ _ _ _ _ (k .before .before .first .ensures) (k .collect .ensures) (d .if1 .left) _ _ _
+returns-2 c =
+    let d = c .before .before .before .before .before .before .before in
+    let k = d .before .before .before in
+    line-not-there _ _ _ _ _ _ (k .before .before .first .ensures) (k .collect .ensures) (d .if1 .left) _ _ _
 
 pub next-line-spec : {M : Type 1} → statement M
 next-line-spec =

@@ -1,14 +1,14 @@
 -- `lines::collecting::read_on` is safe and ends. What is written keeps its length; the measure is the number of turns that are left. Assumes nothing.
 use borrow.Author.Needs.{needs}
 use native.Mathlib.Omega.{arith}
-use Prim.Native.Nat.{ℕ, _+_, _-_, _*_, _^_, _≤_, _<_}
-use mathlib.Core.Path.{_≡_, refl, sym, ap, subst, _∙_}
+use mathlib.Core.Path.{_≡_}
 use lib.ListN.{length}
 use Rattle.lines.proofs.collecting.read_on.Statement.{statement}
 use Rattle.lines.proofs.collecting.read_on.Tie as tie
 
 abbrev Inv-loop : tie.InvT-loop
-Inv-loop block₀ line₀ held s₀ turns₀ block line s turns = (length block ≡ length block₀) × (length line ≡ length line₀)
+Inv-loop block₀ line₀ held s₀ turns₀ block line s turns =
+    (length block ≡ length block₀) × (length line ≡ length line₀)
 
 abbrev μ-loop : tie.MeasureT-loop
 μ-loop block₀ line₀ held s₀ turns₀ block line s turns = turns

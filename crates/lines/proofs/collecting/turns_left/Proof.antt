@@ -6,7 +6,11 @@ use Rattle.lines.proofs.collecting.turns_left.Statement.{statement}
 use Rattle.lines.proofs.collecting.turns_left.Tie as tie
 
 returns : tie.Need-returns
-returns c = record { is = turns-none (c .before .args .turns) (c .before .args .on) (c .if1 .taken); less = λ h. absurd (omega arith) }
+returns c =
+    record {
+      is = turns-none (c .before .args .turns) (c .before .args .on) (c .if1 .taken);
+      less = λ h. absurd (omega arith);
+    }
 
 sub-result : tie.Need-sub-result
 sub-result c = search needs

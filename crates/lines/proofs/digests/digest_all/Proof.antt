@@ -1,9 +1,9 @@
 -- `lines::digests::digest_all` meets its contract. The invariant: the rest mixed into what is mixed is all of it. Assumes nothing.
 use borrow.Author.Needs.{needs}
 use native.Mathlib.Omega.{arith}
-use Prim.Native.Nat.{ℕ, _+_, _-_, _*_, _^_, _≤_, _<_}
-use mathlib.Core.Path.{_≡_, refl, sym, ap, subst, _∙_}
-use lib.ListN.{length, take, drop, getD}
+use Prim.Native.Nat.{_-_, _≤_}
+use mathlib.Core.Path.{_≡_, refl, sym, _∙_}
+use lib.ListN.{length, drop}
 use Rattle.lines.specs.Digests.{mixedAll}
 use Rattle.lines.proofs.Mixes.{mixed-on, mixed-end}
 use Rattle.lines.proofs.digests.digest_all.Statement.{statement}
@@ -34,10 +34,17 @@ loop-less : tie.Need-loop-less Inv-loop μ-loop
 loop-less c = search needs
 
 loop-again : tie.Need-loop-again Inv-loop μ-loop
-loop-again c = let s = c .before .before .before in (omega arith, rw (c .digest-step .ensures) (sym (mixed-on (s .loop .d) (s .before .before .args .words .now) (s .loop .i) (omega arith)) ∙ s .loop .inv .1))
+loop-again c =
+    let s = c .before .before .before in (
+      omega arith,
+      rw (c .digest-step .ensures) (sym (mixed-on (s .loop .d) (s .before .before .args .words .now) (s .loop .i) (omega arith)) ∙ s .loop .inv .1),
+    )
 
 returns : tie.Need-returns Inv-loop μ-loop
-returns c = let s = c .before in sym (mixed-end (s .loop .d) (s .before .before .args .words .now) (s .loop .i) (omega arith)) ∙ s .loop .inv .1
+returns c =
+    let s = c .before in
+    sym (mixed-end (s .loop .d) (s .before .before .args .words .now) (s .loop .i) (omega arith))
+    ∙ s .loop .inv .1
 
 pub digest-all-spec : {M : Type 1} → statement M
 digest-all-spec =

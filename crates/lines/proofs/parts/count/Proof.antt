@@ -1,11 +1,11 @@
 -- `lines::parts::count` meets its contract. The invariant: what is counted and the parts of the rest are one more than the parts of the line. Assumes nothing.
 use borrow.Author.Needs.{needs}
 use native.Mathlib.Omega.{arith}
-use Prim.Native.Nat.{ℕ, _+_, _-_, _*_, _^_, _≤_, _<_}
-use mathlib.Core.Path.{_≡_, refl, sym, ap, subst, _∙_}
-use lib.ListN.{length, take, drop, getD}
+use Prim.Native.Nat.{_+_, _-_, _≤_}
+use mathlib.Core.Path.{_≡_}
+use lib.ListN.{length, drop}
 use Rattle.lines.proofs.Scans.{count-space, count-other, count-end}
-use Rattle.lines.specs.Parts.{countOf, space}
+use Rattle.lines.specs.Parts.{countOf}
 use Rattle.lines.proofs.parts.count.Statement.{statement}
 use Rattle.lines.proofs.parts.count.Tie as tie
 
@@ -31,16 +31,22 @@ loop-less : tie.Need-loop-less Inv-loop μ-loop
 loop-less c = search needs
 
 loop-again : tie.Need-loop-again Inv-loop μ-loop
-loop-again c = let s = c .before .before .before in omega (arith, count-space (s .before .args .line .now) (s .loop .i) (omega arith) (c .if1 .taken))
+loop-again c =
+    let s = c .before .before .before in
+    omega (arith, count-space (s .before .args .line .now) (s .loop .i) (omega arith) (c .if1 .taken))
 
 loop-less-2 : tie.Need-loop-less-2 Inv-loop μ-loop
 loop-less-2 c = search needs
 
 loop-again-2 : tie.Need-loop-again-2 Inv-loop μ-loop
-loop-again-2 c = let s = c .before .before .before in omega (arith, count-other (s .before .args .line .now) (s .loop .i) (omega arith) (c .if1 .left))
+loop-again-2 c =
+    let s = c .before .before .before in
+    omega (arith, count-other (s .before .args .line .now) (s .loop .i) (omega arith) (c .if1 .left))
 
 returns : tie.Need-returns Inv-loop μ-loop
-returns c = let s = c .before in omega (arith, count-end (s .before .args .line .now) (s .loop .i) (omega arith))
+returns c =
+    let s = c .before in
+    omega (arith, count-end (s .before .args .line .now) (s .loop .i) (omega arith))
 
 pub count-spec : {M : Type 1} → statement M
 count-spec =

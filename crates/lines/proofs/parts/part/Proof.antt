@@ -1,5 +1,4 @@
 -- `lines::parts::part` meets its contract. Assumes nothing.
-use native.Mathlib.Omega.{arith}
 use Rattle.lines.proofs.Scans.{part-is}
 use borrow.Author.Needs.{needs}
 use Rattle.lines.proofs.parts.part.Statement.{statement}

@@ -1,6 +1,6 @@
 -- `sketch_trace::calls::call_lent` keeps the words within the table. Assumes nothing.
 use native.Mathlib.Omega.{arith}
-use mathlib.Core.Path.{_≡_, refl, sym, ap, subst, _∙_}
+use mathlib.Core.Path.{sym}
 use lib.Seq.{length-take-le}
 use borrow.Author.Needs.{needs}
 use Rattle.sketch_trace.proofs.calls.call_lent.Statement.{statement}
