@@ -48,28 +48,28 @@ module _ (h t l c n p o e : List ℕ) where
   both-lent r q z i y = record { sound = λ j. record { deques = z .sound (not-false r i); nodes = y .sound j }; complete = λ x. y .complete (x .nodes) }
 
 -- ---- the cursor
-module _ (cursors home : List ℕ) (d : ℕ) where
-  pub at-none : getD cursors d 0 ≡ none → StandsOk cursors home d true
+module _ (c : ℕ) (home : List ℕ) (d : ℕ) where
+  pub at-none : c ≡ none → StandsOk c home d true
   at-none e = record { sound = λ _. inl e; complete = λ _. refl }
 
-  pub past : getD cursors d 0 ≡ pastEnd → StandsOk cursors home d true
+  pub past : c ≡ pastEnd → StandsOk c home d true
   past e = record { sound = λ _. inr (inl e); complete = λ _. refl }
 
-  pub off : (getD cursors d 0 ≡ none → ⊥) → (getD cursors d 0 ≡ pastEnd → ⊥) → length home ≤ getD cursors d 0 → StandsOk cursors home d false
+  pub off : (c ≡ none → ⊥) → (c ≡ pastEnd → ⊥) → length home ≤ c → StandsOk c home d false
   off n m l =
       record {
         sound = λ e. absurd (false≢true e);
-        complete = λ w. absurd (⊎-elim n (λ u. ⊎-elim m (λ (k : (getD cursors d 0 < length home) × (getD home (getD cursors d 0) 0 ≡ d)). omega (arith, k .0, l)) u) w);
+        complete = λ w. absurd (⊎-elim n (λ u. ⊎-elim m (λ (k : (c < length home) × (getD home c 0 ≡ d)). omega (arith, k .0, l)) u) w);
       }
 
-  pub on-node : (getD cursors d 0 ≡ none → ⊥) → (getD cursors d 0 ≡ pastEnd → ⊥) → getD cursors d 0 < length home → StandsOk cursors home d (eqb (getD home (getD cursors d 0) 0) d)
+  pub on-node : (c ≡ none → ⊥) → (c ≡ pastEnd → ⊥) → c < length home → StandsOk c home d (eqb (getD home c 0) d)
   on-node n m l =
       record {
-        sound = λ e. inr (inr (l, eqb-true (getD home (getD cursors d 0) 0) d e));
+        sound = λ e. inr (inr (l, eqb-true (getD home c 0) d e));
         complete = λ w.
             ⊎-elim
             (λ e. absurd (n e))
-            (λ u. ⊎-elim (λ e. absurd (m e)) (λ (k : (getD cursors d 0 < length home) × (getD home (getD cursors d 0) 0 ≡ d)). eq-eqb (getD home (getD cursors d 0) 0) d (k .1)) u)
+            (λ u. ⊎-elim (λ e. absurd (m e)) (λ (k : (c < length home) × (getD home c 0 ≡ d)). eq-eqb (getD home c 0) d (k .1)) u)
             w;
       }
 
@@ -80,7 +80,7 @@ pub record Seen (a : State) (d total : ℕ) : Type 0 where
   pub lent : Lent a
   pub walked : Upto (a .links) d total
   pub lengths : (i : ℕ) → i < d → (free : ℕ) (w : Whole (a .links) free) → getD (a .lens) i 0 ≡ length (deq (w .v) i)
-  pub stand : (i : ℕ) → i < d → StandsBy (a .cursors) (a .links .home) i
+  pub stand : (i : ℕ) → i < d → StandsBy (getD (a .cursors) i 0) (a .links .home) i
 
 module _ (a : State) where
   sizes : Lent a → Sizes (a .links)
@@ -98,7 +98,7 @@ module _ (a : State) where
       let l = z .sound (not-false r e) in
       record { lent = l; walked = begin (a .links) (sizes l); lengths = λ i j. absurd (omega (arith, j)); stand = λ i j. absurd (omega (arith, j)) }
 
-  pub goes : (d total c : ℕ) (r : Bool) → Seen a d total → d < deques a → Walked (a .links) d c → c ≤ none → getD (a .lens) d 0 ≡ c → StandsOk (a .cursors) (a .links .home) d r → not r ≡ false → Seen a (d + 1) (total + c)
+  pub goes : (d total c : ℕ) (r : Bool) → Seen a d total → d < deques a → Walked (a .links) d c → c ≤ none → getD (a .lens) d 0 ≡ c → StandsOk (getD (a .cursors) d 0) (a .links .home) d r → not r ≡ false → Seen a (d + 1) (total + c)
   goes d total c r s h w l e k n =
       record {
         lent = s .lent;
@@ -130,7 +130,7 @@ module _ (a : State) where
         let u = sound-shows a free z in
         n (u .lengths d h ∙ walk-counts (a .links) free d c h w l (shows-whole a free _ u)))
 
-    pub bad-cursor : (d total : ℕ) (r : Bool) → Seen a d total → d < deques a → StandsOk (a .cursors) (a .links .home) d r → not r ≡ true → Judged a free false
+    pub bad-cursor : (d total : ℕ) (r : Bool) → Seen a d total → d < deques a → StandsOk (getD (a .cursors) d 0) (a .links .home) d r → not r ≡ true → Judged a free false
     bad-cursor d total r s h k n =
         nay (λ z.
         let u = sound-shows a free z in

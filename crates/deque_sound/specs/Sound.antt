@@ -57,10 +57,10 @@ pub record Judged (a : State) (free : ℕ) (r : Bool) : Type 0 where
   pub sound : r ≡ true → Sound a free
   pub complete : Sound a free → r ≡ true
 
--- the cursor of d stands at none, past the end, or at a node that names d
-abbrev pub StandsBy : List ℕ → List ℕ → ℕ → Type 0
-StandsBy cursors home d = let c = getD cursors d 0 in (c ≡ none) ⊎ (c ≡ pastEnd) ⊎ ((c < length home) × (getD home c 0 ≡ d))
+-- the cursor c of d stands at none, past the end, or at a node that names d
+abbrev pub StandsBy : ℕ → List ℕ → ℕ → Type 0
+StandsBy c home d = (c ≡ none) ⊎ (c ≡ pastEnd) ⊎ ((c < length home) × (getD home c 0 ≡ d))
 
-pub record StandsOk (cursors home : List ℕ) (d : ℕ) (r : Bool) : Type 0 where
-  pub sound : r ≡ true → StandsBy cursors home d
-  pub complete : StandsBy cursors home d → r ≡ true
+pub record StandsOk (c : ℕ) (home : List ℕ) (d : ℕ) (r : Bool) : Type 0 where
+  pub sound : r ≡ true → StandsBy c home d
+  pub complete : StandsBy c home d → r ≡ true

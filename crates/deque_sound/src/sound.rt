@@ -6,8 +6,8 @@ ghost use Rattle.deque_sound.specs.State.{state};
 ghost use Rattle.deque_sound.specs.Sound.{DequesOk, NodesOk, IsLent, StandsOk, Judged};
 use crate::NONE;
 use crate::PAST_END;
-use links::sound::walk;
-use links::sound::walk_free;
+use links::walk::walk;
+use links::walk::walk_free;
 
 // Whether the parallel slices have equal lengths, 1 to 256 for the deques and 1 to 4,096 for the nodes.
 pub fn lent(
@@ -68,12 +68,10 @@ fn lent_nodes(next: &[usize], prev: &[usize], home: &[usize], element: &[u64]) -
     element.len() == n
 }
 
-// Whether the cursor of the deque d stands at none, past the end, or at a node that names d.
-fn stands(cursors: &[usize], home: &[usize], d: usize) -> bool
-    requires { ⌜ d < length (now cursors) ⌝ }
-    ensures { λ r. ⌜ StandsOk (now (cursors .entry)) (now (home .entry)) d r ⌝ }
+// Whether the cursor c of the deque d stands at none, past the end, or at a node that names d.
+fn stands(c: usize, home: &[usize], d: usize) -> bool
+    ensures { λ r. ⌜ StandsOk c (now (home .entry)) d r ⌝ }
 {
-    let c = cursors[d];
     if c == NONE {
         return true;
     }
@@ -113,7 +111,7 @@ pub fn sound(
         if lens[d] != c {
             return false;
         }
-        if !stands(cursors, home, d) {
+        if !stands(cursors[d], home, d) {
             return false;
         }
         total += c;

@@ -187,13 +187,13 @@ pub fn front(
     requires { ⌜ DequeReady (state (now heads) (now tails) (now lens) (now cursors) (now next) (now prev) (now home) (now element)) free d ⌝ }
     ensures { λ r. ⌜ LooksFront (state (now (heads .entry)) (now (tails .entry)) (now (lens .entry)) (now (cursors .entry)) (now (next .entry)) (now (prev .entry)) (now (home .entry)) (now (element .entry))) d r ⌝ }
 {
-    let s = heads[d];
-    if next.len() <= s {
+    let x = heads[d];
+    if next.len() <= x {
         return Looked::Nothing;
     }
     Looked::Node {
-        slot: s,
-        element: element[s],
+        slot: x,
+        element: element[x],
     }
 }
 
@@ -213,13 +213,13 @@ pub fn back(
     requires { ⌜ DequeReady (state (now heads) (now tails) (now lens) (now cursors) (now next) (now prev) (now home) (now element)) free d ⌝ }
     ensures { λ r. ⌜ LooksBack (state (now (heads .entry)) (now (tails .entry)) (now (lens .entry)) (now (cursors .entry)) (now (next .entry)) (now (prev .entry)) (now (home .entry)) (now (element .entry))) d r ⌝ }
 {
-    let s = tails[d];
-    if next.len() <= s {
+    let x = tails[d];
+    if next.len() <= x {
         return Looked::Nothing;
     }
     Looked::Node {
-        slot: s,
-        element: element[s],
+        slot: x,
+        element: element[x],
     }
 }
 

@@ -37,6 +37,12 @@ shared-slice-read-if3 c = search needs
 returns-3 : tie.Need-returns-3 Inv-loop μ-loop
 returns-3 c = search exits
 
+mul-stands : tie.Need-mul-stands Inv-loop μ-loop
+mul-stands c = search needs
+
+shared-slice-read-stands : tie.Need-shared-slice-read-stands Inv-loop μ-loop
+shared-slice-read-stands c = search needs
+
 stands-requires : tie.Need-stands-requires Inv-loop μ-loop
 stands-requires c κs = search needs
 
@@ -81,6 +87,8 @@ sound-spec =
     mul-if3
     shared-slice-read-if3
     returns-3
+    mul-stands
+    shared-slice-read-stands
     stands-requires
     returns-4
     add-total

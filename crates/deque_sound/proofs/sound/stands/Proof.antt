@@ -4,12 +4,6 @@ use borrow.Author.Needs.{needs}
 use Rattle.deque_sound.proofs.sound.stands.Statement.{statement}
 use Rattle.deque_sound.proofs.sound.stands.Tie as tie
 
-mul-c : tie.Need-mul-c
-mul-c c = search needs
-
-shared-slice-read-c : tie.Need-shared-slice-read-c
-shared-slice-read-c c = search needs
-
 returns : tie.Need-returns
 returns c = search cursors
 
@@ -30,13 +24,4 @@ returns-4 c = search cursors
 
 pub stands-spec : {M : Type 1} → statement M
 stands-spec =
-    tie.close
-    (tie.spec
-    mul-c
-    shared-slice-read-c
-    returns
-    returns-2
-    returns-3
-    mul-result
-    shared-slice-read-result
-    returns-4)
+    tie.close (tie.spec returns returns-2 returns-3 mul-result shared-slice-read-result returns-4)

@@ -4,11 +4,11 @@ use borrow.Author.Needs.{needs}
 use Rattle.deque_work.proofs.unchecked.back.Statement.{statement}
 use Rattle.deque_work.proofs.unchecked.back.Tie as tie
 
-mul-s : tie.Need-mul-s
-mul-s c = search needs
+mul-x : tie.Need-mul-x
+mul-x c = search needs
 
-shared-slice-read-s : tie.Need-shared-slice-read-s
-shared-slice-read-s c = search needs
+shared-slice-read-x : tie.Need-shared-slice-read-x
+shared-slice-read-x c = search needs
 
 returns : tie.Need-returns
 returns c = search back-empty
@@ -24,4 +24,4 @@ returns-2 c = search back-does
 
 pub back-spec : {M : Type 1} → statement M
 back-spec =
-    tie.close (tie.spec mul-s shared-slice-read-s returns mul-t14 shared-slice-read-t17 returns-2)
+    tie.close (tie.spec mul-x shared-slice-read-x returns mul-t14 shared-slice-read-t17 returns-2)

@@ -3,8 +3,8 @@ use borrow.Author.Needs.{needs}
 use Prim.Native.Nat.{_-_}
 use lib.ListN.{length}
 use Rattle.links.proofs.WalkingFree.{GoingFree, start, goes, exits}
-use Rattle.links.proofs.sound.walk_free.Statement.{statement}
-use Rattle.links.proofs.sound.walk_free.Tie as tie
+use Rattle.links.proofs.walk.walk_free.Statement.{statement}
+use Rattle.links.proofs.walk.walk_free.Tie as tie
 
 abbrev Inv-loop : tie.InvT-loop
 Inv-loop next home free n x₀ k₀ x k = GoingFree next home free x k

@@ -4,8 +4,8 @@ use Prim.Native.Nat.{_-_}
 use lib.ListN.{length}
 use Rattle.links.specs.Lists.{links}
 use Rattle.links.proofs.Walking.{Going, start, goes, exits}
-use Rattle.links.proofs.sound.walk.Statement.{statement}
-use Rattle.links.proofs.sound.walk.Tie as tie
+use Rattle.links.proofs.walk.walk.Statement.{statement}
+use Rattle.links.proofs.walk.walk.Tie as tie
 
 abbrev Inv-loop : tie.InvT-loop
 Inv-loop heads tails next prev home d n b₀ x₀ k₀ b x k = Going (links heads tails next prev home) d b x k
