@@ -182,9 +182,6 @@ module _ (a : State) where
 
 -- what the walks ask
 module _ (h t l c n p o e : List ℕ) where
-  pub asks-walk : (d total : ℕ) → Seen (state h t l c n p o e) d total → d < length h → Sizes (links h t n p o) × (d < length h)
-  asks-walk d total s i = (sizes (state h t l c n p o e) (s .lent), i)
-
   pub asks-free : (d total : ℕ) → Seen (state h t l c n p o e) d total → SizesFree n o
   asks-free d total s = record { home-len = s .lent .nodes .home-len; small = s .lent .nodes .small }
 

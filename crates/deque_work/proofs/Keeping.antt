@@ -110,7 +110,6 @@ module _ (a : State) (free : ℕ) (v : Lists) (t : Shows a free v) where
   -- ---- the cursor moved on from a node of its deque stands
   pub on-stands : (d s : ℕ) → d < v .count → In s (deq v d) → (movedOn (a .links .next) s ≡ pastEnd) ⊎ (In (movedOn (a .links .next) s) (deq v d) × (movedOn (a .links .next) s ≡ s → ⊥))
   on-stands d s h m =
-      let q : ℕ = getD (a .links .next) s 0 in
       let e : getD (a .links .next) s 0 ≡ following s (deq v d) = next-is (a .links) v [] r d h s m in
       ⊎-elim
       (λ (k : getD (a .links .next) s 0 ≡ none). inl (simp (eq-eqb (getD (a .links .next) s 0) none k)))
@@ -151,7 +150,6 @@ module _ (a : State) (free : ℕ) (v : Lists) (t : Shows a free v) where
 
     pub released-shows : Shows (released a free d s) s (freed s (takeOut d s v))
     released-shows =
-        let b : Links = cutOut (a .links) s in
         let q : Rep (handBack (cutOut (a .links) s) s free) (freed s (takeOut d s v)) [] =
         give-rep (cutOut (a .links) s .heads) (cutOut (a .links) s .tails) (cutOut (a .links) s .next) (cutOut (a .links) s .prev) (cutOut (a .links) s .home) (takeOut d s v) [] s free none cut-r (t .free-is) in
         record {
