@@ -10,22 +10,23 @@ use borrow.Author.Tests.{not-true, not-false}
 use Rattle.links.specs.Chain.{none, first, upFrom}
 use Rattle.links.specs.Lists.{Links, links}
 use Rattle.links.specs.Layout.{Sizes, LaysOut, fresh}
-use Rattle.deque.specs.State.{State, state, deques, nodes, Lent}
-use Rattle.deque.specs.Sound.{IsLent}
-use Rattle.deque.specs.Step.{nextOf, frontOf, backOf, lengthOf, elementOf, made, pushed, released, popped, movedBack, withCursor, stepped}
-use Rattle.deque.specs.Answer.{Told, refused, nothing, values}
-use Rattle.deque.specs.Refuse.{RefusesDeque, RefusesPush, RefusesNode}
-use Rattle.deque.specs.Work.{DequeReady, Pushes, Drops, Moves, Pops, LooksFront, LooksBack, Steps, Clears}
+use Rattle.deque_sound.specs.State.{State, state, deques, nodes, Lent}
+use Rattle.deque_sound.specs.Sound.{IsLent}
+use Rattle.deque_work.specs.Step.{nextOf, frontOf, backOf, lengthOf, elementOf, made, pushed, released, popped, movedBack, withCursor, stepped}
+use Rattle.deque_work.specs.Answer.{Told, refused, nothing, values}
+use Rattle.deque_sound.specs.Refuse.{RefusesDeque, RefusesPush, RefusesNode}
+use Rattle.deque_sound.specs.Ready.{DequeReady}
+use Rattle.deque_work.specs.Work.{Pushes, Drops, Moves, Pops, LooksFront, LooksBack, Steps, Clears}
 use Rattle.deque.specs.Calls.{Meets, Make, PushBack, PopFront, LookFront, LookBack, MoveToBack, UnlinkAndDrop, LengthIs, NextByCursor, ResetCursor}
-use Rattle.deque.specs.declared.answer.Made.the-variants.{First, Refused as MadeRefused}
-use Rattle.deque.specs.declared.answer.Pushed.the-variants.{At, Refused as PushedRefused}
-use Rattle.deque.specs.declared.answer.Popped.{Popped}
-use Rattle.deque.specs.declared.answer.Popped.the-variants.{Refused as PoppedRefused}
-use Rattle.deque.specs.declared.answer.Looked.{Looked}
-use Rattle.deque.specs.declared.answer.Looked.the-variants.{Refused as LookedRefused}
-use Rattle.deque.specs.declared.answer.Dropped.the-variants.{Element, Refused as DroppedRefused}
-use Rattle.deque.specs.declared.answer.Counted.the-variants.{Length, Refused as CountedRefused}
-use Rattle.deque.specs.declared.answer.Done.the-variants.{Done as Did, Refused as DoneRefused}
+use Rattle.deque_work.specs.declared.answer.Made.the-variants.{First, Refused as MadeRefused}
+use Rattle.deque_work.specs.declared.answer.Pushed.the-variants.{At, Refused as PushedRefused}
+use Rattle.deque_work.specs.declared.answer.Popped.{Popped}
+use Rattle.deque_work.specs.declared.answer.Popped.the-variants.{Refused as PoppedRefused}
+use Rattle.deque_work.specs.declared.answer.Looked.{Looked}
+use Rattle.deque_work.specs.declared.answer.Looked.the-variants.{Refused as LookedRefused}
+use Rattle.deque_work.specs.declared.answer.Dropped.the-variants.{Element, Refused as DroppedRefused}
+use Rattle.deque_work.specs.declared.answer.Counted.the-variants.{Length, Refused as CountedRefused}
+use Rattle.deque_work.specs.declared.answer.Done.the-variants.{Done as Did, Refused as DoneRefused}
 
 -- a refusal by a number that is not 0, and a result by 0
 no : (rows : ℕ → Type 0) (a after : State) (then : Told) (k : ℕ) → rows k → (k ≡ 0 → ⊥) → Meets rows a a (refused k) after then

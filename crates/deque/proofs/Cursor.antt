@@ -14,17 +14,17 @@ use Rattle.links.specs.Lists.{Lists, homeOf, deq}
 use Rattle.links.proofs.Slots.{same?}
 use Rattle.links.proofs.Members.{in-home, home-in}
 use Rattle.links.proofs.Reading.{head-is, tail-is, next-is}
-use Rattle.deque.specs.State.{State, deques, nodes, Shows, pastEnd}
-use Rattle.deque.specs.Sound.{Sound}
-use Rattle.deque.specs.Step.{frontOf, backOf, lengthOf, cursorOf, elementOf, movedOn, stepOff, cursorNode, released, movedBack, shifted, withCursor, stepped}
-use Rattle.deque.specs.Answer.{Told, refused, nothing, values, lookedTold, countedTold, lookTold, nextTold}
-use Rattle.deque.specs.Refuse.{dequeRows}
+use Rattle.deque_sound.specs.State.{State, deques, nodes, Shows, pastEnd}
+use Rattle.deque_sound.specs.Sound.{Sound}
+use Rattle.deque_work.specs.Step.{frontOf, backOf, lengthOf, cursorOf, elementOf, movedOn, stepOff, cursorNode, released, movedBack, shifted, withCursor, stepped}
+use Rattle.deque_work.specs.Answer.{Told, refused, nothing, values, lookedTold, countedTold, lookTold, nextTold}
+use Rattle.deque_sound.specs.Refuse.{dequeRows}
 use Rattle.deque.specs.Calls.{Meets, LookFront, LookBack, LengthIs, NextByCursor, UnlinkAndDrop, MoveToBack}
 use Rattle.deque.specs.History.{moveOn}
-use Rattle.deque.specs.declared.answer.Looked.{Looked}
-use Rattle.deque.specs.declared.answer.Counted.{Counted}
-use Rattle.deque.proofs.Sounding.{shows-sound}
-use Rattle.deque.proofs.Keeping.{in-cursors, stepped-shows}
+use Rattle.deque_work.specs.declared.answer.Looked.{Looked}
+use Rattle.deque_work.specs.declared.answer.Counted.{Counted}
+use Rattle.deque_sound.proofs.Sounding.{shows-sound}
+use Rattle.deque_work.proofs.Keeping.{in-cursors, stepped-shows}
 
 -- on a sound state a deque that exists is not refused
 answers : (a b after : State) (free d : ℕ) (v : Lists) (t then : Told) → Shows a free v → d < v .count → Meets (dequeRows a free d) a b t after then → (t ≡ then) × (b ≡ after)

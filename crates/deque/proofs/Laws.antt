@@ -16,30 +16,30 @@ use Rattle.links.proofs.Slots.{same?, in-same, some-first, first-in, remove-fir
 use Rattle.links.proofs.Members.{in-home, home-in}
 use Rattle.links.proofs.Swap.{slot-real}
 use Rattle.links.proofs.Reading.{head-is, tail-is, next-is}
-use Rattle.deque.specs.State.{State, deques, nodes, Lent, Shows, Stands, pastEnd}
-use Rattle.deque.specs.Sound.{Sound}
-use Rattle.deque.specs.Step.{nextOf, frontOf, backOf, lengthOf, cursorOf, elementOf, movedOn, cursorNode, made, pushed, released, popped, movedBack, withCursor, stepped}
-use Rattle.deque.specs.Answer.{Told, refused, nothing, values, madeTold, pushedTold, poppedTold, lookedTold, droppedTold, countedTold, doneTold, lookTold, popTold, nextTold}
-use Rattle.deque.specs.Refuse.{unless, answered, makeRows, dequeRows, pushRows, nodeRows, InDeque}
-use Rattle.deque.specs.Work.{toBack}
+use Rattle.deque_sound.specs.State.{State, deques, nodes, Lent, Shows, Stands, pastEnd}
+use Rattle.deque_sound.specs.Sound.{Sound}
+use Rattle.deque_work.specs.Step.{nextOf, frontOf, backOf, lengthOf, cursorOf, elementOf, movedOn, cursorNode, made, pushed, released, popped, movedBack, withCursor, stepped}
+use Rattle.deque_work.specs.Answer.{Told, refused, nothing, values, madeTold, pushedTold, poppedTold, lookedTold, droppedTold, countedTold, doneTold, lookTold, popTold, nextTold}
+use Rattle.deque_sound.specs.Refuse.{unless, answered, makeRows, dequeRows, pushRows, nodeRows, InDeque}
+use Rattle.deque_work.specs.Work.{toBack}
 use Rattle.deque.specs.Calls.{Meets, Make, PushBack, PopFront, LookFront, LookBack, MoveToBack, UnlinkAndDrop, LengthIs, NextByCursor, ResetCursor}
 use Rattle.deque.specs.History.{pushedFree, poppedFree, droppedFree, moveOn}
-use Rattle.deque.specs.declared.answer.Made.{Made}
-use Rattle.deque.specs.declared.answer.Made.the-variants.{First, Refused as MadeRefused}
-use Rattle.deque.specs.declared.answer.Pushed.{Pushed}
-use Rattle.deque.specs.declared.answer.Pushed.the-variants.{At, Refused as PushedRefused}
-use Rattle.deque.specs.declared.answer.Popped.{Popped}
-use Rattle.deque.specs.declared.answer.Popped.the-variants.{Node as PoppedNode, Nothing as PoppedNothing, Refused as PoppedRefused}
-use Rattle.deque.specs.declared.answer.Looked.{Looked}
-use Rattle.deque.specs.declared.answer.Dropped.{Dropped}
-use Rattle.deque.specs.declared.answer.Dropped.the-variants.{Element, Refused as DroppedRefused}
-use Rattle.deque.specs.declared.answer.Counted.{Counted}
-use Rattle.deque.specs.declared.answer.Done.{Done}
-use Rattle.deque.specs.declared.answer.Done.the-variants.{Done as Did, Refused as DoneRefused}
-use Rattle.deque.proofs.Sounding.{shows-sound, sound-shows, shows-unique}
-use Rattle.deque.specs.Work.{DequeReady, PushReady, NodeReady}
-use Rattle.deque.proofs.Refusing.{deque-ready, push-ready, node-ready}
-use Rattle.deque.proofs.Keeping.{made-shows, pushed-shows, released-shows, moved-shows, stepped-shows, reset-shows, front-in, start-stands}
+use Rattle.deque_work.specs.declared.answer.Made.{Made}
+use Rattle.deque_work.specs.declared.answer.Made.the-variants.{First, Refused as MadeRefused}
+use Rattle.deque_work.specs.declared.answer.Pushed.{Pushed}
+use Rattle.deque_work.specs.declared.answer.Pushed.the-variants.{At, Refused as PushedRefused}
+use Rattle.deque_work.specs.declared.answer.Popped.{Popped}
+use Rattle.deque_work.specs.declared.answer.Popped.the-variants.{Node as PoppedNode, Nothing as PoppedNothing, Refused as PoppedRefused}
+use Rattle.deque_work.specs.declared.answer.Looked.{Looked}
+use Rattle.deque_work.specs.declared.answer.Dropped.{Dropped}
+use Rattle.deque_work.specs.declared.answer.Dropped.the-variants.{Element, Refused as DroppedRefused}
+use Rattle.deque_work.specs.declared.answer.Counted.{Counted}
+use Rattle.deque_work.specs.declared.answer.Done.{Done}
+use Rattle.deque_work.specs.declared.answer.Done.the-variants.{Done as Did, Refused as DoneRefused}
+use Rattle.deque_sound.proofs.Sounding.{shows-sound, sound-shows, shows-unique}
+use Rattle.deque_sound.specs.Ready.{DequeReady, PushReady, NodeReady}
+use Rattle.deque_sound.proofs.Refusing.{deque-ready, push-ready, node-ready}
+use Rattle.deque_work.proofs.Keeping.{made-shows, pushed-shows, released-shows, moved-shows, stepped-shows, reset-shows, front-in, start-stands}
 
 -- ---- on a sound state the rows after 4 decide, and 4 is not among them
 module _ (a : State) (free : ℕ) (s : Sound a free) where

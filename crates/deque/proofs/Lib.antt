@@ -1,10 +1,4 @@
--- The laws of the deque.
-pub mod Sounding
-pub mod Judging
-pub mod Keeping
-pub mod Refusing
-pub mod Working
-pub mod Clearing
+-- The theorems on the public calls: Coincide, Laws, Cursor and Kept.
 pub mod Calling
 pub mod Coincide
 pub mod Laws

@@ -3,17 +3,17 @@ use Prim.Native.Nat.{ℕ}
 use mathlib.Core.Path.{_≡_}
 use mathlib.Core.List.{List, [], _∷_}
 use Rattle.links.specs.Chain.{none, first, upFrom}
-use Rattle.deque.specs.State.{State, nodes}
-use Rattle.deque.specs.Step.{nextOf, frontOf, backOf, lengthOf, elementOf, made, pushed, released, popped, movedBack, withCursor, stepped}
-use Rattle.deque.specs.Answer.{Told, refused, nothing, values, madeTold, pushedTold, poppedTold, lookedTold, droppedTold, countedTold, doneTold, lookTold, popTold, nextTold}
-use Rattle.deque.specs.Refuse.{makeRows, dequeRows, pushRows, nodeRows}
-use Rattle.deque.specs.declared.answer.Made.{Made}
-use Rattle.deque.specs.declared.answer.Pushed.{Pushed}
-use Rattle.deque.specs.declared.answer.Popped.{Popped}
-use Rattle.deque.specs.declared.answer.Looked.{Looked}
-use Rattle.deque.specs.declared.answer.Dropped.{Dropped}
-use Rattle.deque.specs.declared.answer.Counted.{Counted}
-use Rattle.deque.specs.declared.answer.Done.{Done}
+use Rattle.deque_sound.specs.State.{State, nodes}
+use Rattle.deque_work.specs.Step.{nextOf, frontOf, backOf, lengthOf, elementOf, made, pushed, released, popped, movedBack, withCursor, stepped}
+use Rattle.deque_work.specs.Answer.{Told, refused, nothing, values, madeTold, pushedTold, poppedTold, lookedTold, droppedTold, countedTold, doneTold, lookTold, popTold, nextTold}
+use Rattle.deque_sound.specs.Refuse.{makeRows, dequeRows, pushRows, nodeRows}
+use Rattle.deque_work.specs.declared.answer.Made.{Made}
+use Rattle.deque_work.specs.declared.answer.Pushed.{Pushed}
+use Rattle.deque_work.specs.declared.answer.Popped.{Popped}
+use Rattle.deque_work.specs.declared.answer.Looked.{Looked}
+use Rattle.deque_work.specs.declared.answer.Dropped.{Dropped}
+use Rattle.deque_work.specs.declared.answer.Counted.{Counted}
+use Rattle.deque_work.specs.declared.answer.Done.{Done}
 
 -- The rows give a number. Where it is not 0 the answer is that refusal and every record is as before; where it is 0 the answer is `then` and the records are `after`.
 pub record Meets (rows : ℕ → Type 0) (a b : State) (answer : Told) (after : State) (then : Told) : Type 0 where

@@ -1,9 +1,3 @@
--- What the contracts of the deque cite.
-pub mod State
-pub mod Sound
-pub mod Step
-pub mod Answer
-pub mod Work
-pub mod Refuse
+-- What the contracts of the public calls cite.
 pub mod Calls
 pub mod History

@@ -1,5 +1,5 @@
 // The public calls: refusals in order, then the work. None asks anything of its input. A refused call leaves every record as found.
-ghost use Rattle.deque.specs.State.{state};
+ghost use Rattle.deque_sound.specs.State.{state};
 ghost use Rattle.deque.specs.Calls.{Make, PushBack, PopFront, LookFront, LookBack, MoveToBack, UnlinkAndDrop, LengthIs, NextByCursor, ResetCursor};
 use crate::NONE;
 use crate::answer::Counted;
@@ -9,19 +9,19 @@ use crate::answer::Looked;
 use crate::answer::Made;
 use crate::answer::Popped;
 use crate::answer::Pushed;
-use crate::layout::clear;
-use crate::layout::zero;
-use crate::refuse::deque_refusal;
-use crate::refuse::node_refusal;
-use crate::refuse::push_refusal;
-use crate::sound::lent;
-use crate::unchecked::back;
-use crate::unchecked::front;
-use crate::unchecked::pop;
-use crate::unchecked::push;
-use crate::unchecked::release;
-use crate::unchecked::shift;
-use crate::unchecked::step;
+use deque_sound::refuse::deque_refusal;
+use deque_sound::refuse::node_refusal;
+use deque_sound::refuse::push_refusal;
+use deque_sound::sound::lent;
+use deque_work::layout::clear;
+use deque_work::layout::zero;
+use deque_work::unchecked::back;
+use deque_work::unchecked::front;
+use deque_work::unchecked::pop;
+use deque_work::unchecked::push;
+use deque_work::unchecked::release;
+use deque_work::unchecked::shift;
+use deque_work::unchecked::step;
 use links::layout::lay_out;
 
 // Makes heads.len() empty deques over next.len() free nodes, whatever the records held. Answers the first free node, or refuses (3).

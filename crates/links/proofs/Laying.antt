@@ -50,10 +50,6 @@ empty-ends h₀ t₀ h t d e l k =
     }
 
 -- ---- string: the slots from s on are free, each followed by the one above it
--- the slot that follows x among n
-abbrev above : ℕ → ℕ → ℕ
-above n x = first (upFrom (n - suc x) (suc x))
-
 first-same : (k k′ i i′ : ℕ) → k ≡ k′ → i ≡ i′ → first (upFrom k i) ≡ first (upFrom k′ i′)
 first-same k k′ i i′ p q = rw (p, q) refl
 
@@ -122,7 +118,6 @@ nexts-at (suc k) i (suc j) l =
 
 pub string-ends : (n₀ p₀ o₀ n p o : List ℕ) (s free : ℕ) → (length p₀ ≡ length n₀) × (length o₀ ≡ length n₀) → s ≤ 0 → Strung n₀ p₀ o₀ n p o s free → Strings n₀ n p o free
 string-ends n₀ p₀ o₀ n p o s free e l k =
-    let c : ℕ = length n₀ in
     record {
       next-is =
           ext-getD 0 n (nexts (upFrom (length n₀) 0)) (k .next-len ∙ sym (length-nexts (upFrom (length n₀) 0) ∙ length-up (length n₀) 0))

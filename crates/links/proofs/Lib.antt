@@ -1,4 +1,4 @@
--- The laws of links. A layer above cites Members, Unique, Counts, Reading, Turning and, for tests of its own, Walking, WalkingFree and Judging.
+-- The laws of links. A layer above cites Members, Unique, Counting, Reading, TurnRule, the -rep laws of Linking, Cutting, Turning, Freeing and Laying, and for a test of its own Judging.
 pub mod Slots
 pub mod Chains
 pub mod Arrays

@@ -62,9 +62,6 @@ module _ (a b : Links) (v : Lists) (loose loose′ : List ℕ) (d s : ℕ) (xs :
   off-d : (e : ℕ) → (e ≡ d → ⊥) → deq (withDeque d xs v) e ≡ deq v e
   off-d e n = getD-set-other (v .held) d e xs [] n
 
-  none-is : none ≡ none
-  none-is = refl
-
   linked-e : (e : ℕ) → e < v .count → (e ≡ d → ⊥) → Chain none (step (b .heads) (b .next) e) (step (b .tails) (b .prev) e) none (deq v e)
   linked-e e h n =
       agree none (step (a .heads) (a .next) e) (step (a .tails) (a .prev) e) _ _ none (deq v e)

@@ -169,14 +169,12 @@ module _ (d s : ℕ) (loose : List ℕ) where
       rw (goes k a d s (not-last a v [] w ws r hd e), stops k (frontToBack a d) d s t) f
   walks (u ∷ us) (suc k) a v w ws l r hd e =
       let f = front-done a v loose d r hd u (us ++ (s ∷ w ∷ ws)) e in
-      let v′ : Lists = withDeque d ((us ++ (s ∷ w ∷ ws)) ++ (u ∷ [])) v in
       let e′ : deq (withDeque d ((us ++ (s ∷ w ∷ ws)) ++ (u ∷ [])) v) d ≡ us ++ (s ∷ w ∷ (ws ++ (u ∷ []))) =
       deq-at d ((us ++ (s ∷ w ∷ ws)) ++ (u ∷ [])) v (rw (r .held-len) hd) ∙ append-assoc us (s ∷ w ∷ ws) (u ∷ []) in
       let g = walks us k (frontToBack a d) (withDeque d ((us ++ (s ∷ w ∷ ws)) ++ (u ∷ [])) v) w (ws ++ (u ∷ [])) (omega (arith, l)) (f .0) hd e′ in
       let same : withDeque d ((w ∷ (ws ++ (u ∷ []))) ++ (us ++ (s ∷ []))) (withDeque d ((us ++ (s ∷ w ∷ ws)) ++ (u ∷ [])) v) ≡ withDeque d ((w ∷ ws) ++ ((u ∷ us) ++ (s ∷ []))) v =
       deq-twice d ((us ++ (s ∷ w ∷ ws)) ++ (u ∷ [])) ((w ∷ (ws ++ (u ∷ []))) ++ (us ++ (s ∷ []))) v
       ∙ ap (λ (xs : List ℕ). withDeque d (w ∷ xs) v) (append-assoc ws (u ∷ []) (us ++ (s ∷ []))) in
-      let b : Links = untilLast k (frontToBack a d) d s in
       rw (goes k a d s (not-last a v (u ∷ us) w ws r hd e)) (
         subst (λ (x : Lists). Rep (untilLast k (frontToBack a d) d s) x loose) same (g .0),
         kept-both a (frontToBack a d) (untilLast k (frontToBack a d) d s) d (f .0 .next-len ∙ sym (r .next-len)) (f .0 .prev-len ∙ sym (r .prev-len)) (f .1) (g .1),

@@ -57,7 +57,6 @@ module _ (f g f′ g′ : ℕ → ℕ) (s q : ℕ)
       (f-s, g-none)
   ring (u ∷ us) ws real o c =
       let p = parts none f g u us s (q ∷ ws) (c .2) in
-      let tail : List ℕ = s ∷ q ∷ ws in
       let os : Once (s ∷ q ∷ ws) = once-right (u ∷ us) (s ∷ q ∷ ws) o in
       joined none f′ g′ q ws u (us ++ (s ∷ []))
       (subst (λ (z : ℕ). Chain z f′ g′ q ws) (c .0) (back-part ws (λ x m. real x (app-right (u ∷ us) (s ∷ q ∷ ws) x (inr m))) (os .0) (os .1) (p .1 .2)))

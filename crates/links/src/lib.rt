@@ -5,6 +5,7 @@ pub mod free; // take a free slot, give one back
 pub mod layout; // all deques empty, all slots free
 pub mod read; // the ends of a deque, the slot after a slot, the deque of a slot
 pub mod sound; // the test of links and free chain; assumes nothing
+pub mod walk; // how many slots a deque and the free chain have, for tests
 
 // No slot: one past the last that may be lent.
 pub const NONE: usize = 4096;

@@ -1,6 +1,6 @@
 -- `length_of` meets its promise. Assumes nothing.
 use Rattle.deque.proofs.Calling.{length-no, length-yes}
-use Rattle.deque.proofs.Refusing.{lens-index, lens-bytes}
+use Rattle.deque_sound.proofs.Refusing.{lens-index, lens-bytes}
 use borrow.Author.Needs.{needs}
 use Rattle.deque.proofs.calls.length_of.Statement.{statement}
 use Rattle.deque.proofs.calls.length_of.Tie as tie

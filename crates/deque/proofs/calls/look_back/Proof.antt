@@ -1,6 +1,6 @@
 -- `look_back` meets its promise. Assumes nothing.
 use Rattle.deque.proofs.Calling.{back-no, back-yes}
-use Rattle.deque.proofs.Refusing.{deque-ready}
+use Rattle.deque_sound.proofs.Refusing.{deque-ready}
 use borrow.Author.Needs.{needs}
 use Rattle.deque.proofs.calls.look_back.Statement.{statement}
 use Rattle.deque.proofs.calls.look_back.Tie as tie

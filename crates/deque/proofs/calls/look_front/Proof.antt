@@ -1,6 +1,6 @@
 -- `look_front` meets its promise. Assumes nothing.
 use Rattle.deque.proofs.Calling.{front-no, front-yes}
-use Rattle.deque.proofs.Refusing.{deque-ready}
+use Rattle.deque_sound.proofs.Refusing.{deque-ready}
 use borrow.Author.Needs.{needs}
 use Rattle.deque.proofs.calls.look_front.Statement.{statement}
 use Rattle.deque.proofs.calls.look_front.Tie as tie

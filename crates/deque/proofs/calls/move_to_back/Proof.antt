@@ -1,6 +1,6 @@
 -- `move_to_back` meets its promise. Assumes nothing.
 use Rattle.deque.proofs.Calling.{move-no, move-yes}
-use Rattle.deque.proofs.Refusing.{node-ready}
+use Rattle.deque_sound.proofs.Refusing.{node-ready}
 use borrow.Author.Needs.{needs}
 use Rattle.deque.proofs.calls.move_to_back.Statement.{statement}
 use Rattle.deque.proofs.calls.move_to_back.Tie as tie

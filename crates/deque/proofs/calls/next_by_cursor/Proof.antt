@@ -1,6 +1,6 @@
 -- `next_by_cursor` meets its promise. Assumes nothing.
 use Rattle.deque.proofs.Calling.{next-no, next-yes}
-use Rattle.deque.proofs.Refusing.{deque-ready}
+use Rattle.deque_sound.proofs.Refusing.{deque-ready}
 use borrow.Author.Needs.{needs}
 use Rattle.deque.proofs.calls.next_by_cursor.Statement.{statement}
 use Rattle.deque.proofs.calls.next_by_cursor.Tie as tie

@@ -1,6 +1,6 @@
 -- `pop_front` meets its promise. Assumes nothing.
 use Rattle.deque.proofs.Calling.{pop-no, pop-yes}
-use Rattle.deque.proofs.Refusing.{deque-ready}
+use Rattle.deque_sound.proofs.Refusing.{deque-ready}
 use borrow.Author.Needs.{needs}
 use Rattle.deque.proofs.calls.pop_front.Statement.{statement}
 use Rattle.deque.proofs.calls.pop_front.Tie as tie

@@ -1,6 +1,6 @@
 -- `push_back` meets its promise. Assumes nothing.
 use Rattle.deque.proofs.Calling.{push-no, push-yes}
-use Rattle.deque.proofs.Refusing.{push-ready}
+use Rattle.deque_sound.proofs.Refusing.{push-ready}
 use borrow.Author.Needs.{needs}
 use Rattle.deque.proofs.calls.push_back.Statement.{statement}
 use Rattle.deque.proofs.calls.push_back.Tie as tie

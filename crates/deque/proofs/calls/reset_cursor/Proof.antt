@@ -1,6 +1,6 @@
 -- `reset_cursor` meets its promise. Assumes nothing.
 use Rattle.deque.proofs.Calling.{reset-no, reset-yes}
-use Rattle.deque.proofs.Refusing.{cursor-index, cursor-bytes}
+use Rattle.deque_sound.proofs.Refusing.{cursor-index, cursor-bytes}
 use borrow.Author.Needs.{needs}
 use Rattle.deque.proofs.calls.reset_cursor.Statement.{statement}
 use Rattle.deque.proofs.calls.reset_cursor.Tie as tie

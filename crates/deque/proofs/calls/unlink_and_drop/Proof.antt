@@ -1,6 +1,6 @@
 -- `unlink_and_drop` meets its promise. Assumes nothing.
 use Rattle.deque.proofs.Calling.{drop-no, drop-yes}
-use Rattle.deque.proofs.Refusing.{node-ready}
+use Rattle.deque_sound.proofs.Refusing.{node-ready}
 use borrow.Author.Needs.{needs}
 use Rattle.deque.proofs.calls.unlink_and_drop.Statement.{statement}
 use Rattle.deque.proofs.calls.unlink_and_drop.Tie as tie

@@ -1,0 +1,4 @@
+-- What the contracts of the unchecked work cite.
+pub mod Step
+pub mod Answer
+pub mod Work
