@@ -1,4 +1,4 @@
-// Unchecked: the parts of making that the links do not lay out.
+// For proved code only, unchecked: the parts of making that the links do not lay out.
 ghost use mathlib.Core.Path.{_≡_};
 ghost use lib.ListN.{length, replicate};
 ghost use Rattle.deque_work.specs.Work.{Clears};

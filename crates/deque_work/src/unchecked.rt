@@ -1,4 +1,4 @@
-// Unchecked: the work of the calls on records known to be sound, for proved code only. A caller shows that the records are sound (or tests it once).
+// For proved code only, unchecked: the work of the calls on records known to be sound, for proved code only. A caller shows that the records are sound (or tests it once).
 ghost use Prim.Native.Nat.{_<_};
 ghost use mathlib.Core.Path.{_≡_};
 ghost use lib.ListN.{length};

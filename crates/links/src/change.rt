@@ -1,4 +1,4 @@
-// Unchecked: link at the back, unlink, turn until a member is last. Each takes constant time.
+// For proved code only, unchecked: link at the back, unlink, turn until a member is last. Each takes constant time.
 ghost use Rattle.links.specs.Lists.{links};
 ghost use Rattle.links.specs.Change.{CanPut, Puts, Linkable, LinksBack, Held, CutsOut, Movable, MovesBack, HeldBy, Turns};
 use crate::NONE;

@@ -1,4 +1,4 @@
-// Unchecked: the free slots, a chain by next. The last one given back is the first one taken.
+// For proved code only, unchecked: the free slots, a chain by next. The last one given back is the first one taken.
 ghost use Prim.Native.Nat.{_<_};
 ghost use lib.ListN.{length};
 ghost use Rattle.links.specs.Free.{Takes, GivesBack};

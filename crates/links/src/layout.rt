@@ -1,4 +1,4 @@
-// Unchecked: lays the records out, whatever they held.
+// For proved code only, unchecked: lays the records out, whatever they held.
 ghost use Rattle.links.specs.Lists.{links};
 ghost use Rattle.links.specs.Layout.{Sizes, LaysOut, Empties, Strings};
 ghost use mathlib.Core.Path.{_≡_};

@@ -1,4 +1,4 @@
-// Unchecked: what may be read off the records, with what it means for whatever lists they stand for.
+// For proved code only, unchecked: what may be read off the records, with what it means for whatever lists they stand for.
 ghost use Prim.Native.Nat.{_<_};
 ghost use lib.ListN.{length};
 ghost use Rattle.links.specs.Read.{Front, Back, Follows, HomeIs};
