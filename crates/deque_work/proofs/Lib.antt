@@ -2,3 +2,4 @@
 pub mod Keeping
 pub mod Working
 pub mod Clearing
+pub mod Chaining
