@@ -30,11 +30,11 @@ pub fn request_of(line: &[u8]) -> Request {
     match lines::kind_of(line) {
         Kind::Silent => Request::Silent,
         Kind::Long => Request::Bad,
-        Kind::Call => request(line),
+        Kind::Call => four_parts(line),
     }
 }
 
-fn request(line: &[u8]) -> Request {
+fn four_parts(line: &[u8]) -> Request {
     if lines::count(line) != 4 {
         return Request::Bad;
     }
