@@ -64,6 +64,7 @@ fn run(
     let mut turns = u64::MAX;
     while turns > 0 {
         input = advance(block, line, out, input);
+        turns = left_after(turns, input.open);
         let request = held_request(line, input);
         let reply = answer(
             heads,
@@ -78,7 +79,6 @@ fn run(
         );
         let waiting = say(out, input.waiting, reply);
         input = answered(input, waiting);
-        turns = left_after(turns, input.open);
     }
     lines::flush(out, input.waiting);
 }

@@ -71,6 +71,7 @@ fn run(
     let mut turns = u64::MAX;
     while turns > 0 {
         input = advance(block, line, out, input);
+        turns = left_after(turns, input.open);
         let step = respond(
             heads,
             tails,
@@ -88,7 +89,6 @@ fn run(
         let after = step.state;
         s = after;
         input = answered(input, step.waiting);
-        turns = left_after(turns, input.open);
     }
     lines::flush(out, input.waiting);
 }

@@ -24,14 +24,14 @@ loop-holds c = search needs
 advance-requires : tie.Need-advance-requires Inv-loop μ-loop
 advance-requires c κs = search needs
 
+left-after-requires : tie.Need-left-after-requires Inv-loop μ-loop
+left-after-requires c κs = search needs
+
 respond-requires : tie.Need-respond-requires Inv-loop μ-loop
 respond-requires c κs = search needs
 
 answered-requires : tie.Need-answered-requires Inv-loop μ-loop
 answered-requires c κs = search needs
-
-left-after-requires : tie.Need-left-after-requires Inv-loop μ-loop
-left-after-requires c κs = search needs
 
 loop-less : tie.Need-loop-less Inv-loop μ-loop
 loop-less c = search needs
@@ -55,9 +55,9 @@ run-spec =
     unread-requires
     loop-holds
     advance-requires
+    left-after-requires
     respond-requires
     answered-requires
-    left-after-requires
     loop-less
     loop-again
     flush-requires
