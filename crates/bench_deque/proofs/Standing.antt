@@ -1,5 +1,6 @@
 -- The records stay those of one deque: what each call of the workloads asks, and what it leaves. Assumes nothing.
-use Prim.Native.Nat.{ℕ, _≤_, _<_}
+use Prim.Native.Nat.{ℕ, _≤_, _<_, _%_}
+use native.Mathlib.Nat.{mod-lt}
 use native.Mathlib.Omega.{arith}
 use mathlib.Core.Path.{_≡_, refl, sym, ap, subst, _∙_}
 use mathlib.Core.Logic.{_⊎_, inl, inr, ⊎-elim}
@@ -8,7 +9,7 @@ use mathlib.Core.List.{List, [], _∷_}
 use lib.ListN.{length, getD}
 use lib.Dec.{eqb}
 use borrow.Author.Tests.{eq-eqb, ne-eqb}
-use Rattle.links.specs.Chain.{none, In, first}
+use Rattle.links.specs.Chain.{none, In, first, rest}
 use Rattle.links.specs.Lists.{Lists, homeOf, deq}
 use Rattle.links.proofs.Slots.{same?}
 use Rattle.deque.specs.State.{State, nodes, deques, Shows}
@@ -21,9 +22,12 @@ use Rattle.deque.proofs.Sounding.{sound-shows}
 use Rattle.deque.specs.declared.answer.Popped.{Popped}
 use Rattle.deque.specs.declared.answer.Popped.the-variants.{Node, Nothing, Refused}
 use Rattle.deque.specs.declared.answer.Looked.{Looked}
-use Rattle.bench_deque.specs.Ready.{Ready, Full, Tested}
+use Rattle.bench_deque.specs.Ready.{Ready, Full, Lacks, Tested}
 
 module _ (a : State) (free : ℕ) where
+  pub not-tested : Tested a free false
+  not-tested = record { ready = λ t. let z : _≡_ {A = ℕ} 0 1 = cc in absurd (omega (arith, z)) }
+
   pub tested : (r : Bool) → Judged a free r → length (a .links .heads) ≡ 1 → Tested a free r
   tested r j o =
       record {
@@ -58,11 +62,22 @@ module _ (a : State) (free : ℕ) where
   moved-full b s y m = record { v = _; shows = m .does (y .v) (y .shows); one = y .one; none-free = y .none-free }
 
   -- the node that left is the one that is taken again
-  pub swap-asks : (b : State) (s r : ℕ) → Full a free → s < nodes a → Drops a b free 0 s r → PushReady b s 0
-  swap-asks b s r y h d = record { v = _; shows = d .does (y .v) (y .shows); slot = rw (y .shows .rep .next-len) at h; deque = omega (arith, y .one) }
+  pub dropped-lacks : (b : State) (s r : ℕ) → Full a free → s < nodes a → Drops a b free 0 s r → Lacks b s
+  dropped-lacks b s r y h d =
+      record { v = _; shows = d .does (y .v) (y .shows); one = y .one; slot = rw (y .shows .rep .next-len) at h; last = ap (λ (xs : List ℕ). s ∷ xs) (y .none-free) }
 
-  pub swapped-full : (b c : State) (s r e q : ℕ) → Full a free → Drops a b free 0 s r → Pushes b c s 0 e q → Full c q
-  swapped-full b c s r e q y d p = record { v = _; shows = p .does _ (d .does (y .v) (y .shows)); one = y .one; none-free = y .none-free }
+  pub retake-asks : Lacks a free → PushReady a free 0
+  retake-asks y = record { v = y .v; shows = y .shows; slot = y .slot; deque = omega (arith, y .one) }
+
+  pub retaken-full : (b : State) (e r : ℕ) → Lacks a free → Pushes a b free 0 e r → Full b r
+  retaken-full b e r y p = record { v = _; shows = p .does (y .v) (y .shows); one = y .one; none-free = ap rest (y .last) }
+
+  -- a number modulo the number of nodes is a node
+  pub mod-below : (x n : ℕ) → Full a free → nodes a ≡ n → x % n < nodes a
+  mod-below x n y i = rw i (mod-lt x (omega (arith, i, y .shows .lent .nodes .some)))
+
+  pub mod-node : (x n : ℕ) → Full a free → nodes a ≡ n → NodeReady a free 0 (x % n)
+  mod-node x n y i = node-asks (x % n) y (mod-below x n y i)
 
   -- where the first free node is no node, none is free
   none-left : (xs : List ℕ) → first xs ≡ free → ((x : ℕ) → In x xs → x < nodes a) → nodes a ≤ free → xs ≡ []
@@ -103,23 +118,27 @@ module _ (a : State) (free : ℕ) where
         subst (λ (x : State). Ready x (frontOf a 0)) (sym (p .is ∙ simp (ne-eqb (frontOf a 0) none k)))
         (record { v = _; shows = released-shows a free (y .v) (y .shows) 0 (frontOf a 0) (m .0) one-deque (m .1); one = y .one })
 
-  pub popped-none : (b : State) → Ready a free → Pops a b free 0 Nothing → Ready b free
-  popped-none b y p =
+  pub popped-none : (b : State) (r : Popped) → Ready a free → Pops a b free 0 r → r ≡ Nothing → Ready b free
+  popped-none b r y p i =
       ⊎-elim
-      (λ k. empty-ready b Nothing y p k)
-      (λ k. let t = front-told b Nothing y p k in let z : _≡_ {A = ℕ} 0 1 = cc in absurd (omega (arith, z)))
+      (λ k. empty-ready b r y p k)
+      (λ k. let t = front-told b r y p k in let u = ap poppedTold i in let z : _≡_ {A = ℕ} 0 1 = cc in absurd (omega (arith, z)))
       (same? (frontOf a 0) none)
 
-  pub popped-node : (b : State) (s e f : ℕ) → Ready a free → Pops a b free 0 (Node s e f) → Ready b f
-  popped-node b s e f y p =
+  pub popped-node : (b : State) (r : Popped) (s e f : ℕ) → Ready a free → Pops a b free 0 r → r ≡ Node s e f → Ready b f
+  popped-node b r s e f y p i =
       ⊎-elim
-      (λ k. let t = empty-told b (Node s e f) y p k in let z : _≡_ {A = ℕ} 0 1 = cc in absurd (omega (arith, z)))
-      (λ k. let t = front-told b (Node s e f) y p k in let i : frontOf a 0 ≡ f = cc in subst (λ (x : ℕ). Ready b x) i (front-ready b (Node s e f) y p k))
+      (λ k. let t = empty-told b r y p k in let u = ap poppedTold i in let z : _≡_ {A = ℕ} 0 1 = cc in absurd (omega (arith, z)))
+      (λ k.
+      let t = front-told b r y p k in
+      let u = ap poppedTold i in
+      let j : frontOf a 0 ≡ f = cc in
+      subst (λ (x : ℕ). Ready b x) j (front-ready b r y p k))
       (same? (frontOf a 0) none)
 
-  pub popped-no : (b : State) (k : ℕ) → Ready a free → Pops a b free 0 (Refused k) → Ready b free
-  popped-no b n y p =
+  pub popped-no : (b : State) (r : Popped) (n : ℕ) → Ready a free → Pops a b free 0 r → r ≡ Refused n → Ready b free
+  popped-no b r n y p i =
       ⊎-elim
-      (λ k. empty-ready b (Refused n) y p k)
-      (λ k. let t = front-told b (Refused n) y p k in let z : _≡_ {A = ℕ} 0 1 = cc in absurd (omega (arith, z)))
+      (λ k. empty-ready b r y p k)
+      (λ k. let t = front-told b r y p k in let u = ap poppedTold i in let z : _≡_ {A = ℕ} 0 1 = cc in absurd (omega (arith, z)))
       (same? (frontOf a 0) none)

@@ -148,7 +148,16 @@ fn perform(
     calls: u64,
     x: u64,
 ) -> Reply {
-    if next.len() < n || prev.len() < n || home.len() < n || element.len() < n {
+    if next.len() < n {
+        return Reply::Bad;
+    }
+    if prev.len() < n {
+        return Reply::Bad;
+    }
+    if home.len() < n {
+        return Reply::Bad;
+    }
+    if element.len() < n {
         return Reply::Bad;
     }
     let digest = digest_of(

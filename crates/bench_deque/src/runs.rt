@@ -43,6 +43,7 @@ pub fn fill(
     let mut x = first;
     let mut left = count;
     while left > 0 {
+        left -= 1;
         x = following(x);
         spare = push(
             heads,
@@ -56,7 +57,6 @@ pub fn fill(
             spare,
             x,
         );
-        left -= 1;
     }
     Filled { free: spare, x }
 }
@@ -82,6 +82,7 @@ pub fn queue(
     let mut x = first;
     let mut left = calls;
     while left > 0 {
+        left -= 1;
         x = following(x);
         let over = push_pop(
             heads,
@@ -97,7 +98,6 @@ pub fn queue(
         );
         spare = over.free;
         sum = std::num::wrapping_add_u64(sum, over.element);
-        left -= 1;
     }
     sum
 }
@@ -125,6 +125,7 @@ pub fn rotate(
     let mut x = first;
     let mut left = calls;
     while left > 0 {
+        left -= 1;
         x = following(x);
         unchecked::shift(
             heads,
@@ -139,7 +140,6 @@ pub fn rotate(
             0,
             (x % nodes) as usize,
         );
-        left -= 1;
     }
 }
 
@@ -167,6 +167,7 @@ pub fn drop_some(
     let mut x = first;
     let mut left = calls;
     while left > 0 {
+        left -= 1;
         x = following(x);
         spare = replace(
             heads,
@@ -181,7 +182,6 @@ pub fn drop_some(
             (x % nodes) as usize,
             x,
         );
-        left -= 1;
     }
 }
 
@@ -203,11 +203,11 @@ pub fn walk(
     let mut sum: u64 = 0;
     let mut left = calls;
     while left > 0 {
+        left -= 1;
         sum = std::num::wrapping_add_u64(
             sum,
             step(heads, tails, lens, cursors, next, prev, home, element, free),
         );
-        left -= 1;
     }
     sum
 }

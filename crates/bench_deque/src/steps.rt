@@ -2,7 +2,7 @@
 ghost use Prim.Native.Nat.{_<_};
 ghost use lib.ListN.{length};
 ghost use Rattle.deque.specs.State.{state};
-ghost use Rattle.bench_deque.specs.Ready.{Ready, Full};
+ghost use Rattle.bench_deque.specs.Ready.{Ready, Full, Lacks};
 use deque::answer::Looked;
 use deque::answer::Popped;
 use deque::unchecked;
@@ -145,6 +145,37 @@ pub fn replace(
     requires { ⌜ Full (state (now heads) (now tails) (now lens) (now cursors) (now next) (now prev) (now home) (now element)) free × (s < length (now next)) ⌝ }
     ensures { λ r. ⌜ Full (state (now (heads .exit)) (now (tails .exit)) (now (lens .exit)) (now (cursors .exit)) (now (next .exit)) (now (prev .exit)) (now (home .exit)) (now (element .exit))) r ⌝ }
 {
+    drop_node(
+        heads,
+        tails,
+        lens,
+        cursors,
+        next,
+        prev,
+        home,
+        element,
+        free,
+        s,
+    );
+    retake(heads, tails, lens, cursors, next, prev, home, element, s, x)
+}
+
+// Unlinks the node s of a full deque.
+fn drop_node(
+    heads: &mut [usize],
+    tails: &mut [usize],
+    lens: &mut [usize],
+    cursors: &mut [usize],
+    next: &mut [usize],
+    prev: &mut [usize],
+    home: &mut [usize],
+    element: &mut [u64],
+    free: usize,
+    s: usize,
+)
+    requires { ⌜ Full (state (now heads) (now tails) (now lens) (now cursors) (now next) (now prev) (now home) (now element)) free × (s < length (now next)) ⌝ }
+    ensures { λ r. ⌜ Lacks (state (now (heads .exit)) (now (tails .exit)) (now (lens .exit)) (now (cursors .exit)) (now (next .exit)) (now (prev .exit)) (now (home .exit)) (now (element .exit))) s ⌝ }
+{
     unchecked::release(
         heads,
         tails,
@@ -158,6 +189,24 @@ pub fn replace(
         0,
         s,
     );
+}
+
+// Pushes x, which takes the one free node s.
+fn retake(
+    heads: &mut [usize],
+    tails: &mut [usize],
+    lens: &mut [usize],
+    cursors: &[usize],
+    next: &mut [usize],
+    prev: &mut [usize],
+    home: &mut [usize],
+    element: &mut [u64],
+    s: usize,
+    x: u64,
+) -> usize
+    requires { ⌜ Lacks (state (now heads) (now tails) (now lens) (now cursors) (now next) (now prev) (now home) (now element)) s ⌝ }
+    ensures { λ r. ⌜ Full (state (now (heads .exit)) (now (tails .exit)) (now (lens .exit)) (now (cursors .entry)) (now (next .exit)) (now (prev .exit)) (now (home .exit)) (now (element .exit))) r ⌝ }
+{
     unchecked::push(
         heads,
         tails,

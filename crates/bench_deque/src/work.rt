@@ -34,23 +34,23 @@ pub fn digest_of(
     x: u64,
 ) -> u64 {
     let begun = begin(heads, tails, lens, cursors, next, prev, home, element);
-    if !begun.good {
-        return 0;
+    if begun.good {
+        return fill_and_run(
+            heads,
+            tails,
+            lens,
+            cursors,
+            next,
+            prev,
+            home,
+            element,
+            begun.free,
+            workload,
+            calls,
+            x,
+        );
     }
-    fill_and_run(
-        heads,
-        tails,
-        lens,
-        cursors,
-        next,
-        prev,
-        home,
-        element,
-        begun.free,
-        workload,
-        calls,
-        x,
-    )
+    0
 }
 
 // Makes the deques, and tests the records.
