@@ -3,26 +3,20 @@ use Prim.Native.Nat.{ℕ, _≤_, _<_, _%_}
 use native.Mathlib.Nat.{mod-lt}
 use native.Mathlib.Omega.{arith}
 use mathlib.Core.Path.{_≡_, refl, sym, ap, subst, _∙_}
-use mathlib.Core.Logic.{_⊎_, inl, inr, ⊎-elim}
-use mathlib.Core.Bool.{Bool, true, false, cond}
+use mathlib.Core.Logic.{inl, ⊎-elim}
+use mathlib.Core.Bool.{Bool, true, false, not}
 use mathlib.Core.List.{List, [], _∷_}
-use lib.ListN.{length, getD}
-use lib.Dec.{eqb}
-use borrow.Author.Tests.{eq-eqb, ne-eqb}
+use lib.ListN.{length}
 use Rattle.links.specs.Chain.{none, In, first, rest}
-use Rattle.links.specs.Lists.{Lists, homeOf, deq}
-use Rattle.links.proofs.Slots.{same?}
-use Rattle.deque.specs.State.{State, nodes, deques, Shows}
+use Rattle.links.specs.Lists.{homeOf}
+use Rattle.deque.specs.State.{State, state, nodes}
 use Rattle.deque.specs.Sound.{Judged}
-use Rattle.deque.specs.Step.{frontOf, released, popped, stepped}
-use Rattle.deque.specs.Answer.{Told, refused, nothing, values, poppedTold, popTold}
-use Rattle.deque.specs.Work.{DequeReady, PushReady, NodeReady, Pushes, Drops, Moves, Pops, Steps}
-use Rattle.deque.proofs.Keeping.{released-shows, stepped-shows, front-in}
+use Rattle.deque.specs.Step.{frontOf}
+use Rattle.deque.specs.Work.{DequeReady, PushReady, NodeReady, Pushes, Drops, Moves, Steps}
+use Rattle.deque.proofs.Keeping.{stepped-shows, front-in}
 use Rattle.deque.proofs.Sounding.{sound-shows}
-use Rattle.deque.specs.declared.answer.Popped.{Popped}
-use Rattle.deque.specs.declared.answer.Popped.the-variants.{Node, Nothing, Refused}
 use Rattle.deque.specs.declared.answer.Looked.{Looked}
-use Rattle.bench_deque.specs.Ready.{Ready, Full, Lacks, Tested}
+use Rattle.bench_deque.specs.Ready.{Ready, Leaves, Full, Lacks, Tested}
 
 module _ (a : State) (free : ℕ) where
   pub not-tested : Tested a free false
@@ -93,52 +87,28 @@ module _ (a : State) (free : ℕ) where
         none-free = none-left (y .v .free) (y .shows .free-is) (λ x i. rw (y .shows .rep .next-len) (y .shows .rep .spare x i .0)) h;
       }
 
-  pub full-ready : Full a free → Ready a free
-  full-ready y = record { v = y .v; shows = y .shows; one = y .one }
+  -- ---- the front leaves
+  pub front-asks : Ready a free → frontOf a 0 < nodes a → NodeReady a free 0 (frontOf a 0)
+  front-asks y h =
+      let one : 0 < y .v .count = omega (arith, y .one) in
+      let some : frontOf a 0 ≡ none → ⊥ = λ k. omega (arith, h, k, y .shows .rep .next-len, y .shows .rep .small) in
+      let m = y .shows .rep .member 0 (frontOf a 0) one (front-in a free (y .v) (y .shows) 0 one some) in
+      record { v = y .v; shows = y .shows; slot = m .0; deque = one; homed = m .1 }
 
-  -- ---- pop
-  module _ (b : State) (r : Popped) (y : Ready a free) (p : Pops a b free 0 r) where
-    one-deque : 0 < y .v .count
-    one-deque = omega (arith, y .one)
+  pub front-leaves : Ready a free → frontOf a 0 < nodes a → Leaves a free (frontOf a 0)
+  front-leaves y h = record { ready = y; node = front-asks y h }
 
-    -- from an empty deque nothing is taken
-    empty-told : frontOf a 0 ≡ none → poppedTold r ≡ nothing
-    empty-told k = p .told ∙ simp (eq-eqb (frontOf a 0) none k)
+  pub left-ready : (b : State) (s r : ℕ) → Leaves a free s → Drops a b free 0 s r → Ready b s
+  left-ready b s r y d = record { v = _; shows = d .does (y .ready .v) (y .ready .shows); one = y .ready .one }
 
-    empty-ready : frontOf a 0 ≡ none → Ready b free
-    empty-ready k = subst (λ (x : State). Ready x free) (sym (p .is ∙ simp (eq-eqb (frontOf a 0) none k))) y
+  pub leaves-node : (s : ℕ) → Leaves a free s → NodeReady a free 0 s
+  leaves-node s y = y .node
 
-    -- from another its front, which is the first free node then
-    front-told : (frontOf a 0 ≡ none → ⊥) → poppedTold r ≡ values (frontOf a 0 ∷ getD (a .elements) (frontOf a 0) 0 ∷ frontOf a 0 ∷ [])
-    front-told k = p .told ∙ simp (ne-eqb (frontOf a 0) none k)
+  -- ---- the test
+  pub tested-ready : (good : Bool) → Tested a free good → not good ≡ false → Ready a free
+  tested-ready true t i = t .ready refl
+  tested-ready false t i = let z : _≡_ {A = ℕ} 0 1 = cc in absurd (omega (arith, z))
 
-    front-ready : (frontOf a 0 ≡ none → ⊥) → Ready b (frontOf a 0)
-    front-ready k =
-        let m = y .shows .rep .member 0 (frontOf a 0) one-deque (front-in a free (y .v) (y .shows) 0 one-deque k) in
-        subst (λ (x : State). Ready x (frontOf a 0)) (sym (p .is ∙ simp (ne-eqb (frontOf a 0) none k)))
-        (record { v = _; shows = released-shows a free (y .v) (y .shows) 0 (frontOf a 0) (m .0) one-deque (m .1); one = y .one })
-
-  pub popped-none : (b : State) (r : Popped) → Ready a free → Pops a b free 0 r → r ≡ Nothing → Ready b free
-  popped-none b r y p i =
-      ⊎-elim
-      (λ k. empty-ready b r y p k)
-      (λ k. let t = front-told b r y p k in let u = ap poppedTold i in let z : _≡_ {A = ℕ} 0 1 = cc in absurd (omega (arith, z)))
-      (same? (frontOf a 0) none)
-
-  pub popped-node : (b : State) (r : Popped) (s e f : ℕ) → Ready a free → Pops a b free 0 r → r ≡ Node s e f → Ready b f
-  popped-node b r s e f y p i =
-      ⊎-elim
-      (λ k. let t = empty-told b r y p k in let u = ap poppedTold i in let z : _≡_ {A = ℕ} 0 1 = cc in absurd (omega (arith, z)))
-      (λ k.
-      let t = front-told b r y p k in
-      let u = ap poppedTold i in
-      let j : frontOf a 0 ≡ f = cc in
-      subst (λ (x : ℕ). Ready b x) j (front-ready b r y p k))
-      (same? (frontOf a 0) none)
-
-  pub popped-no : (b : State) (r : Popped) (n : ℕ) → Ready a free → Pops a b free 0 r → r ≡ Refused n → Ready b free
-  popped-no b r n y p i =
-      ⊎-elim
-      (λ k. empty-ready b r y p k)
-      (λ k. let t = front-told b r y p k in let u = ap poppedTold i in let z : _≡_ {A = ℕ} 0 1 = cc in absurd (omega (arith, z)))
-      (same? (frontOf a 0) none)
+-- a number modulo the number of nodes is a node
+pub below-mod : (h t l c n p o e : List ℕ) (free x m : ℕ) → Full (state h t l c n p o e) free → length n ≡ m → x % m < length n
+below-mod h t l c n p o e free x m y i = mod-below (state h t l c n p o e) free x m y i

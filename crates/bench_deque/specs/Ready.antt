@@ -5,12 +5,18 @@ use mathlib.Core.Bool.{Bool, true}
 use mathlib.Core.List.{[], _∷_}
 use Rattle.links.specs.Lists.{Lists}
 use Rattle.deque.specs.State.{State, Shows}
+use Rattle.deque.specs.Work.{NodeReady}
 
 -- the records are sound, and there is one deque
 pub record Ready (a : State) (free : ℕ) : Type 0 where
   pub v : Lists
   pub shows : Shows a free v
   pub one : v .count ≡ 1
+
+-- and s is a node of it, which may leave
+pub record Leaves (a : State) (free s : ℕ) : Type 0 where
+  pub ready : Ready a free
+  pub node : NodeReady a free 0 s
 
 -- and no node is free
 pub record Full (a : State) (free : ℕ) : Type 0 where

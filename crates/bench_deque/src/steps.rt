@@ -2,9 +2,8 @@
 ghost use Prim.Native.Nat.{_<_};
 ghost use lib.ListN.{length};
 ghost use Rattle.deque.specs.State.{state};
-ghost use Rattle.bench_deque.specs.Ready.{Ready, Full, Lacks};
+ghost use Rattle.bench_deque.specs.Ready.{Ready, Leaves, Full, Lacks};
 use deque::answer::Looked;
-use deque::answer::Popped;
 use deque::unchecked;
 
 // What a pop leaves: the first free node, and the element that was popped or 0.
@@ -47,7 +46,7 @@ pub fn push(
     )
 }
 
-// Pops.
+// Pops the front, if there is one.
 pub fn pop(
     heads: &mut [usize],
     tails: &mut [usize],
@@ -62,7 +61,45 @@ pub fn pop(
     requires { ⌜ Ready (state (now heads) (now tails) (now lens) (now cursors) (now next) (now prev) (now home) (now element)) free ⌝ }
     ensures { λ r. ⌜ Ready (state (now (heads .exit)) (now (tails .exit)) (now (lens .exit)) (now (cursors .exit)) (now (next .exit)) (now (prev .exit)) (now (home .exit)) (now (element .exit))) (r .free) ⌝ }
 {
-    match unchecked::pop(
+    let s = heads[0];
+    if next.len() <= s {
+        return Over { free, element: 0 };
+    }
+    let e = drop_one(
+        heads,
+        tails,
+        lens,
+        cursors,
+        next,
+        prev,
+        home,
+        element,
+        free,
+        s,
+    );
+    Over {
+        free: s,
+        element: e,
+    }
+}
+
+// Unlinks the node s, and answers its element.
+fn drop_one(
+    heads: &mut [usize],
+    tails: &mut [usize],
+    lens: &mut [usize],
+    cursors: &mut [usize],
+    next: &mut [usize],
+    prev: &mut [usize],
+    home: &mut [usize],
+    element: &mut [u64],
+    free: usize,
+    s: usize,
+) -> u64
+    requires { ⌜ Leaves (state (now heads) (now tails) (now lens) (now cursors) (now next) (now prev) (now home) (now element)) free s ⌝ }
+    ensures { λ r. ⌜ Ready (state (now (heads .exit)) (now (tails .exit)) (now (lens .exit)) (now (cursors .exit)) (now (next .exit)) (now (prev .exit)) (now (home .exit)) (now (element .exit))) s ⌝ }
+{
+    unchecked::release(
         heads,
         tails,
         lens,
@@ -73,18 +110,8 @@ pub fn pop(
         element,
         free,
         0,
-    ) {
-        Popped::Node {
-            slot: _,
-            element: e,
-            free: first,
-        } => Over {
-            free: first,
-            element: e,
-        },
-        Popped::Nothing => Over { free, element: 0 },
-        Popped::Refused(_) => Over { free, element: 0 },
-    }
+        s,
+    )
 }
 
 // Pushes x and pops.

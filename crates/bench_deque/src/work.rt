@@ -12,13 +12,6 @@ use deque::answer::Counted;
 use deque::answer::Made;
 use deque::calls;
 
-// What making and the test answer: whether the records are those of one deque, and the first free
-// node.
-struct Begun {
-    good: bool,
-    free: usize,
-}
-
 // Makes one deque over the nodes, fills it and runs the workload: its digest, or 0 where there is not one deque.
 pub fn digest_of(
     heads: &mut [usize],
@@ -33,28 +26,25 @@ pub fn digest_of(
     calls: u64,
     x: u64,
 ) -> u64 {
-    let begun = begin(heads, tails, lens, cursors, next, prev, home, element);
-    if begun.good {
-        return fill_and_run(
-            heads,
-            tails,
-            lens,
-            cursors,
-            next,
-            prev,
-            home,
-            element,
-            begun.free,
-            workload,
-            calls,
-            x,
-        );
-    }
-    0
+    let free = made(heads, tails, lens, cursors, next, prev, home, element);
+    run_tested(
+        heads,
+        tails,
+        lens,
+        cursors,
+        next,
+        prev,
+        home,
+        element,
+        free,
+        workload,
+        calls,
+        x,
+    )
 }
 
-// Makes the deques, and tests the records.
-fn begin(
+// Tests the records once, fills the deque and runs the workload.
+fn run_tested(
     heads: &mut [usize],
     tails: &mut [usize],
     lens: &mut [usize],
@@ -63,12 +53,28 @@ fn begin(
     prev: &mut [usize],
     home: &mut [usize],
     element: &mut [u64],
-) -> Begun
-    ensures { λ r. ⌜ Tested (state (now (heads .exit)) (now (tails .exit)) (now (lens .exit)) (now (cursors .exit)) (now (next .exit)) (now (prev .exit)) (now (home .exit)) (now (element .exit))) (r .free) (r .good) ⌝ }
-{
-    let free = made(heads, tails, lens, cursors, next, prev, home, element);
-    let good = test(heads, tails, lens, cursors, next, prev, home, element, free);
-    Begun { good, free }
+    free: usize,
+    workload: Workload,
+    calls: u64,
+    x: u64,
+) -> u64 {
+    if !test(heads, tails, lens, cursors, next, prev, home, element, free) {
+        return 0;
+    }
+    fill_and_run(
+        heads,
+        tails,
+        lens,
+        cursors,
+        next,
+        prev,
+        home,
+        element,
+        free,
+        workload,
+        calls,
+        x,
+    )
 }
 
 // The first free node once the deques are made.

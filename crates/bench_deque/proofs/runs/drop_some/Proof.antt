@@ -3,13 +3,13 @@ use mathlib.Core.Path.{_≡_}
 use lib.ListN.{length}
 use Rattle.deque.specs.State.{state}
 use Rattle.bench_deque.specs.Ready.{Full}
-use Rattle.bench_deque.proofs.Standing.{full-asks, mod-below}
+use Rattle.bench_deque.proofs.Standing.{full-asks, below-mod}
 use borrow.Author.Needs.{needs}
 use Rattle.bench_deque.proofs.runs.drop_some.Statement.{statement}
 use Rattle.bench_deque.proofs.runs.drop_some.Tie as tie
 
 abbrev Inv-loop : tie.InvT-loop
-Inv-loop heads₀ tails₀ lens₀ cursors₀ next₀ prev₀ home₀ element₀ free calls first nodes spare₀ x₀ left₀ heads tails lens cursors next prev home element spare x left = Full (state heads tails lens cursors next prev home element) spare × (length next ≡ nodes) × (length heads ≡ length heads₀) × (length tails ≡ length tails₀) × (length lens ≡ length lens₀) × (length cursors ≡ length cursors₀) × (length next ≡ length next₀) × (length prev ≡ length prev₀) × (length home ≡ length home₀) × (length element ≡ length element₀)
+Inv-loop heads₀ tails₀ lens₀ cursors₀ next₀ prev₀ home₀ element₀ free calls first nodes spare₀ x₀ left₀ heads tails lens cursors next prev home element spare x left = Full (state heads tails lens cursors next prev home element) spare × ((length next ≡ nodes) × (length heads ≡ length heads₀) × (length tails ≡ length tails₀) × (length lens ≡ length lens₀) × (length cursors ≡ length cursors₀) × (length next ≡ length next₀) × (length prev ≡ length prev₀) × (length home ≡ length home₀) × (length element ≡ length element₀))
 
 abbrev μ-loop : tie.MeasureT-loop
 μ-loop heads₀ tails₀ lens₀ cursors₀ next₀ prev₀ home₀ element₀ free calls first nodes spare₀ x₀ left₀ heads tails lens cursors next prev home element spare x left = left
@@ -30,13 +30,13 @@ rem-replace : tie.Need-rem-replace Inv-loop μ-loop
 rem-replace c = search needs
 
 replace-requires : tie.Need-replace-requires Inv-loop μ-loop
-replace-requires c κs = search (needs, mod-below)
+replace-requires c κs = (search needs, search below-mod)
 
 loop-less : tie.Need-loop-less Inv-loop μ-loop
 loop-less c = search needs
 
 loop-again : tie.Need-loop-again Inv-loop μ-loop
-loop-again c = search needs
+loop-again c = (search needs, search needs)
 
 same-length : tie.Need-same-length Inv-loop μ-loop
 same-length c = search needs

@@ -8,7 +8,7 @@ use Rattle.bench_deque.proofs.runs.queue.Statement.{statement}
 use Rattle.bench_deque.proofs.runs.queue.Tie as tie
 
 abbrev Inv-loop : tie.InvT-loop
-Inv-loop heads₀ tails₀ lens₀ cursors₀ next₀ prev₀ home₀ element₀ free calls first spare₀ sum₀ x₀ left₀ heads tails lens cursors next prev home element spare sum x left = Ready (state heads tails lens cursors next prev home element) spare × (length heads ≡ length heads₀) × (length tails ≡ length tails₀) × (length lens ≡ length lens₀) × (length cursors ≡ length cursors₀) × (length next ≡ length next₀) × (length prev ≡ length prev₀) × (length home ≡ length home₀) × (length element ≡ length element₀)
+Inv-loop heads₀ tails₀ lens₀ cursors₀ next₀ prev₀ home₀ element₀ free calls first spare₀ sum₀ x₀ left₀ heads tails lens cursors next prev home element spare sum x left = Ready (state heads tails lens cursors next prev home element) spare × ((length heads ≡ length heads₀) × (length tails ≡ length tails₀) × (length lens ≡ length lens₀) × (length cursors ≡ length cursors₀) × (length next ≡ length next₀) × (length prev ≡ length prev₀) × (length home ≡ length home₀) × (length element ≡ length element₀))
 
 abbrev μ-loop : tie.MeasureT-loop
 μ-loop heads₀ tails₀ lens₀ cursors₀ next₀ prev₀ home₀ element₀ free calls first spare₀ sum₀ x₀ left₀ heads tails lens cursors next prev home element spare sum x left = left
@@ -32,7 +32,7 @@ loop-less : tie.Need-loop-less Inv-loop μ-loop
 loop-less c = search needs
 
 loop-again : tie.Need-loop-again Inv-loop μ-loop
-loop-again c = search needs
+loop-again c = (search needs, search needs)
 
 same-length : tie.Need-same-length Inv-loop μ-loop
 same-length c = search needs

@@ -9,7 +9,7 @@ use Rattle.bench_deque.proofs.runs.rotate.Statement.{statement}
 use Rattle.bench_deque.proofs.runs.rotate.Tie as tie
 
 abbrev Inv-loop : tie.InvT-loop
-Inv-loop heads₀ tails₀ lens cursors₀ next₀ prev₀ home₀ element free calls first nodes x₀ left₀ heads tails cursors next prev home x left = Full (state heads tails lens cursors next prev home element) free × (length next ≡ nodes) × (length heads ≡ length heads₀) × (length tails ≡ length tails₀) × (length cursors ≡ length cursors₀) × (length next ≡ length next₀) × (length prev ≡ length prev₀) × (length home ≡ length home₀)
+Inv-loop heads₀ tails₀ lens cursors₀ next₀ prev₀ home₀ element free calls first nodes x₀ left₀ heads tails cursors next prev home x left = Full (state heads tails lens cursors next prev home element) free × ((length next ≡ nodes) × (length heads ≡ length heads₀) × (length tails ≡ length tails₀) × (length cursors ≡ length cursors₀) × (length next ≡ length next₀) × (length prev ≡ length prev₀) × (length home ≡ length home₀))
 
 abbrev μ-loop : tie.MeasureT-loop
 μ-loop heads₀ tails₀ lens cursors₀ next₀ prev₀ home₀ element free calls first nodes x₀ left₀ heads tails cursors next prev home x left = left
@@ -36,7 +36,7 @@ loop-less : tie.Need-loop-less Inv-loop μ-loop
 loop-less c = search needs
 
 loop-again : tie.Need-loop-again Inv-loop μ-loop
-loop-again c = search (needs, moved-full)
+loop-again c = (search moved-full, search needs)
 
 same-length : tie.Need-same-length Inv-loop μ-loop
 same-length c = search needs

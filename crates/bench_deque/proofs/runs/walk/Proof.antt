@@ -8,7 +8,7 @@ use Rattle.bench_deque.proofs.runs.walk.Statement.{statement}
 use Rattle.bench_deque.proofs.runs.walk.Tie as tie
 
 abbrev Inv-loop : tie.InvT-loop
-Inv-loop heads tails lens cursors₀ next prev home element free calls sum₀ left₀ cursors sum left = Ready (state heads tails lens cursors next prev home element) free × (length cursors ≡ length cursors₀)
+Inv-loop heads tails lens cursors₀ next prev home element free calls sum₀ left₀ cursors sum left = Ready (state heads tails lens cursors next prev home element) free × ((length cursors ≡ length cursors₀))
 
 abbrev μ-loop : tie.MeasureT-loop
 μ-loop heads tails lens cursors₀ next prev home element free calls sum₀ left₀ cursors sum left = left
@@ -29,7 +29,7 @@ loop-less : tie.Need-loop-less Inv-loop μ-loop
 loop-less c = search needs
 
 loop-again : tie.Need-loop-again Inv-loop μ-loop
-loop-again c = search needs
+loop-again c = (search needs, search needs)
 
 same-length : tie.Need-same-length Inv-loop μ-loop
 same-length c = search needs

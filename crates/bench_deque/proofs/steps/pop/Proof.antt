@@ -1,20 +1,17 @@
 -- `pop` keeps the records those of one deque. Assumes nothing.
+use Rattle.bench_deque.proofs.Standing.{front-leaves}
 use borrow.Author.Needs.{needs}
-use Rattle.bench_deque.proofs.Standing.{deque-asks, popped-node, popped-none, popped-no}
 use Rattle.bench_deque.proofs.steps.pop.Statement.{statement}
 use Rattle.bench_deque.proofs.steps.pop.Tie as tie
 
-pop-requires : tie.Need-pop-requires
-pop-requires c κs = search deque-asks
+slice-read-s : tie.Need-slice-read-s
+slice-read-s c = search needs
 
-enum-known-e : tie.Need-enum-known-e
-enum-known-e c = search needs
+returns : tie.Need-returns
+returns c = search needs
 
-enum-told : tie.Need-enum-told
-enum-told c = search needs
-
-enum-told-2 : tie.Need-enum-told-2
-enum-told-2 c = search needs
+drop-one-requires : tie.Need-drop-one-requires
+drop-one-requires c κs = search front-leaves
 
 same-length : tie.Need-same-length
 same-length c = search needs
@@ -40,71 +37,16 @@ same-length-7 c = search needs
 same-length-8 : tie.Need-same-length-8
 same-length-8 c = search needs
 
-returns : tie.Need-returns
-returns c = search popped-node
-
-same-length-9 : tie.Need-same-length-9
-same-length-9 c = search needs
-
-same-length-10 : tie.Need-same-length-10
-same-length-10 c = search needs
-
-same-length-11 : tie.Need-same-length-11
-same-length-11 c = search needs
-
-same-length-12 : tie.Need-same-length-12
-same-length-12 c = search needs
-
-same-length-13 : tie.Need-same-length-13
-same-length-13 c = search needs
-
-same-length-14 : tie.Need-same-length-14
-same-length-14 c = search needs
-
-same-length-15 : tie.Need-same-length-15
-same-length-15 c = search needs
-
-same-length-16 : tie.Need-same-length-16
-same-length-16 c = search needs
-
 returns-2 : tie.Need-returns-2
-returns-2 c = search popped-none
-
-same-length-17 : tie.Need-same-length-17
-same-length-17 c = search needs
-
-same-length-18 : tie.Need-same-length-18
-same-length-18 c = search needs
-
-same-length-19 : tie.Need-same-length-19
-same-length-19 c = search needs
-
-same-length-20 : tie.Need-same-length-20
-same-length-20 c = search needs
-
-same-length-21 : tie.Need-same-length-21
-same-length-21 c = search needs
-
-same-length-22 : tie.Need-same-length-22
-same-length-22 c = search needs
-
-same-length-23 : tie.Need-same-length-23
-same-length-23 c = search needs
-
-same-length-24 : tie.Need-same-length-24
-same-length-24 c = search needs
-
-returns-3 : tie.Need-returns-3
-returns-3 c = search popped-no
+returns-2 c = search needs
 
 pub pop-spec : {M : Type 1} → statement M
 pop-spec =
     tie.close
     (tie.spec
-    pop-requires
-    enum-known-e
-    enum-told
-    enum-told-2
+    slice-read-s
+    returns
+    drop-one-requires
     same-length
     same-length-2
     same-length-3
@@ -113,22 +55,4 @@ pop-spec =
     same-length-6
     same-length-7
     same-length-8
-    returns
-    same-length-9
-    same-length-10
-    same-length-11
-    same-length-12
-    same-length-13
-    same-length-14
-    same-length-15
-    same-length-16
-    returns-2
-    same-length-17
-    same-length-18
-    same-length-19
-    same-length-20
-    same-length-21
-    same-length-22
-    same-length-23
-    same-length-24
-    returns-3)
+    returns-2)
