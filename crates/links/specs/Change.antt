@@ -1,0 +1,104 @@
+-- Link at the back, unlink, turn: what each writes into the records, and what that means for the lists. Assumes nothing.
+use Prim.Native.Nat.{ℕ, _≤_, _<_}
+use mathlib.Core.Path.{_≡_}
+use mathlib.Core.Bool.{Bool, true, false, cond}
+use mathlib.Core.List.{List, [], _∷_}
+use lib.ListN.{length, getD, set}
+use lib.Dec.{eqb}
+use Rattle.links.specs.Chain.{none}
+use Rattle.links.specs.Lists.{Links, Lists, links, homeOf, deq, Rep, pushBack, takeOut, turn}
+
+-- ---- on the records
+-- the slot after p in the deque d is q: the head, where p is none (the list of next has no place for none, so there it stays)
+abbrev pub endAt : List ℕ → ℕ → ℕ → ℕ → List ℕ
+endAt ends d p q = cond (eqb p none) (set ends d q) ends
+
+pub record Puts (ends next ends′ next′ : List ℕ) (d p q : ℕ) : Type 0 where
+  pub ends-is : ends′ ≡ endAt ends d p q
+  pub next-is : next′ ≡ set next p q
+
+pub record CanPut (ends next : List ℕ) (d p : ℕ) : Type 0 where
+  pub deque : d < length ends
+  pub slot : (p ≡ none → ⊥) → p < length next
+  pub small : length next ≤ none
+
+-- s is linked at the back of the deque d, after the old tail
+abbrev pub linkBack : Links → ℕ → ℕ → Links
+linkBack a d s =
+    let t = getD (a .tails) d 0 in
+    links (endAt (a .heads) d t s) (set (a .tails) d s) (set (set (a .next) s none) t s) (set (a .prev) s t) (set (a .home) s d)
+
+-- s is taken out of its deque: what stood before it and what stood after it are neighbours now. Its own next and prev stay as they are
+abbrev pub cutOut : Links → ℕ → Links
+cutOut a s =
+    let d = homeOf a s in
+    let p = getD (a .prev) s 0 in
+    let q = getD (a .next) s 0 in
+    links (endAt (a .heads) d p q) (endAt (a .tails) d q p) (set (a .next) p q) (set (a .prev) q p) (set (a .home) s none)
+
+-- s is moved to the back of the deque d, from whichever deque it is in
+abbrev pub moveBack : Links → ℕ → ℕ → Links
+moveBack a d s = linkBack (cutOut a s) d s
+
+-- the deque d is turned until s is last, in one splice: the old tail is followed by the old head, and the slot after s is the head
+abbrev pub turnNow : Links → ℕ → ℕ → ℕ → Links
+turnNow a d s q =
+    let h = getD (a .heads) d 0 in
+    let t = getD (a .tails) d 0 in
+    links (set (a .heads) d q) (set (a .tails) d s) (set (set (a .next) t h) s none) (set (set (a .prev) h t) q none) (a .home)
+
+-- nothing is written where s is last already
+abbrev pub turnTo : Links → ℕ → ℕ → Links
+turnTo a d s = let q = getD (a .next) s 0 in cond (eqb q none) a (turnNow a d s q)
+
+-- ---- what the functions ask
+-- s is loose, and d is a deque
+pub record Linkable (a : Links) (d s : ℕ) : Type 0 where
+  pub v : Lists
+  pub loose : List ℕ
+  pub rep : Rep a v (s ∷ loose)
+  pub slot : s < v .slots
+  pub deque : d < v .count
+
+-- s is in a deque
+pub record Held (a : Links) (s : ℕ) : Type 0 where
+  pub v : Lists
+  pub loose : List ℕ
+  pub rep : Rep a v loose
+  pub slot : s < v .slots
+  pub homed : homeOf a s ≡ none → ⊥
+
+-- s is in a deque, and d is a deque
+pub record Movable (a : Links) (d s : ℕ) : Type 0 where
+  pub v : Lists
+  pub loose : List ℕ
+  pub rep : Rep a v loose
+  pub slot : s < v .slots
+  pub homed : homeOf a s ≡ none → ⊥
+  pub deque : d < v .count
+
+-- s is in the deque d
+pub record HeldBy (a : Links) (d s : ℕ) : Type 0 where
+  pub v : Lists
+  pub loose : List ℕ
+  pub rep : Rep a v loose
+  pub slot : s < v .slots
+  pub deque : d < v .count
+  pub homed : homeOf a s ≡ d
+
+-- ---- what the functions do
+pub record LinksBack (a b : Links) (d s : ℕ) : Type 0 where
+  pub is : b ≡ linkBack a d s
+  pub does : (v : Lists) (loose : List ℕ) → Rep a v (s ∷ loose) → Rep b (pushBack d s v) loose
+
+pub record CutsOut (a b : Links) (s : ℕ) : Type 0 where
+  pub is : b ≡ cutOut a s
+  pub does : (v : Lists) (loose : List ℕ) → Rep a v loose → Rep b (takeOut (homeOf a s) s v) (s ∷ loose)
+
+pub record MovesBack (a b : Links) (d s : ℕ) : Type 0 where
+  pub is : b ≡ moveBack a d s
+  pub does : (v : Lists) (loose : List ℕ) → Rep a v loose → Rep b (pushBack d s (takeOut (homeOf a s) s v)) loose
+
+pub record Turns (a b : Links) (d s : ℕ) : Type 0 where
+  pub is : b ≡ turnTo a d s
+  pub does : (v : Lists) (loose : List ℕ) → Rep a v loose → Rep b (turn d s v) loose
