@@ -1,0 +1,58 @@
+-- What is known when a call is not refused: each of its rows' tests failed. Assumes nothing.
+use Prim.Native.Nat.{ℕ, zero, suc, _≤_, _<_}
+use native.Mathlib.Omega.{arith}
+use mathlib.Core.Path.{_≡_, refl, sym, _∙_}
+use mathlib.Core.Bool.{Bool, true, false, cond, not}
+use mathlib.Core.List.{List, [], _∷_}
+use lib.Dec.{eqb, leb}
+use borrow.Author.Tests.{eqb-true, leb-false}
+use Rattle.rules.specs.Geometry.{Geometry}
+use Rattle.rules.specs.Lists.{Node, Lists}
+use Rattle.rules.specs.Wheel.{Advance, closed, poised, within, Wheel, Call, schedule, reschedule, deschedule}
+use Rattle.rules.specs.Refusals.{Row, pick, isOpen, isStale, rows, refusal}
+use Rattle.rules.proofs.Cases.{not-both}
+
+abbrev pub rest : List Row → List Row
+rest [] = []
+rest (t ∷ ts) = ts
+
+pub pass : (t : Bool) (k : ℕ) (ts : List Row) → pick ((t, suc k) ∷ ts) ≡ 0 → (t ≡ false) × (pick ts ≡ 0)
+pass true k ts i = absurd (omega arith)
+pass false k ts i = (refl, i)
+
+-- the calls that 5 refuses: the wheel is enabled, and no advance is open. (The row of 4 has the test false.)
+pub ready : (on busy : Bool) (ts : List Row) → pick ((not on, 1) ∷ (false, 4) ∷ (busy, 5) ∷ ts) ≡ 0 → (on ≡ true) × (busy ≡ false) × (pick ts ≡ 0)
+ready false busy ts z = absurd (omega arith)
+ready true true ts z = absurd (omega arith)
+ready true false ts z = (refl, refl, z)
+
+-- the calls that 6 refuses
+pub running : (on busy : Bool) → pick ((not on, 1) ∷ (false, 4) ∷ (not busy, 6) ∷ []) ≡ 0 → (on ≡ true) × (busy ≡ true)
+running false busy z = absurd (omega arith)
+running true false z = absurd (omega arith)
+running true true z = (refl, refl)
+
+-- no advance is open
+pub shut : (A : Advance) → isOpen A ≡ false → A ≡ closed
+shut closed i = refl
+shut (poised p bs) i = cc
+shut (within p c bs) i = cc
+
+-- ---- handles
+-- a handle that is not stale: its slot exists, is armed, and has its serial
+pub fresh : (w : Wheel) (x n : ℕ) → isStale w x n ≡ false → (x < w .nodes) × (w .lists .node x .armed ≡ true) × (w .lists .node x .serial ≡ n)
+fresh w x n i = go (leb (w .nodes) x) (w .lists .node x .armed) (eqb (w .lists .node x .serial) n) refl refl refl i
+  where
+    go : (r s t : Bool) → leb (w .nodes) x ≡ r → w .lists .node x .armed ≡ s → eqb (w .lists .node x .serial) n ≡ t → cond r true (cond s (not t) true) ≡ false
+        → (x < w .nodes) × (w .lists .node x .armed ≡ true) × (w .lists .node x .serial ≡ n)
+    go true s t a b c k = absurd (not-both (sym k))
+    go false true true a b c k = (leb-false (w .nodes) x a, b, eqb-true (w .lists .node x .serial) n c)
+    go false true false a b c k = absurd (not-both (sym k))
+    go false false t a b c k = absurd (not-both (sym k))
+
+-- reschedule, and deschedule, whose rows are the same
+pub handles : (g : Geometry) (w : Wheel) (y m j : ℕ) → refusal g w (reschedule y m j) ≡ 0 → (w .enabled ≡ true) × (isOpen (w .advance) ≡ false) × (isStale w y m ≡ false)
+handles g w y m j z =
+    let ts : List Row = (isStale w y m, 12) ∷ (not (eqb (w .lists .node y .generation) j), 13) ∷ [] in
+    let i = ready (w .enabled) (isOpen (w .advance)) ts z in
+    (i .0, i .1, pass (isStale w y m) 11 ((not (eqb (w .lists .node y .generation) j), 13) ∷ []) (i .2) .0)

@@ -1,0 +1,80 @@
+-- 01's worked numbers of the wheel: the table by one computed test, and the run examples of 01. Assumes nothing.
+use Prim.Native.Nat.{ℕ, _+_, _-_, _*_, _^_, _≤_, _<_}
+use native.Mathlib.Omega.{arith}
+use mathlib.Core.Path.{_≡_, refl}
+use mathlib.Core.Bool.{Bool, true}
+use mathlib.Core.Option.{Option, none, some}
+use mathlib.Core.List.{List, [], _∷_}
+use Rattle.rules.specs.Geometry.{wheel01, tick, shifts, counts, buckets}
+use Rattle.rules.specs.Wheel.{Call, create, enable, setEntry, schedule, reschedule, deschedule, start, pull, abandon, armedCount, nextDue, Answer, refused, ok, handle, removed, end, expired, rescheduled, number, due}
+use Rattle.rules.specs.Runs.{Run, answers, after, next}
+use Rattle.rules.specs.Demand3.{Demand3}
+use Rattle.rules.specs.Worked.{nothing, rows, allRight}
+use Rattle.rules.proofs.Demand3.{demand3}
+
+-- W1 to W9
+pub worked : allRight rows ≡ true
+unfolding tick
+worked = refl
+
+-- 01's table of levels
+pub table-shifts : shifts (wheel01 .shift) (wheel01 .sizes) ≡ 30 ∷ 36 ∷ 42 ∷ 47 ∷ 49 ∷ []
+table-shifts = refl
+
+pub table-counts : counts (wheel01 .sizes) ≡ 64 ∷ 64 ∷ 32 ∷ 4 ∷ 1 ∷ []
+table-counts = refl
+
+pub table-buckets : buckets wheel01 ≡ 165
+table-buckets = refl
+
+-- a wheel of 200 node records and 8 entries, first serial 7
+abbrev new : Run
+new = after wheel01 nothing (create 7 ∷ enable 200 8 ∷ [])
+
+-- "Deadline 10 armed at 0: advance to 2^30 - 1 gives End only; then to 2^30 gives Expired."
+pub deadline-10 :
+    answers wheel01 new (setEntry 0 (some 10) 0 ∷ schedule 0 0 ∷ start (2 ^ 30 - 1) ∷ pull ∷ start (2 ^ 30) ∷ pull ∷ pull ∷ [])
+    ≡ ok ∷ handle 165 7 ∷ ok ∷ end ∷ ok ∷ expired 0 7 10 ∷ end ∷ []
+unfolding tick
+deadline-10 = refl
+
+-- "Deadline 2^36 + 5 x 2^30 armed at 0, advance to 2^36: Rescheduled to (0,5)."
+pub cascade :
+    answers wheel01 new (setEntry 0 (some (2 ^ 36 + 5 * 2 ^ 30)) 0 ∷ schedule 0 0 ∷ start (2 ^ 36) ∷ pull ∷ pull ∷ armedCount ∷ nextDue ∷ [])
+    ≡ ok ∷ handle 165 7 ∷ ok ∷ rescheduled 0 7 5 ∷ end ∷ number 1 ∷ due (some (2 ^ 36 + 5 * 2 ^ 30)) ∷ []
+unfolding tick
+cascade = refl
+
+-- "A, B, C due at 10, 20, 30; start 2^30, pull A, abandon, arm D due at 40; the next advance to 2^30 gives D, B, C."
+pub d-b-c :
+    answers wheel01 new (
+    setEntry 0 (some 10) 0 ∷ setEntry 1 (some 20) 0 ∷ setEntry 2 (some 30) 0 ∷ setEntry 3 (some 40) 0 ∷ schedule 0 0 ∷ schedule 1 0 ∷ schedule 2 0 ∷
+    start (2 ^ 30) ∷ pull ∷ schedule 3 0 ∷ abandon ∷ schedule 3 0 ∷ start (2 ^ 30) ∷ pull ∷ pull ∷ pull ∷ pull ∷ [])
+    ≡ ok ∷ ok ∷ ok ∷ ok ∷ handle 165 7 ∷ handle 166 8 ∷ handle 167 9 ∷ ok ∷ expired 0 7 10 ∷ refused 5 ∷ ok ∷ handle 165 10 ∷ ok ∷ expired 3 10 40 ∷
+    expired 1 8 20 ∷ expired 2 9 30 ∷ end ∷ []
+unfolding tick
+d-b-c = refl
+
+-- "From 3 x 2^30 to 2 x 2^30: End, reading 2 x 2^30."
+abbrev back : List Call
+back = start (3 * 2 ^ 30) ∷ pull ∷ start (2 * 2 ^ 30) ∷ pull ∷ []
+
+pub stepped-back : answers wheel01 new back ≡ ok ∷ end ∷ ok ∷ end ∷ []
+unfolding tick
+stepped-back = refl
+
+pub stepped-back-reading : after wheel01 new back .wheel .reading ≡ 2 * 2 ^ 30
+unfolding tick
+stepped-back-reading = refl
+
+-- refusals, the lowest number first
+pub refusals :
+    answers wheel01 nothing (
+    pull ∷ create 3 ∷ abandon ∷ enable 165 1 ∷ enable 166 1 ∷ enable 166 1 ∷ pull ∷ setEntry 1 none 0 ∷ schedule 1 0 ∷ schedule 0 4 ∷ schedule 0 0 ∷
+    setEntry 0 (some 9) 4 ∷ schedule 0 4 ∷ schedule 0 4 ∷ reschedule 165 4 0 ∷ reschedule 165 3 0 ∷ start 5 ∷ reschedule 165 4 0 ∷ armedCount ∷ nextDue ∷ abandon ∷
+    setEntry 0 none 4 ∷ nextDue ∷ reschedule 165 3 4 ∷ deschedule 165 3 4 ∷ [])
+    ≡ refused 1 ∷ ok ∷ refused 1 ∷ refused 3 ∷ ok ∷ refused 2 ∷ refused 6 ∷ refused 7 ∷ refused 7 ∷ refused 8 ∷ refused 9 ∷
+    ok ∷ handle 165 3 ∷ refused 10 ∷ refused 12 ∷ refused 13 ∷ ok ∷ refused 5 ∷ number 1 ∷ refused 5 ∷ ok ∷
+    ok ∷ due none ∷ removed ∷ refused 12 ∷ []
+unfolding tick
+refusals = refl

@@ -1,0 +1,12 @@
+pub mod Geometry
+pub mod Place
+pub mod Visits
+pub mod Lists
+pub mod Wheel
+pub mod Refusals
+pub mod Pull
+pub mod Calls
+pub mod Sound
+pub mod Runs
+pub mod Demand3
+pub mod Worked
