@@ -1,0 +1,3 @@
+-- What the contracts of the wheel's records cite. Assumes nothing.
+pub mod Records
+pub mod Shows
