@@ -1,3 +1,6 @@
 -- What the contracts of the wheel's records cite. Assumes nothing.
 pub mod Records
 pub mod Shows
+pub mod Clocks
+pub mod Change
+pub mod Timers
