@@ -4,3 +4,4 @@ pub mod Shows
 pub mod Clocks
 pub mod Change
 pub mod Timers
+pub mod Moments

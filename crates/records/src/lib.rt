@@ -4,6 +4,7 @@
 
 pub mod payload; // the payload of a slot
 pub mod timers; // arming, disarming, rearming
+pub mod moments; // start, end, abandon
 
 // The clock record. While an advance is open, reading is q and previous is p; `step` counts the buckets entered on `level` so far, and
 // level 0 with step 0 stands before the first bucket.
