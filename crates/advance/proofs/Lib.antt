@@ -1,1 +1,7 @@
 pub mod Positions
+pub mod Turning
+pub mod Waiting
+pub mod Going
+pub mod Fewer
+pub mod Popping
+pub mod Taking
