@@ -5,3 +5,4 @@ pub mod Going
 pub mod Fewer
 pub mod Popping
 pub mod Taking
+pub mod Pulling
