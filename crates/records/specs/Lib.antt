@@ -1,0 +1,10 @@
+-- What the contracts of the wheel's records cite. Assumes nothing.
+pub mod Records
+pub mod Shows
+pub mod Clocks
+pub mod Change
+pub mod Timers
+pub mod Moments
+pub mod Counts
+pub mod Settings
+pub mod Layout
