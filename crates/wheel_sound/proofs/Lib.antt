@@ -1,0 +1,3 @@
+-- The laws of the wheel's soundness test.
+pub mod Answers
+pub mod Standing
