@@ -1,3 +1,6 @@
 -- The laws of the wheel's soundness test.
 pub mod Answers
+pub mod Lent
+pub mod EachSlot
+pub mod Filings
 pub mod Standing

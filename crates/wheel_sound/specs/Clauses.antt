@@ -29,6 +29,10 @@ pub record Armed (total : ℕ) (bucket : List ℕ) (x : ℕ) : Type 0 where
   pub lent : x < length bucket
   pub names : getD bucket x 0 < total
 
+-- a number e of a slot with the bucket field b, its entry or its serial, is below n where the slot is armed
+pub record BoundAt (total b e n : ℕ) : Type 0 where
+  pub below : b < total → e < n
+
 -- "armed entry numbers exist"
 pub record EntriesExist (total entries : ℕ) (bucket entry : List ℕ) : Type 0 where
   pub each : (x : ℕ) → Armed total bucket x → getD entry x 0 < entries
