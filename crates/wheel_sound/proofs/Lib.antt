@@ -4,3 +4,4 @@ pub mod Lent
 pub mod EachSlot
 pub mod Filings
 pub mod Standing
+pub mod Whole
