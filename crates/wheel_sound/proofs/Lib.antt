@@ -5,3 +5,6 @@ pub mod EachSlot
 pub mod Filings
 pub mod Standing
 pub mod Whole
+pub mod Counted
+pub mod Showing
+pub mod Shown

@@ -1,8 +1,11 @@
 -- 01's "Sound means", of the lent records of a wheel: a field for each clause of that sentence. Assumes nothing.
-use Prim.Native.Nat.{ℕ}
-use mathlib.Core.Bool.{Bool}
+use Prim.Native.Nat.{ℕ, _≤_, _<_}
+use mathlib.Core.Path.{_≡_}
+use mathlib.Core.Bool.{Bool, true}
+use lib.ListN.{length}
 use Rattle.links.specs.Sound.{Whole}
 use Rattle.rules.specs.Geometry.{Geometry, wheel01, buckets}
+use Rattle.records.specs.declared.Clock.{Clock}
 use Rattle.records.specs.Records.{Records}
 use Rattle.wheel_sound.specs.Decides.{Decides}
 use Rattle.wheel_sound.specs.Clauses.{Kinds, EntriesExist, SerialsBelow, SerialsDiffer, Lengths, AdvanceStands}
@@ -26,6 +29,13 @@ pub record SoundWith (g : Geometry) (total : ℕ) (R : Records) : Type 0 where
 -- the records of a wheel of this geometry
 abbrev pub SoundRecords : Geometry → Records → Type 0
 SoundRecords g R = SoundWith g (buckets g) R
+
+-- What a clock has to be for records that show a sound wheel to be sound: the recorded number of entries is in its range, and an open advance is on a level
+-- that there is. (A wheel on lists knows neither.)
+pub record InRange (g : Geometry) (c : Clock) : Type 0 where
+  pub some : 0 < c .entries
+  pub most : c .entries ≤ 4096
+  pub known : c .open ≡ true → c .level ≤ length (g .sizes)
 
 -- the test is exact, for a wheel with 01's levels
 abbrev pub Verdict : ℕ → Records → Bool → Type 0
