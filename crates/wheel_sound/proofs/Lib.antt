@@ -8,3 +8,4 @@ pub mod Whole
 pub mod Counted
 pub mod Showing
 pub mod Shown
+pub mod Tested
