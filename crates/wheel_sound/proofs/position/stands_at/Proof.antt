@@ -2,10 +2,11 @@
 use borrow.Author.Needs.{needs}
 use Rattle.wheel_sound.proofs.position.stands_at.Statement.{statement}
 use Rattle.wheel_sound.proofs.position.stands_at.Tie as tie
-use Rattle.wheel_sound.proofs.Standing.{places}
+use Rattle.wheel_sound.proofs.Standing.{no-level, places}
+use native.Mathlib.Omega.{arith}
 
 returns : tie.Need-returns
-returns c = search places
+returns c = no-level _ _ _ _ (omega arith)
 
 returns-2 : tie.Need-returns-2
 returns-2 c = search places
