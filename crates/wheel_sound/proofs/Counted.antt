@@ -1,13 +1,13 @@
 -- How often a slot stands in a list, by whether it stands there and whether any slot stands there twice. Assumes nothing.
-use Prim.Native.Nat.{ℕ, zero, suc, _+_, _≤_, _<_}
+use Prim.Native.Nat.{ℕ, _+_, _<_}
 use native.Mathlib.Omega.{arith}
-use mathlib.Core.Path.{_≡_, refl, sym, ap, subst, _∙_}
+use mathlib.Core.Path.{_≡_, refl, subst}
 use mathlib.Core.Logic.{_⊎_, inl, inr, ⊎-elim}
 use mathlib.Core.List.{List, [], _∷_, _++_}
 use Rattle.links.specs.Chain.{In, Once}
 use Rattle.rules.specs.Lists.{hit, count}
 use Rattle.rules.proofs.Cases.{same?}
-use Rattle.rules.proofs.Counting.{hit-is, hit-not, hit-same, count-app}
+use Rattle.rules.proofs.Counting.{hit-is, hit-not, count-app}
 
 pub count-none : (x : ℕ) (xs : List ℕ) → (In x xs → ⊥) → count x xs ≡ 0
 count-none x [] n = refl

@@ -3,17 +3,17 @@ use Prim.Native.Nat.{ℕ, zero, suc, _+_, _%_, _≤_, _<_}
 use native.Mathlib.Nat.{mod-lt}
 use native.Mathlib.Omega.{arith}
 use mathlib.Core.Path.{_≡_, refl, sym, ap, subst, _∙_}
-use mathlib.Core.Logic.{_⊎_, inl, inr, ⊎-elim}
+use mathlib.Core.Logic.{_⊎_, ⊎-elim}
 use mathlib.Core.Bool.{Bool, true, false, not, false≢true}
-use mathlib.Core.List.{List, [], _∷_}
+use mathlib.Core.List.{List}
 use lib.ListN.{length, getD, set, replicate, length-set, length-replicate}
 use lib.Seq.{getD-set-same, getD-set-other}
 use borrow.Author.Tests.{not-true, not-false}
 use Rattle.rules.proofs.Cases.{same?, below?}
 use Rattle.wheel_sound.specs.Decides.{Decides}
 use Rattle.wheel_sound.specs.Clauses.{Armed, SerialsDiffer}
-use Rattle.wheel_sound.specs.Filing.{Leads, here, back, Sized, Earlier, Walkable, Met, Filed, Fileable, Files}
-use Rattle.wheel_sound.proofs.Answers.{yes, no, passed, failed}
+use Rattle.wheel_sound.specs.Filing.{Leads, here, back, Walkable, Met, Filed, Fileable, Files}
+use Rattle.wheel_sound.proofs.Answers.{yes, no}
 
 -- ---- the way back
 pub leads-some : {b : List ℕ} {y z : ℕ} → Leads b y z → 0 < y

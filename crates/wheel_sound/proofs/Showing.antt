@@ -1,33 +1,32 @@
 -- Sound records show a sound wheel on lists. Assumes nothing.
 use Prim.Native.Nat.{ℕ, zero, suc, _+_, _≤_, _<_}
 use native.Mathlib.Omega.{arith}
-use mathlib.Core.Path.{_≡_, refl, sym, ap, subst, _∙_}
-use mathlib.Core.Logic.{_⊎_, inl, inr, ⊎-elim}
+use mathlib.Core.Path.{_≡_, refl, sym, ap, _∙_}
+use mathlib.Core.Logic.{_⊎_, ⊎-elim}
 use mathlib.Core.Bool.{Bool, true, false, cond, false≢true}
 use mathlib.Core.List.{List, [], _∷_, _++_}
-use lib.ListN.{length, getD, List·getD-eq-default}
-use lib.Dec.{ltb}
+use lib.ListN.{length, List·getD-eq-default}
 use borrow.Author.Tests.{lt-ltb, le-ltb, ltb-true}
-use Rattle.links.specs.Chain.{none, In, Once, first, before, after}
+use Rattle.links.specs.Chain.{none, In, Once, before, after}
 use Rattle.links.specs.Lists.{Links, Lists, Rep, deq, homeOf}
 use Rattle.links.specs.Listed.{listed}
-use Rattle.links.proofs.Slots.{split, before-in, after-in}
+use Rattle.links.proofs.Slots.{split}
 use Rattle.links.proofs.Swap.{deq-once}
 use Rattle.links.proofs.Unique.{whole-listed}
-use Rattle.links.proofs.Members.{in-home, home-in, not-free, free-once, free-home, home-free}
+use Rattle.links.proofs.Members.{in-home, home-in, free-once, free-home, home-free}
 use Rattle.rules.specs.Geometry.{Geometry, buckets}
-use Rattle.rules.specs.Visits.{visitedAt, SoundPosition}
+use Rattle.rules.specs.Visits.{SoundPosition}
 use Rattle.rules.specs.Lists.{Node, hit, count, times}
-use Rattle.rules.specs.Wheel.{Advance, closed, poised, within, Wheel}
+use Rattle.rules.specs.Wheel.{Advance, closed, poised, within}
 use Rattle.rules.specs.Sound.{spare, SoundLists, SoundAdvance, Sound}
 use Rattle.rules.proofs.Cases.{same?, below?}
 use Rattle.rules.proofs.Counting.{hit-is, hit-not}
 use Rattle.records.specs.declared.Clock.{Clock}
-use Rattle.records.specs.Records.{Nodes, Entries, Records}
-use Rattle.records.specs.Shows.{nodeAt, entryAt, ShowsAdvance, Shows}
-use Rattle.wheel_sound.specs.Clauses.{Armed, StandsAt, AdvanceStands}
+use Rattle.records.specs.Records.{Nodes, Records}
+use Rattle.records.specs.Shows.{nodeAt, ShowsAdvance, Shows}
+use Rattle.wheel_sound.specs.Clauses.{Armed, AdvanceStands}
 use Rattle.wheel_sound.specs.Sound.{SoundRecords}
-use Rattle.wheel_sound.specs.Shown.{parted, unarmed, nodeOf, within-at, advanceOf, shown}
+use Rattle.wheel_sound.specs.Shown.{parted, nodeOf, within-at, advanceOf, shown}
 use Rattle.wheel_sound.proofs.Counted.{count-none, count-once, count-in, count-parted}
 
 -- ---- the advance

@@ -1,26 +1,25 @@
 -- Records that show a sound wheel on lists are sound, where the lengths are in their ranges and the level is one that there is. Assumes nothing.
-use Prim.Native.Nat.{ℕ, zero, suc, _+_, _≤_, _<_}
+use Prim.Native.Nat.{ℕ, _<_}
 use native.Mathlib.Omega.{arith}
-use mathlib.Core.Path.{_≡_, refl, sym, ap, subst, _∙_}
+use mathlib.Core.Path.{_≡_, refl, sym, ap, _∙_}
 use mathlib.Core.Logic.{_⊎_, inl, inr, ⊎-elim}
-use mathlib.Core.Bool.{Bool, true, false, false≢true}
-use mathlib.Core.List.{List, [], _∷_, _++_}
+use mathlib.Core.Bool.{true, false, false≢true}
+use mathlib.Core.List.{List, [], _∷_}
 use lib.ListN.{length, getD}
 use borrow.Author.Tests.{lt-ltb}
-use Rattle.links.specs.Chain.{none, In}
-use Rattle.links.specs.Lists.{Rep, deq, homeOf}
+use Rattle.links.specs.Chain.{none}
 use Rattle.links.proofs.Slots.{in-same, app-right}
 use Rattle.links.proofs.Members.{home-in}
 use Rattle.rules.specs.Geometry.{Geometry, buckets}
 use Rattle.rules.specs.Visits.{visitedAt, SoundPosition}
-use Rattle.rules.specs.Lists.{Node, whole}
+use Rattle.rules.specs.Lists.{Node}
 use Rattle.rules.specs.Wheel.{Advance, closed, poised, within, Wheel}
 use Rattle.rules.specs.Sound.{Sound}
 use Rattle.rules.proofs.Cases.{same?}
 use Rattle.records.specs.declared.Clock.{Clock}
 use Rattle.records.specs.Records.{Records}
 use Rattle.records.specs.Shows.{nodeAt, ShowsAdvance, Shows}
-use Rattle.wheel_sound.specs.Clauses.{Armed, AdvanceStands}
+use Rattle.wheel_sound.specs.Clauses.{Armed}
 use Rattle.wheel_sound.specs.Sound.{SoundRecords, InRange}
 
 -- the position that a clock shows is sound

@@ -1,13 +1,13 @@
 -- Where an advance stands: how many buckets it visits at a level, and why each answer of the test is right. Assumes nothing.
-use Prim.Native.Nat.{ℕ, zero, suc, _+_, _-_, _/_, _^_, _≤_, _<_, min}
+use Prim.Native.Nat.{ℕ, _+_, _-_, _/_, _^_, _≤_, _<_}
 use native.Mathlib.Omega.{arith}
-use mathlib.Core.Path.{_≡_, refl, sym, ap, _∙_}
+use mathlib.Core.Path.{_≡_, refl, sym, _∙_}
 use mathlib.Core.Logic.{_⊎_, inl, inr, ⊎-elim}
-use mathlib.Core.Bool.{Bool, true, false, not, cond, false≢true}
+use mathlib.Core.Bool.{Bool, true, false, not, false≢true}
 use lib.Dec.{leb, eqb}
 use borrow.Author.Tests.{lt-ltb, le-ltb, leb-true, le-leb, eqb-true, eq-eqb, not-true, not-false}
 use Rattle.rules.specs.Geometry.{wheel01, tick}
-use Rattle.rules.specs.Visits.{visited, visitedAt, SoundPosition}
+use Rattle.rules.specs.Visits.{visited, visitedAt}
 use Rattle.place.specs.Levels.{shift01, size01}
 use Rattle.records.specs.declared.Clock.{Clock}
 use Rattle.wheel_sound.specs.Decides.{Decides}

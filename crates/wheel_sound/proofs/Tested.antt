@@ -1,14 +1,13 @@
 -- What a call above may take from the test's answer, for a wheel with 01's levels: after the test the records show a sound wheel, and records that do pass it.
 -- Assumes nothing.
-use Prim.Native.Nat.{ℕ}
-use mathlib.Core.Path.{_≡_, sym, _∙_}
-use mathlib.Core.Bool.{Bool, true, false, false≢true}
+use mathlib.Core.Path.{_≡_}
+use mathlib.Core.Bool.{Bool, true}
 use Rattle.rules.specs.Geometry.{wheel01, buckets}
 use Rattle.rules.specs.Wheel.{Wheel}
 use Rattle.rules.specs.Sound.{Sound}
 use Rattle.records.specs.Records.{Records}
 use Rattle.records.specs.Shows.{Shows}
-use Rattle.wheel_sound.specs.Sound.{SoundRecords, InRange, Verdict}
+use Rattle.wheel_sound.specs.Sound.{InRange, Verdict}
 use Rattle.wheel_sound.specs.Shown.{shown}
 use Rattle.wheel_sound.proofs.Showing.{shown-sound, sound-shows}
 use Rattle.wheel_sound.proofs.Shown.{shows-sound}

@@ -1,7 +1,7 @@
 -- Why each answer of the whole test is right: the first clause that fails, or that none does. Assumes nothing.
-use Prim.Native.Nat.{ℕ, _≤_, _<_}
+use Prim.Native.Nat.{ℕ}
 use native.Mathlib.Omega.{arith}
-use mathlib.Core.Path.{_≡_, refl, sym, _∙_}
+use mathlib.Core.Path.{_≡_, sym, _∙_}
 use mathlib.Core.Bool.{Bool, true, false, not, false≢true}
 use mathlib.Core.List.{List}
 use lib.ListN.{length}
@@ -10,7 +10,7 @@ use Rattle.links.specs.Lists.{links}
 use Rattle.links.specs.Sound as linked
 use Rattle.rules.specs.Geometry.{wheel01}
 use Rattle.records.specs.declared.Clock.{Clock}
-use Rattle.records.specs.Records.{Records, nodes, entries, records}
+use Rattle.records.specs.Records.{nodes, entries, records}
 use Rattle.wheel_sound.specs.Decides.{Decides}
 use Rattle.wheel_sound.specs.Clauses.{Ranges, EndsLengths, NodesLengths, EntriesLengths, Lengths, Kinds, EntriesExist, SerialsBelow, SerialsDiffer, AdvanceStands}
 use Rattle.wheel_sound.specs.Filing.{Sized}
@@ -18,9 +18,6 @@ use Rattle.wheel_sound.specs.Sound.{SoundWith, Verdict}
 use Rattle.wheel_sound.proofs.Answers.{no, failed, passed}
 
 module _ (h t n p b e g s : List ℕ) (d : List Bool) (l eg : List ℕ) (c : Clock) (total : ℕ) where
-  abbrev R : Records
-  R = records (nodes h t n p b e g s) (entries d l eg) c
-
   -- ---- the lengths
   pub not-ranged : (r : Bool) → Decides (Ranges total (c .nodes) (c .entries)) r → not r ≡ true → Decides (Lengths total (records (nodes h t n p b e g s) (entries d l eg) c)) false
   not-ranged r k f = no (λ z. failed k f (z .ranges))

@@ -1,16 +1,16 @@
 -- The clauses of 01's "Sound means" that are said of single slots, of lengths and of the advance, for a wheel of `total` buckets. Assumes nothing.
 -- (Links and free chain: crate links, specs/Sound.antt, `Whole`.)
-use Prim.Native.Nat.{ℕ, zero, suc, _+_, _≤_, _<_}
+use Prim.Native.Nat.{ℕ, _≤_, _<_}
 use mathlib.Core.Path.{_≡_}
 use mathlib.Core.Logic.{_⊎_}
-use mathlib.Core.Bool.{Bool, true}
+use mathlib.Core.Bool.{true}
 use mathlib.Core.List.{List}
 use lib.ListN.{length, getD}
 use Rattle.links.specs.Chain.{none}
 use Rattle.rules.specs.Geometry.{Geometry}
 use Rattle.rules.specs.Visits.{SoundPosition}
 use Rattle.records.specs.declared.Clock.{Clock}
-use Rattle.records.specs.Records.{Nodes, Entries, Records}
+use Rattle.records.specs.Records.{Records}
 
 -- ---- slots
 -- The kind of the slot x is read off its number and its bucket field b: below the total it is a sentinel, whose field is its own number; from there on it is

@@ -1,6 +1,6 @@
 -- The wheel on lists that sound records show, computed from them. Assumes nothing.
 use Prim.Native.Nat.{ℕ, zero, suc}
-use mathlib.Core.Bool.{Bool, true, false, cond}
+use mathlib.Core.Bool.{false, cond}
 use lib.Dec.{ltb}
 use Rattle.links.specs.Chain.{before, after}
 use Rattle.links.specs.Lists.{Lists, deq}
@@ -8,7 +8,6 @@ use Rattle.links.specs.Listed.{listed}
 use Rattle.rules.specs.Geometry.{Geometry, buckets}
 use Rattle.rules.specs.Visits.{visits, bucketAt, ahead}
 use Rattle.rules.specs.Lists.{Bucket, Node}
-use Rattle.rules.specs.Lists as rules
 use Rattle.rules.specs.Wheel.{Advance, closed, poised, within, Wheel}
 use Rattle.records.specs.declared.Clock.{Clock}
 use Rattle.records.specs.Records.{Nodes, Records}

@@ -2,7 +2,6 @@
 use borrow.Author.Needs.{needs}
 use Rattle.wheel_sound.proofs.serials.is_met.Statement.{statement}
 use Rattle.wheel_sound.proofs.serials.is_met.Tie as tie
-use native.Mathlib.Omega.{arith}
 use Rattle.wheel_sound.proofs.Filings.{MetFrom, met-start, met-on, met-less, met-exits}
 
 abbrev Inv-loop : tie.InvT-loop

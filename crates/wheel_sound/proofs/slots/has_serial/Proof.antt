@@ -1,5 +1,4 @@
 -- `has_serial` meets its contract: a law of `EachSlot` for each answer. Assumes nothing.
-use borrow.Author.Needs.{needs}
 use Rattle.wheel_sound.proofs.slots.has_serial.Statement.{statement}
 use Rattle.wheel_sound.proofs.slots.has_serial.Tie as tie
 use Rattle.wheel_sound.proofs.EachSlot.{bound-answers}
