@@ -22,32 +22,32 @@ pub record Meets (rows : ℕ → Type 0) (a b : State) (answer : Told) (after : 
   pub refusal : (number ≡ 0 → ⊥) → (answer ≡ refused number) × (b ≡ a)
   pub result : number ≡ 0 → (answer ≡ then) × (b ≡ after)
 
-abbrev pub Make : State → State → Made → Type 0
-Make a b r = Meets (makeRows a) a b (madeTold r) (made a) (values (first (upFrom (nodes a) 0) ∷ []))
+pub record Make (a b : State) (r : Made) : Type 0 where
+  pub meets : Meets (makeRows a) a b (madeTold r) (made a) (values (first (upFrom (nodes a) 0) ∷ []))
 
-abbrev pub PushBack : State → State → ℕ → ℕ → ℕ → Pushed → Type 0
-PushBack a b free d e r = Meets (pushRows a free d) a b (pushedTold r) (pushed a free d e) (values (free ∷ nextOf a free ∷ []))
+pub record PushBack (a b : State) (free d e : ℕ) (r : Pushed) : Type 0 where
+  pub meets : Meets (pushRows a free d) a b (pushedTold r) (pushed a free d e) (values (free ∷ nextOf a free ∷ []))
 
-abbrev pub PopFront : State → State → ℕ → ℕ → Popped → Type 0
-PopFront a b free d r = Meets (dequeRows a free d) a b (poppedTold r) (popped a free d) (popTold a d)
+pub record PopFront (a b : State) (free d : ℕ) (r : Popped) : Type 0 where
+  pub meets : Meets (dequeRows a free d) a b (poppedTold r) (popped a free d) (popTold a d)
 
-abbrev pub LookFront : State → ℕ → ℕ → Looked → Type 0
-LookFront a free d r = Meets (dequeRows a free d) a a (lookedTold r) a (lookTold a (frontOf a d))
+pub record LookFront (a : State) (free d : ℕ) (r : Looked) : Type 0 where
+  pub meets : Meets (dequeRows a free d) a a (lookedTold r) a (lookTold a (frontOf a d))
 
-abbrev pub LookBack : State → ℕ → ℕ → Looked → Type 0
-LookBack a free d r = Meets (dequeRows a free d) a a (lookedTold r) a (lookTold a (backOf a d))
+pub record LookBack (a : State) (free d : ℕ) (r : Looked) : Type 0 where
+  pub meets : Meets (dequeRows a free d) a a (lookedTold r) a (lookTold a (backOf a d))
 
-abbrev pub MoveToBack : State → State → ℕ → ℕ → ℕ → Done → Type 0
-MoveToBack a b free d s r = Meets (nodeRows a free d s) a b (doneTold r) (movedBack a d s) (values [])
+pub record MoveToBack (a b : State) (free d s : ℕ) (r : Done) : Type 0 where
+  pub meets : Meets (nodeRows a free d s) a b (doneTold r) (movedBack a d s) (values [])
 
-abbrev pub UnlinkAndDrop : State → State → ℕ → ℕ → ℕ → Dropped → Type 0
-UnlinkAndDrop a b free d s r = Meets (nodeRows a free d s) a b (droppedTold r) (released a free d s) (values (elementOf a s ∷ s ∷ []))
+pub record UnlinkAndDrop (a b : State) (free d s : ℕ) (r : Dropped) : Type 0 where
+  pub meets : Meets (nodeRows a free d s) a b (droppedTold r) (released a free d s) (values (elementOf a s ∷ s ∷ []))
 
-abbrev pub LengthIs : State → ℕ → ℕ → Counted → Type 0
-LengthIs a free d r = Meets (dequeRows a free d) a a (countedTold r) a (values (lengthOf a d ∷ []))
+pub record LengthIs (a : State) (free d : ℕ) (r : Counted) : Type 0 where
+  pub meets : Meets (dequeRows a free d) a a (countedTold r) a (values (lengthOf a d ∷ []))
 
-abbrev pub NextByCursor : State → State → ℕ → ℕ → Looked → Type 0
-NextByCursor a b free d r = Meets (dequeRows a free d) a b (lookedTold r) (stepped a d) (nextTold a d)
+pub record NextByCursor (a b : State) (free d : ℕ) (r : Looked) : Type 0 where
+  pub meets : Meets (dequeRows a free d) a b (lookedTold r) (stepped a d) (nextTold a d)
 
-abbrev pub ResetCursor : State → State → ℕ → ℕ → Done → Type 0
-ResetCursor a b free d r = Meets (dequeRows a free d) a b (doneTold r) (withCursor a d none) (values [])
+pub record ResetCursor (a b : State) (free d : ℕ) (r : Done) : Type 0 where
+  pub meets : Meets (dequeRows a free d) a b (doneTold r) (withCursor a d none) (values [])

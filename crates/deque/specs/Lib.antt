@@ -6,3 +6,4 @@ pub mod Answer
 pub mod Work
 pub mod Refuse
 pub mod Calls
+pub mod History

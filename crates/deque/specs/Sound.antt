@@ -8,7 +8,7 @@ use lib.ListN.{length, getD}
 use Rattle.links.specs.Chain.{none, In, Chain, Path, first}
 use Rattle.links.specs.Lists.{step, homeOf}
 use Rattle.links.specs.Listed.{listFrom}
-use Rattle.deque.specs.State.{State, deques, nodes, Lent, pastEnd, Stands}
+use Rattle.deque.specs.State.{State, deques, nodes, LentDeques, LentNodes, Lent, pastEnd, Stands}
 
 -- the nodes of the deque d from head to tail, and the free nodes from the first one on, as next leads
 abbrev pub held : State → ℕ → List ℕ
@@ -41,6 +41,14 @@ pub record Sound (a : State) (free : ℕ) : Type 0 where
   pub cursors : (d : ℕ) → d < deques a → Stands (getD (a .cursors) d 0) (held a d)
 
 -- ---- what the tests answer: each is exact
+pub record DequesOk (heads tails lens cursors : List ℕ) (r : Bool) : Type 0 where
+  pub sound : r ≡ true → LentDeques heads tails lens cursors
+  pub complete : LentDeques heads tails lens cursors → r ≡ true
+
+pub record NodesOk (next prev home elements : List ℕ) (r : Bool) : Type 0 where
+  pub sound : r ≡ true → LentNodes next prev home elements
+  pub complete : LentNodes next prev home elements → r ≡ true
+
 pub record IsLent (a : State) (r : Bool) : Type 0 where
   pub sound : r ≡ true → Lent a
   pub complete : Lent a → r ≡ true

@@ -25,17 +25,23 @@ abbrev pub nodes : State → ℕ
 nodes a = length (a .links .next)
 
 -- "1 to 256 deques of 64-bit elements share 1 to 4,096 nodes", in parallel slices of equal lengths
+pub record LentDeques (heads tails lens cursors : List ℕ) : Type 0 where
+  pub some : 1 ≤ length heads
+  pub few : length heads ≤ 256
+  pub tails-len : length tails ≡ length heads
+  pub lens-len : length lens ≡ length heads
+  pub cursors-len : length cursors ≡ length heads
+
+pub record LentNodes (next prev home elements : List ℕ) : Type 0 where
+  pub some : 1 ≤ length next
+  pub small : length next ≤ none
+  pub prev-len : length prev ≡ length next
+  pub home-len : length home ≡ length next
+  pub elements-len : length elements ≡ length next
+
 pub record Lent (a : State) : Type 0 where
-  pub some-deques : 1 ≤ deques a
-  pub few : deques a ≤ 256
-  pub tails-len : length (a .links .tails) ≡ deques a
-  pub lens-len : length (a .lens) ≡ deques a
-  pub cursors-len : length (a .cursors) ≡ deques a
-  pub some-nodes : 1 ≤ nodes a
-  pub small : nodes a ≤ none
-  pub prev-len : length (a .links .prev) ≡ nodes a
-  pub home-len : length (a .links .home) ≡ nodes a
-  pub elements-len : length (a .elements) ≡ nodes a
+  pub deques : LentDeques (a .links .heads) (a .links .tails) (a .lens) (a .cursors)
+  pub nodes : LentNodes (a .links .next) (a .links .prev) (a .links .home) (a .elements)
 
 -- the cursor that stands past the end; the one that stands at none is none
 abbrev pub pastEnd : ℕ

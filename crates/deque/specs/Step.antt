@@ -39,8 +39,11 @@ abbrev pub stepOff : List ℕ → List ℕ → ℕ → ℕ → List ℕ
 stepOff cursors next d s = cond (eqb (getD cursors d 0) s) (set cursors d (movedOn next s)) cursors
 
 -- "the cursor starts at the head": the node that next by cursor answers, or no node
+abbrev pub startAt : List ℕ → List ℕ → ℕ → ℕ
+startAt heads cursors d = let c = getD cursors d 0 in cond (eqb c none) (getD heads d 0) c
+
 abbrev pub cursorNode : State → ℕ → ℕ
-cursorNode a d = cond (eqb (cursorOf a d) none) (frontOf a d) (cursorOf a d)
+cursorNode a d = startAt (a .links .heads) (a .cursors) d
 
 -- ---- the calls
 -- all deques empty, all nodes free from 0 upwards, every cursor at none

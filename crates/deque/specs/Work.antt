@@ -2,12 +2,14 @@
 use Prim.Native.Nat.{ℕ, _<_}
 use mathlib.Core.Path.{_≡_}
 use mathlib.Core.List.{List, [], _∷_, _++_}
-use lib.ListN.{length, getD}
+use lib.ListN.{length, getD, replicate}
 use Rattle.links.specs.Chain.{none, remove}
-use Rattle.links.specs.Lists.{Lists, homeOf, deq, withDeque, pushBack, takeOut, taken, freed}
+use Rattle.links.specs.Lists.{Links, Lists, homeOf, deq, withDeque, pushBack, takeOut, taken, freed}
+use Rattle.links.specs.Change.{cutOut}
+use Rattle.links.specs.Free.{handBack}
 use Rattle.deque.specs.State.{State, Shows}
-use Rattle.deque.specs.Step.{nextOf, elementOf, pushed, released, movedBack, stepped, popped}
-use Rattle.deque.specs.Answer.{Told, poppedTold, lookedTold, popTold, nextTold}
+use Rattle.deque.specs.Step.{nextOf, frontOf, backOf, elementOf, pushed, released, movedBack, stepped, popped}
+use Rattle.deque.specs.Answer.{Told, poppedTold, lookedTold, popTold, lookTold, nextTold}
 use Rattle.deque.specs.declared.answer.Popped.{Popped}
 use Rattle.deque.specs.declared.answer.Looked.{Looked}
 
@@ -44,6 +46,10 @@ pub record Pushes (a b : State) (free d e r : ℕ) : Type 0 where
   pub free-is : r ≡ nextOf a free
   pub does : (v : Lists) → Shows a free v → Shows b r (pushBack d free (taken v))
 
+-- the node s of the links a is taken out and given back
+pub record Frees (a b : Links) (free s : ℕ) : Type 0 where
+  pub is : b ≡ handBack (cutOut a s) s free
+
 pub record Drops (a b : State) (free d s r : ℕ) : Type 0 where
   pub is : b ≡ released a free d s
   pub element-is : r ≡ elementOf a s
@@ -57,10 +63,17 @@ pub record Pops (a b : State) (free d : ℕ) (r : Popped) : Type 0 where
   pub is : b ≡ popped a free d
   pub told : poppedTold r ≡ popTold a d
 
-pub record Looks (a : State) (t : Told) (r : Looked) : Type 0 where
-  pub told : lookedTold r ≡ t
+pub record LooksFront (a : State) (d : ℕ) (r : Looked) : Type 0 where
+  pub told : lookedTold r ≡ lookTold a (frontOf a d)
 
-pub record Steps (a b : State) (free d : ℕ) (r : Looked) : Type 0 where
+pub record LooksBack (a : State) (d : ℕ) (r : Looked) : Type 0 where
+  pub told : lookedTold r ≡ lookTold a (backOf a d)
+
+pub record Steps (a b : State) (d : ℕ) (r : Looked) : Type 0 where
   pub is : b ≡ stepped a d
   pub told : lookedTold r ≡ nextTold a d
-  pub does : (v : Lists) → Shows a free v → Shows b free v
+
+-- every recorded length 0 and every cursor at none
+pub record Clears (lens₀ lens cursors : List ℕ) : Type 0 where
+  pub lens-is : lens ≡ replicate (length lens₀) 0
+  pub cursors-is : cursors ≡ replicate (length lens₀) none

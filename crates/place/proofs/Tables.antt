@@ -60,7 +60,7 @@ first-below (suc (suc zero)) = omega arith
 first-below (suc (suc (suc zero))) = omega arith
 first-below (suc (suc (suc (suc m)))) = omega arith
 
-count-most : (l : ℕ) → 2 ^ size01 l ≤ 64
+pub count-most : (l : ℕ) → 2 ^ size01 l ≤ 64
 count-most zero = omega arith
 count-most (suc zero) = omega arith
 count-most (suc (suc zero)) = omega arith

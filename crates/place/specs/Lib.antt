@@ -1,2 +1,3 @@
+-- What the contracts of placement cite. Assumes nothing.
 pub mod Levels
 pub mod Promises

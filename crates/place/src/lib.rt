@@ -6,6 +6,7 @@ ghost use Rattle.place.specs.Levels.{indexAt, placeAt};
 ghost use Rattle.place.specs.Promises.{Found, InBucket, Placed};
 
 pub mod levels;
+pub mod visits;
 
 use levels::known;
 use levels::level_count;

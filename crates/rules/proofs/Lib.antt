@@ -1,3 +1,4 @@
+-- The laws of the rules. Demand3, SoundCalls, Order, Counts and Worked are what a reader looks for; Shows, ShowsClock and Turns serve the wheel on records. Assumes nothing.
 pub mod Cases
 pub mod Ticks
 pub mod Placing
@@ -18,3 +19,8 @@ pub mod Advances
 pub mod Demand3
 pub mod Worked
 pub mod Premises
+pub mod Order
+pub mod Counts
+pub mod Turns
+pub mod Shows
+pub mod ShowsClock

@@ -9,7 +9,7 @@ use mathlib.Core.List.{List, [], _∷_, _++_}
 use lib.Dec.{ltb}
 use lib.ListN.{length}
 use lib.Pow.{pow-pos, pow-mono}
-use borrow.Author.Tests.{lt-ltb, le-ltb}
+use borrow.Author.Tests.{lt-ltb, le-ltb, ltb-true, ltb-false}
 use Rattle.rules.specs.Geometry.{Geometry, tick, total, buckets, shiftOf, sizeOf, dense, firstOf}
 use Rattle.rules.specs.Place.{placeFrom, bucketOf}
 use Rattle.rules.specs.Visits.{moves, visited, ring, visitsAt, visitsFrom, visits}
@@ -34,21 +34,26 @@ place-lowest wide s [] base r d =
       fits = λ h. absurd (omega arith);
       least = λ l h. absurd (omega arith);
     }
-place-lowest wide s (e ∷ es) base r d =
-    ⊎-elim
-    (λ (i : d - r < 2 ^ (s + e)).
-    simp (lt-ltb (d - r) (2 ^ (s + e)) i)
-    (record { level = 0; exists = omega arith; is = refl; fits = λ h. i; least = λ l h. absurd (omega arith) }))
-    (λ (i : 2 ^ (s + e) ≤ d - r).
-    let k : Lowest wide (s + e) es (base + wide e) r d (placeFrom wide (s + e) es (base + wide e) r d) = place-lowest wide (s + e) es (base + wide e) r d in
-    simp (le-ltb (d - r) (2 ^ (s + e)) i)
-    (record { level = suc (k .level); exists = omega (arith, k .exists); is = k .is; fits = λ h. k .fits (omega arith); least = lower i k }))
-    (below? (d - r) (2 ^ (s + e)))
+place-lowest wide s (e ∷ es) base r d = go (ltb (d - r) (2 ^ (s + e))) refl (place-lowest wide (s + e) es (base + wide e) r d)
   where
     lower : 2 ^ (s + e) ≤ d - r → (k : Lowest wide (s + e) es (base + wide e) r d (placeFrom wide (s + e) es (base + wide e) r d))
         → (l : ℕ) → l < suc (k .level) → 2 ^ (shiftOf s (e ∷ es) l + sizeOf (e ∷ es) l) ≤ d - r
     lower i k zero h = i
     lower i k (suc l) h = k .least l (omega arith)
+
+    -- this level, or the levels above
+    go : (t : Bool) → ltb (d - r) (2 ^ (s + e)) ≡ t → Lowest wide (s + e) es (base + wide e) r d (placeFrom wide (s + e) es (base + wide e) r d)
+        → Lowest wide s (e ∷ es) base r d (cond t (base + tick s d % 2 ^ e) (placeFrom wide (s + e) es (base + wide e) r d))
+    go true i k =
+        record { level = 0; exists = omega arith; is = refl; fits = λ h. ltb-true (d - r) (2 ^ (s + e)) i; least = λ l h. absurd (omega arith) }
+    go false i k =
+        record {
+          level = suc (k .level);
+          exists = omega (arith, k .exists);
+          is = k .is;
+          fits = λ h. k .fits (omega arith);
+          least = lower (ltb-false (d - r) (2 ^ (s + e)) i) k;
+        }
 
 -- each next shift is the shift before plus the exponent of that level's count
 pub shift-next : (s : ℕ) (es : List ℕ) (l : ℕ) → shiftOf s es (suc l) ≡ shiftOf s es l + sizeOf es l
@@ -118,23 +123,23 @@ ring-at base m t (suc k) (suc j) h =
 pub visited-still : (s e p q : ℕ) → tick s q ≤ tick s p → visited s e p q ≡ 0
 visited-still s e p q h = simp (le-ltb (tick s p) (tick s q) h)
 
-pub visited-moved : (s e p q : ℕ) → tick s p < tick s q → visited s e p q ≡ min (suc (tick s q - tick s p)) (2 ^ e)
-visited-moved s e p q h = simp (lt-ltb (tick s p) (tick s q) h)
+-- where it moves, the bucket j ticks on from p's is visited, up to q's own tick, as far as there are buckets
+pub visited-covers : (s e p q j : ℕ) → tick s p < tick s q → j ≤ tick s q - tick s p → j < 2 ^ e → j < visited s e p q
+visited-covers s e p q j m h k = simp (lt-ltb (tick s p) (tick s q) m) (omega arith)
 
 -- a tick between p's and q's has its bucket visited, though there be fewer buckets than ticks
 pub visits-tick : (s e base p q t : ℕ) → tick s p < tick s q → tick s p ≤ t → t ≤ tick s q → Mem (base + t % 2 ^ e) (visitsAt s e base p q)
 visits-tick s e base p q t m h k =
     let a : ℕ = tick s p in
-    rw (visited-moved s e p q m)
-    (⊎-elim
+    ⊎-elim
     (λ (i : t - a < 2 ^ e).
-    subst (λ (n : ℕ). Mem (base + n % 2 ^ e) (ring base (2 ^ e) a (min (suc (tick s q - a)) (2 ^ e)))) (omega arith)
-    (ring-at base (2 ^ e) a (min (suc (tick s q - a)) (2 ^ e)) (t - a) (omega arith)))
+    subst (λ (n : ℕ). Mem (base + n % 2 ^ e) (visitsAt s e base p q)) (omega arith)
+    (ring-at base (2 ^ e) a (visited s e p q) (t - a) (visited-covers s e p q (t - a) m (omega arith) i)))
     (λ (i : 2 ^ e ≤ t - a).
-    subst (λ (n : ℕ). Mem (base + n) (ring base (2 ^ e) a (min (suc (tick s q - a)) (2 ^ e))))
-    (add-mod-mod a (t - a) (2 ^ e) ∙ ap (λ (n : ℕ). n % 2 ^ e) (omega arith))
-    (ring-at base (2 ^ e) a (min (suc (tick s q - a)) (2 ^ e)) ((t - a) % 2 ^ e) (omega (arith, mod-lt (t - a) (pow-pos e)))))
-    (below? (t - a) (2 ^ e)))
+    let r : (t - a) % 2 ^ e < 2 ^ e = mod-lt (t - a) (pow-pos e) in
+    subst (λ (n : ℕ). Mem (base + n) (visitsAt s e base p q)) (add-mod-mod a (t - a) (2 ^ e) ∙ ap (λ (n : ℕ). n % 2 ^ e) (omega arith))
+    (ring-at base (2 ^ e) a (visited s e p q) ((t - a) % 2 ^ e) (visited-covers s e p q ((t - a) % 2 ^ e) m (omega arith) r)))
+    (below? (t - a) (2 ^ e))
 
 -- where the tick does not move, nothing is visited: "everything ends"
 pub visits-none : (s : ℕ) (es : List ℕ) (base p q : ℕ) → tick s q ≤ tick s p → visitsFrom s es base p q ≡ []

@@ -15,7 +15,7 @@ use Rattle.rules.specs.Geometry.{Geometry, tick, shiftOf, sizeOf, dense,
 use Rattle.rules.specs.Visits.{moves, visited, ring, visitsAt, visitsFrom, visits, visitedAt, bucketAt, aheadFrom, ahead}
 use Rattle.rules.proofs.Cases.{below?}
 use Rattle.rules.proofs.Ticks.{tick-up-mono}
-use Rattle.rules.proofs.Placing.{visits-none, visited-moved}
+use Rattle.rules.proofs.Placing.{visits-none, visited-covers}
 
 length-ring : (base m t k : ℕ) → length (ring base m t k) ≡ k
 length-ring base m t zero = refl
@@ -37,7 +37,7 @@ over-ring base m t k j h = drop-of-length-le (ring base m t k) {i = j} (omega (a
 pub visited-zero : (s e p q : ℕ) → visited s e p q ≡ 0 → tick s q ≤ tick s p
 visited-zero s e p q h =
     ⊎-elim
-    (λ (i : tick s p < tick s q). absurd (omega (arith, visited-moved s e p q i, pow-pos e)))
+    (λ (i : tick s p < tick s q). absurd (omega (arith, visited-covers s e p q 0 i (omega arith) (pow-pos e))))
     (λ (i : tick s q ≤ tick s p). i)
     (below? (tick s p) (tick s q))
 

@@ -138,6 +138,21 @@ module _ (D nodes entries next y : ℕ) (L : Lists) (s : SoundLists D nodes entr
         says = refl;
       }
 
+  -- "each slot is a sentinel, armed or free, and just one of these": it stands below the buckets' number, or is armed, or stands once in the free chain
+  pub one-kind : y < nodes
+      → ((y < D) × (L .node y .armed ≡ false) × (count y (L .free) ≡ 0))
+      ⊎ (((D ≤ y) × (L .node y .armed ≡ true) × (count y (L .free) ≡ 0)) ⊎ ((D ≤ y) × (L .node y .armed ≡ false) × (count y (L .free) ≡ 1)))
+  one-kind h = ⊎-elim (λ (i : y < D). inl (sentinel i (L .node y .armed) refl)) (λ (i : D ≤ y). inr (other i (L .node y .armed) refl)) (below? y D)
+    where
+      sentinel : y < D → (b : Bool) → L .node y .armed ≡ b → (y < D) × (L .node y .armed ≡ false) × (count y (L .free) ≡ 0)
+      sentinel i true e = absurd (omega (arith, s .slot y e .0))
+      sentinel i false e = (i, e, s .free y ∙ simp (lt-ltb y D i))
+
+      other : D ≤ y → (b : Bool) → L .node y .armed ≡ b
+          → ((D ≤ y) × (L .node y .armed ≡ true) × (count y (L .free) ≡ 0)) ⊎ ((D ≤ y) × (L .node y .armed ≡ false) × (count y (L .free) ≡ 1))
+      other i true e = inl (i, e, s .free y ∙ spare-armed D nodes (L .node) y e)
+      other i false e = inr (i, e, s .free y ∙ spare-free D nodes (L .node) y i h e)
+
   -- y was armed, was taken out of its bucket, and is freed
   pub sound-freed : (M : Lists) (v : Node) → At y v nowhere M → Elsewhere y L (release y M) → L .node y .armed ≡ true → SoundLists D nodes entries next (release y M)
   sound-freed M v a p l =

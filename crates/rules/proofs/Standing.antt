@@ -26,7 +26,8 @@ pub record Elsewhere (y : ℕ) (L M : Lists) : Type 0 where
 pub enter-same : (z b : ℕ) (L : Lists) → Same z L (enter b L)
 enter-same z b L =
     record {
-      stands = times-same (L .bucket) b (turned (L .bucket b)) z (omega (arith, count-app z (L .bucket b .late) (L .bucket b .early)));
+      stands = times-same (L .bucket) b (turned (L .bucket b)) z
+          (omega (arith, count-app z (L .bucket b .late) (L .bucket b .early), count-app z (L .bucket b .early) (L .bucket b .late)));
       free = refl;
       node = refl;
     }

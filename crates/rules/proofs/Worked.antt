@@ -78,3 +78,34 @@ pub refusals :
     ok ∷ due none ∷ removed ∷ refused 12 ∷ []
 unfolding tick
 refusals = refl
+
+-- 11, "next serial is 2^64 - 1"; 10 comes before it
+pub spent :
+    answers wheel01 nothing (create (2 ^ 64 - 1) ∷ enable 166 1 ∷ setEntry 0 (some 9) 0 ∷ schedule 0 0 ∷ []) ≡ ok ∷ ok ∷ ok ∷ refused 11 ∷ []
+unfolding tick
+spent = refl
+
+-- "One entry may be armed more than once." "The free slot taken is the last one freed; at the start the lowest, 165 first."
+pub armed-twice :
+    answers wheel01 new (setEntry 0 (some 10) 0 ∷ schedule 0 0 ∷ schedule 0 0 ∷ schedule 0 0 ∷ deschedule 166 8 0 ∷ deschedule 165 7 0 ∷ schedule 0 0 ∷ schedule 0 0 ∷ armedCount ∷ [])
+    ≡ ok ∷ handle 165 7 ∷ handle 166 8 ∷ handle 167 9 ∷ ok ∷ ok ∷ handle 165 10 ∷ handle 166 11 ∷ number 3 ∷ []
+unfolding tick
+armed-twice = refl
+
+-- "Another create may give the same two again": the first handle of the second wheel is that of the first, and a call with it is a call on the timer that has it now
+pub given-again :
+    answers wheel01 new (
+    setEntry 0 (some 10) 0 ∷ schedule 0 0 ∷ create 7 ∷ enable 200 8 ∷ deschedule 165 7 0 ∷ setEntry 0 (some 20) 0 ∷ schedule 0 0 ∷ nextDue ∷ deschedule 165 7 0 ∷ nextDue ∷ [])
+    ≡ ok ∷ handle 165 7 ∷ ok ∷ ok ∷ refused 12 ∷ ok ∷ handle 165 7 ∷ due (some 20) ∷ ok ∷ due none ∷ []
+unfolding tick
+given-again = refl
+
+-- a timer's way through the levels: from level 2 to level 1 to level 0, and out
+abbrev far : ℕ
+far = 2 ^ 42 + 6 * 2 ^ 36 + 9 * 2 ^ 30
+
+pub way-through :
+    answers wheel01 new (setEntry 0 (some far) 0 ∷ schedule 0 0 ∷ start (2 ^ 42) ∷ pull ∷ pull ∷ start (2 ^ 42 + 6 * 2 ^ 36) ∷ pull ∷ pull ∷ start far ∷ pull ∷ pull ∷ [])
+    ≡ ok ∷ handle 165 7 ∷ ok ∷ rescheduled 0 7 (1 * 64 + 6) ∷ end ∷ ok ∷ rescheduled 0 7 (0 * 64 + 9) ∷ end ∷ ok ∷ expired 0 7 far ∷ end ∷ []
+unfolding tick
+way-through = refl

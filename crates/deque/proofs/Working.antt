@@ -1,0 +1,191 @@
+-- What the unchecked functions ask of the links' functions, and what their stores come to. Assumes nothing.
+use Prim.Native.Nat.{ℕ, _+_, _-_, _*_, _^_, _≤_, _<_}
+use native.Mathlib.Omega.{arith}
+use mathlib.Core.Path.{_≡_, refl, sym, ap, subst, _∙_}
+use mathlib.Core.Logic.{_⊎_, inl, inr, ⊎-elim}
+use mathlib.Core.Bool.{Bool, true, false, cond}
+use mathlib.Core.List.{List, [], _∷_, _++_}
+use lib.ListN.{length, getD, set}
+use lib.Dec.{eqb}
+use borrow.Author.Tests.{eq-eqb, ne-eqb}
+use mir.Syntax.{w64}
+use mir.Val.{Fits}
+use Rattle.links.specs.Chain.{none, In}
+use Rattle.links.specs.Lists.{Links, Lists, links, homeOf, deq, Rep, taken}
+use Rattle.links.specs.Change.{cutOut, Linkable, Held, Movable, LinksBack, CutsOut, MovesBack}
+use Rattle.links.specs.Free.{handBack, Takes, GivesBack}
+use Rattle.links.proofs.Slots.{same?}
+use Rattle.links.proofs.Freeing.{take-does}
+use Rattle.deque.specs.State.{State, state, deques, nodes, Shows, pastEnd}
+use Rattle.deque.specs.Step.{nextOf, frontOf, backOf, lengthOf, cursorOf, elementOf, movedOn, stepOff, cursorNode, pushed, released, shifted, movedBack, withCursor, stepped, popped}
+use Rattle.deque.specs.Answer.{Told, nothing, values, lookTold, popTold, nextTold}
+use Rattle.deque.specs.Work.{DequeReady, PushReady, NodeReady, toBack, Pushes, Frees, Drops, Moves, Pops, LooksFront, LooksBack, Steps}
+use Rattle.deque.specs.declared.answer.Popped.the-variants.{Node as PoppedNode, Nothing as PoppedNothing}
+use Rattle.deque.specs.declared.answer.Looked.the-variants.{Node as LookedNode, Nothing as LookedNothing}
+use Rattle.deque.proofs.Keeping.{length-small, length-some, pushed-shows, released-shows, moved-shows, front-in, back-in, start-stands}
+
+-- a cursor that stood at s, moved on
+pub off-does : (c n : List ℕ) (d s q : ℕ) → getD c d 0 ≡ s → q ≡ movedOn n s → set c d q ≡ stepOff c n d s
+off-does c n d s q i j = simp (eq-eqb (getD c d 0) s i) (ap (λ (x : ℕ). set c d x) j)
+
+-- ---- a node taken out and given back
+module _ (h t n p o h′ t′ n′ p′ o′ : List ℕ) (s : ℕ) (k : CutsOut (links h t n p o) (links h′ t′ n′ p′ o′) s) where
+  pub free-asks : Held (links h t n p o) s → (s < length n′) × (s < length p′)
+  free-asks y = let q = k .does (y .v) (y .loose) (y .rep) in (omega (arith, q .next-len, y .slot), omega (arith, q .prev-len, y .slot))
+
+  pub free-does : (n″ p″ : List ℕ) (free : ℕ) → GivesBack n′ p′ n″ p″ s free → Frees (links h t n p o) (links h′ t′ n″ p″ o′) free s
+  free-does n″ p″ free g = record { is = rw (g .next-is, g .prev-is) (ap (λ (z : Links). handBack z s free) (k .is)) }
+
+-- two records whose links are the same
+same-links : {x y : Links} (l c e : List ℕ) → x ≡ y → _≡_ {A = State} (record { links = x; lens = l; cursors = c; elements = e }) (record { links = y; lens = l; cursors = c; elements = e })
+same-links l c e i = ap (λ (z : Links). record { links = z; lens = l; cursors = c; elements = e }) i
+
+module _ (h t l c n p o e : List ℕ) (free d : ℕ) where
+  abbrev a : State
+  a = state h t l c n p o e
+
+  -- ---- push
+  module _ (y : PushReady (state h t l c n p o e) free d) where
+    counts-same : (v : Lists) → Shows (state h t l c n p o e) free v → (free < v .slots) × (d < v .count)
+    counts-same v s = (omega (arith, s .rep .home-len, y .shows .rep .home-len, y .slot), omega (arith, s .rep .heads-len, y .shows .rep .heads-len, y .deque))
+
+    pub push-links : Linkable (links h t n p o) d free
+    push-links =
+        let r = y .shows .rep in
+        let k = take-does n free (rw (r .next-len) (y .slot)) .does h t p o (y .v) [] r (y .shows .free-is) in
+        record { v = taken (y .v); loose = []; rep = k .0; slot = y .slot; deque = y .deque }
+
+    pub push-fits : Fits w64 (getD l d 0 + 1)
+    push-fits = omega (arith, length-small a free (y .v) (y .shows) d (y .deque), y .shows .rep .small)
+
+    pub push-does : (h′ t′ n′ p′ o′ : List ℕ) (x r : ℕ) → Takes n free r → LinksBack (links h t n p o) (links h′ t′ n′ p′ o′) d free → Pushes (state h t l c n p o e) (state h′ t′ (set l d (getD l d 0 + 1)) c n′ p′ o′ (set e free x)) free d x r
+    push-does h′ t′ n′ p′ o′ x r k b =
+        let i : state h′ t′ (set l d (getD l d 0 + 1)) c n′ p′ o′ (set e free x) ≡ pushed a free d x = same-links (set l d (getD l d 0 + 1)) c (set e free x) (b .is) in
+        record {
+          is = i;
+          free-is = k .is;
+          does = λ v s.
+              let u = counts-same v s in
+              rw (i, k .is) (pushed-shows a free v s d x (u .0) (u .1));
+        }
+
+  -- ---- a node of d
+  module _ (s : ℕ) (y : NodeReady (state h t l c n p o e) free d s) where
+    node-same : (v : Lists) → Shows (state h t l c n p o e) free v → (s < v .slots) × (d < v .count)
+    node-same v k = (omega (arith, k .rep .home-len, y .shows .rep .home-len, y .slot), omega (arith, k .rep .heads-len, y .shows .rep .heads-len, y .deque))
+
+    homed : homeOf (links h t n p o) s ≡ none → ⊥
+    homed i = omega (arith, y .homed, i, y .deque, y .shows .rep .few)
+
+    pub node-held : Held (links h t n p o) s
+    node-held = record { v = y .v; loose = []; rep = y .shows .rep; slot = y .slot; homed = homed }
+
+    pub node-movable : Movable (links h t n p o) d s
+    node-movable = record { v = y .v; loose = []; rep = y .shows .rep; slot = y .slot; homed = homed; deque = y .deque }
+
+    pub node-some : 1 ≤ getD l d 0
+    node-some = length-some a free (y .v) (y .shows) d s (y .slot) (y .deque) (y .homed)
+
+    pub release-does : (c′ h′ t′ n′ p′ o′ : List ℕ) (r : ℕ) → r ≡ getD e s 0 → c′ ≡ stepOff c n d s → Frees (links h t n p o) (links h′ t′ n′ p′ o′) free s → Drops (state h t l c n p o e) (state h′ t′ (set l d (getD l d 0 - 1)) c′ n′ p′ o′ (set e s 0)) free d s r
+    release-does c′ h′ t′ n′ p′ o′ r i j k =
+        let q : state h′ t′ (set l d (getD l d 0 - 1)) c′ n′ p′ o′ (set e s 0) ≡ released a free d s =
+        rw j (same-links (set l d (getD l d 0 - 1)) (stepOff c n d s) (set e s 0) (k .is)) in
+        record {
+          is = q;
+          element-is = i;
+          does = λ v m. let u = node-same v m in rw q (released-shows a free v m d s (u .0) (u .1) (y .homed));
+        }
+
+    -- ---- move to back
+    pub shift-stays : getD t d 0 ≡ s → Moves (state h t l c n p o e) (state h t l c n p o e) free d s
+    shift-stays i =
+        let q : a ≡ movedBack a d s = simp (eq-eqb (getD t d 0) s i) in
+        record { is = q; does = λ v m. let u = node-same v m in rw q (moved-shows a free v m d s (u .0) (u .1) (y .homed)) }
+
+    pub shift-does : (c′ h′ t′ n′ p′ o′ : List ℕ) → (getD t d 0 ≡ s → ⊥) → c′ ≡ stepOff c n d s → MovesBack (links h t n p o) (links h′ t′ n′ p′ o′) d s → Moves (state h t l c n p o e) (state h′ t′ l c′ n′ p′ o′ e) free d s
+    shift-does c′ h′ t′ n′ p′ o′ i j k =
+        let q : state h′ t′ l c′ n′ p′ o′ e ≡ movedBack a d s = simp (ne-eqb (getD t d 0) s i) (rw j (same-links l (stepOff c n d s) e (k .is))) in
+        record { is = q; does = λ v m. let u = node-same v m in rw q (moved-shows a free v m d s (u .0) (u .1) (y .homed)) }
+
+  -- ---- a deque
+  module _ (y : DequeReady (state h t l c n p o e) free d) where
+    slot : (x : ℕ) → In x (deq (y .v) d) → x < length n
+    slot x m = rw (y .shows .rep .next-len) (y .shows .rep .member d x (y .deque) m .0)
+
+    -- past the nodes is none
+    head-none : length n ≤ getD h d 0 → getD h d 0 ≡ none
+    head-none i =
+        ⊎-elim (λ k. k) (λ (k : getD h d 0 ≡ none → ⊥). absurd (omega (arith, i, slot (getD h d 0) (front-in a free (y .v) (y .shows) d (y .deque) k)))) (same? (getD h d 0) none)
+
+    tail-none : length n ≤ getD t d 0 → getD t d 0 ≡ none
+    tail-none i =
+        ⊎-elim (λ k. k) (λ (k : getD t d 0 ≡ none → ⊥). absurd (omega (arith, i, slot (getD t d 0) (back-in a free (y .v) (y .shows) d (y .deque) k)))) (same? (getD t d 0) none)
+
+    real : (x : ℕ) → x < length n → x ≡ none → ⊥
+    real x i k = omega (arith, i, k, y .shows .rep .next-len, y .shows .rep .small)
+
+    -- ---- pop front
+    pub pop-empty : length n ≤ getD h d 0 → Pops (state h t l c n p o e) (state h t l c n p o e) free d PoppedNothing
+    pop-empty i =
+        let k = head-none i in
+        record { is = simp (eq-eqb (getD h d 0) none k); told = simp (eq-eqb (getD h d 0) none k) }
+
+    pub pop-asks : getD h d 0 < length n → NodeReady (state h t l c n p o e) free d (getD h d 0)
+    pop-asks i =
+        let m = front-in a free (y .v) (y .shows) d (y .deque) (real (getD h d 0) i) in
+        let u = y .shows .rep .member d (getD h d 0) (y .deque) m in
+        record { v = y .v; shows = y .shows; slot = u .0; deque = y .deque; homed = u .1 }
+
+    pub pop-does : (b : State) (s r : ℕ) → s ≡ getD h d 0 → s < length n → Drops (state h t l c n p o e) b free d s r → Pops (state h t l c n p o e) b free d (PoppedNode s r s)
+    pop-does b s r i j k =
+        let m : getD h d 0 ≡ none → ⊥ = λ z. real s j (i ∙ z) in
+        record {
+          is = simp (ne-eqb (getD h d 0) none m) (k .is ∙ ap (λ (x : ℕ). released a free d x) i);
+          told = simp (ne-eqb (getD h d 0) none m) (rw (k .element-is, i) refl);
+        }
+
+    -- ---- looks
+    pub front-empty : length n ≤ getD h d 0 → LooksFront (state h t l c n p o e) d LookedNothing
+    front-empty i = record { told = simp (eq-eqb (getD h d 0) none (head-none i)) }
+
+    pub front-does : getD h d 0 < length n → LooksFront (state h t l c n p o e) d (LookedNode (getD h d 0) (getD e (getD h d 0) 0))
+    front-does i = record { told = simp (ne-eqb (getD h d 0) none (real (getD h d 0) i)) }
+
+    pub back-empty : length n ≤ getD t d 0 → LooksBack (state h t l c n p o e) d LookedNothing
+    back-empty i = record { told = simp (eq-eqb (getD t d 0) none (tail-none i)) }
+
+    pub back-does : getD t d 0 < length n → LooksBack (state h t l c n p o e) d (LookedNode (getD t d 0) (getD e (getD t d 0) 0))
+    back-does i = record { told = simp (ne-eqb (getD t d 0) none (real (getD t d 0) i)) }
+
+    -- ---- next by cursor, from the node x
+    pub step-ends : (x : ℕ) → x ≡ cursorNode (state h t l c n p o e) d → length n ≤ x → Steps (state h t l c n p o e) (state h t l (set c d none) n p o e) d LookedNothing
+    step-ends x i k =
+        ⊎-elim
+        (λ (m : cursorNode a d ≡ none).
+        record {
+          is = simp (eq-eqb (cursorNode a d) none m);
+          told = go (cursorNode a d) (inl m);
+        })
+        (λ u.
+        ⊎-elim
+        (λ (m : cursorNode a d ≡ pastEnd).
+        record {
+          is = simp (ne-eqb (cursorNode a d) none (λ z. omega (arith, m, z)), eq-eqb (cursorNode a d) pastEnd m);
+          told = go (cursorNode a d) (inr m);
+        })
+        (λ m. absurd (omega (arith, slot (cursorNode a d) m, k, i)))
+        u)
+        (start-stands a free (y .v) (y .shows) d (y .deque))
+      where
+        go : (z : ℕ) → (z ≡ none) ⊎ (z ≡ pastEnd) → nothing ≡ cond (eqb z pastEnd) nothing (lookTold a z)
+        go z (inl m) = simp (ne-eqb z pastEnd (λ j. omega (arith, m, j)), eq-eqb z none m)
+        go z (inr m) = simp (eq-eqb z pastEnd m)
+
+    pub step-does : (x q : ℕ) → x ≡ cursorNode (state h t l c n p o e) d → x < length n → q ≡ movedOn n x → Steps (state h t l c n p o e) (state h t l (set c d q) n p o e) d (LookedNode x (getD e x 0))
+    step-does x q i k j =
+        let f : cursorNode a d ≡ none → ⊥ = λ z. real x k (i ∙ z) in
+        let g : cursorNode a d ≡ pastEnd → ⊥ = λ z. omega (arith, k, i, z, y .shows .rep .next-len, y .shows .rep .small) in
+        record {
+          is = simp (ne-eqb (cursorNode a d) none f, ne-eqb (cursorNode a d) pastEnd g) (ap (λ (z : ℕ). withCursor a d z) (j ∙ ap (λ (z : ℕ). movedOn n z) i));
+          told = simp (ne-eqb (cursorNode a d) pastEnd g, ne-eqb (cursorNode a d) none f) (ap (λ (z : ℕ). values (z ∷ getD e z 0 ∷ [])) i);
+        }

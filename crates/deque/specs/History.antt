@@ -1,0 +1,31 @@
+-- What the theorems on the calls speak of besides the promises: the first free node that a call leaves, and the cursor on the lists. Assumes nothing.
+use Prim.Native.Nat.{ℕ}
+use mathlib.Core.Bool.{Bool, true, false, cond}
+use mathlib.Core.List.{List, [], _∷_}
+use lib.Dec.{eqb}
+use Rattle.links.specs.Chain.{none, following}
+use Rattle.deque.specs.State.{pastEnd}
+use Rattle.deque.specs.declared.answer.Pushed.{Pushed}
+use Rattle.deque.specs.declared.answer.Pushed.the-variants.{At, Refused as PushedRefused}
+use Rattle.deque.specs.declared.answer.Popped.{Popped}
+use Rattle.deque.specs.declared.answer.Popped.the-variants.{Node as PoppedNode, Nothing as PoppedNothing, Refused as PoppedRefused}
+use Rattle.deque.specs.declared.answer.Dropped.{Dropped}
+use Rattle.deque.specs.declared.answer.Dropped.the-variants.{Element, Refused as DroppedRefused}
+
+-- the first free node after a call, where it was free before: what the answer hands on, and the same one where it hands none on
+abbrev pub pushedFree : Pushed → ℕ → ℕ
+pushedFree (At slot free′) free = free′
+pushedFree (PushedRefused k) free = free
+
+abbrev pub poppedFree : Popped → ℕ → ℕ
+poppedFree (PoppedNode slot element free′) free = free′
+poppedFree PoppedNothing free = free
+poppedFree (PoppedRefused k) free = free
+
+abbrev pub droppedFree : Dropped → ℕ → ℕ
+droppedFree (Element element free′) free = free′
+droppedFree (DroppedRefused k) free = free
+
+-- the cursor moved on from x in a deque that holds xs: to the node after x, or past the end
+abbrev pub moveOn : ℕ → List ℕ → ℕ
+moveOn x xs = let q = following x xs in cond (eqb q none) pastEnd q

@@ -1,0 +1,263 @@
+// Unchecked: the work of the calls on records known to be sound, for proved code only. A caller shows that the records are sound (or tests it once).
+ghost use Prim.Native.Nat.{_<_};
+ghost use mathlib.Core.Path.{_≡_};
+ghost use lib.ListN.{length};
+ghost use Rattle.links.specs.Lists.{links};
+ghost use Rattle.links.specs.Change.{Held};
+ghost use Rattle.deque.specs.State.{state};
+ghost use Rattle.deque.specs.Step.{stepOff, movedOn, startAt};
+ghost use Rattle.deque.specs.Work.{DequeReady, PushReady, NodeReady, Pushes, Drops, Moves, Frees, Pops, LooksFront, LooksBack, Steps};
+use crate::NONE;
+use crate::PAST_END;
+use crate::answer::Looked;
+use crate::answer::Popped;
+use links::change::link_back;
+use links::change::move_back;
+use links::change::unlink;
+use links::free::give_back;
+use links::free::take;
+
+// Where the cursor goes from the node s: to the node after it, or past the end.
+fn moved_on(next: &[usize], s: usize) -> usize
+    requires { ⌜ s < length (now next) ⌝ }
+    ensures { λ r. ⌜ r ≡ movedOn (now (next .entry)) s ⌝ }
+{
+    let q = next[s];
+    if q == NONE {
+        return PAST_END;
+    }
+    q
+}
+
+// Moves the cursor of the deque d on if it stands at s.
+fn step_off(cursors: &mut [usize], next: &[usize], d: usize, s: usize)
+    requires { ⌜ (d < length (now cursors)) × (s < length (now next)) ⌝ }
+    ensures { λ _. ⌜ now (cursors .exit) ≡ stepOff (now (cursors .entry)) (now (next .entry)) d s ⌝ }
+{
+    if cursors[d] != s {
+        return;
+    }
+    cursors[d] = moved_on(next, s);
+}
+
+// Push back, where a node is free and d is a deque. Answers the first free node then.
+pub fn push(
+    heads: &mut [usize],
+    tails: &mut [usize],
+    lens: &mut [usize],
+    cursors: &[usize],
+    next: &mut [usize],
+    prev: &mut [usize],
+    home: &mut [usize],
+    element: &mut [u64],
+    free: usize,
+    d: usize,
+    e: u64,
+) -> usize
+    requires { ⌜ PushReady (state (now heads) (now tails) (now lens) (now cursors) (now next) (now prev) (now home) (now element)) free d ⌝ }
+    ensures { λ r. ⌜ Pushes (state (now (heads .entry)) (now (tails .entry)) (now (lens .entry)) (now (cursors .entry)) (now (next .entry)) (now (prev .entry)) (now (home .entry)) (now (element .entry))) (state (now (heads .exit)) (now (tails .exit)) (now (lens .exit)) (now (cursors .entry)) (now (next .exit)) (now (prev .exit)) (now (home .exit)) (now (element .exit))) free d e r ⌝ }
+{
+    let rest = take(next, free);
+    link_back(heads, tails, next, prev, home, d, free);
+    lens[d] += 1;
+    element[free] = e;
+    rest
+}
+
+// Takes the node s out of its deque and gives it back: it is the first free node then.
+fn unlink_free(
+    heads: &mut [usize],
+    tails: &mut [usize],
+    next: &mut [usize],
+    prev: &mut [usize],
+    home: &mut [usize],
+    free: usize,
+    s: usize,
+)
+    requires { ⌜ Held (links (now heads) (now tails) (now next) (now prev) (now home)) s ⌝ }
+    ensures { λ _. ⌜ Frees (links (now (heads .entry)) (now (tails .entry)) (now (next .entry)) (now (prev .entry)) (now (home .entry))) (links (now (heads .exit)) (now (tails .exit)) (now (next .exit)) (now (prev .exit)) (now (home .exit))) free s ⌝ }
+{
+    unlink(heads, tails, next, prev, home, s);
+    give_back(next, prev, s, free);
+}
+
+// Unlinks the node s of the deque d and frees it. Answers its element; s is the first free node then.
+pub fn release(
+    heads: &mut [usize],
+    tails: &mut [usize],
+    lens: &mut [usize],
+    cursors: &mut [usize],
+    next: &mut [usize],
+    prev: &mut [usize],
+    home: &mut [usize],
+    element: &mut [u64],
+    free: usize,
+    d: usize,
+    s: usize,
+) -> u64
+    requires { ⌜ NodeReady (state (now heads) (now tails) (now lens) (now cursors) (now next) (now prev) (now home) (now element)) free d s ⌝ }
+    ensures { λ r. ⌜ Drops (state (now (heads .entry)) (now (tails .entry)) (now (lens .entry)) (now (cursors .entry)) (now (next .entry)) (now (prev .entry)) (now (home .entry)) (now (element .entry))) (state (now (heads .exit)) (now (tails .exit)) (now (lens .exit)) (now (cursors .exit)) (now (next .exit)) (now (prev .exit)) (now (home .exit)) (now (element .exit))) free d s r ⌝ }
+{
+    let e = element[s];
+    element[s] = 0;
+    lens[d] -= 1;
+    step_off(cursors, next, d, s);
+    unlink_free(heads, tails, next, prev, home, free, s);
+    e
+}
+
+// Pop front.
+pub fn pop(
+    heads: &mut [usize],
+    tails: &mut [usize],
+    lens: &mut [usize],
+    cursors: &mut [usize],
+    next: &mut [usize],
+    prev: &mut [usize],
+    home: &mut [usize],
+    element: &mut [u64],
+    free: usize,
+    d: usize,
+) -> Popped
+    requires { ⌜ DequeReady (state (now heads) (now tails) (now lens) (now cursors) (now next) (now prev) (now home) (now element)) free d ⌝ }
+    ensures { λ r. ⌜ Pops (state (now (heads .entry)) (now (tails .entry)) (now (lens .entry)) (now (cursors .entry)) (now (next .entry)) (now (prev .entry)) (now (home .entry)) (now (element .entry))) (state (now (heads .exit)) (now (tails .exit)) (now (lens .exit)) (now (cursors .exit)) (now (next .exit)) (now (prev .exit)) (now (home .exit)) (now (element .exit))) free d r ⌝ }
+{
+    let s = heads[d];
+    if next.len() <= s {
+        return Popped::Nothing;
+    }
+    let e = release(
+        heads,
+        tails,
+        lens,
+        cursors,
+        next,
+        prev,
+        home,
+        element,
+        free,
+        d,
+        s,
+    );
+    Popped::Node {
+        slot: s,
+        element: e,
+        free: s,
+    }
+}
+
+// Moves the node s of the deque d to its back. The tail stays where it is, and the cursor on it too.
+pub fn shift(
+    heads: &mut [usize],
+    tails: &mut [usize],
+    lens: &[usize],
+    cursors: &mut [usize],
+    next: &mut [usize],
+    prev: &mut [usize],
+    home: &mut [usize],
+    element: &[u64],
+    free: usize,
+    d: usize,
+    s: usize,
+)
+    requires { ⌜ NodeReady (state (now heads) (now tails) (now lens) (now cursors) (now next) (now prev) (now home) (now element)) free d s ⌝ }
+    ensures { λ _. ⌜ Moves (state (now (heads .entry)) (now (tails .entry)) (now (lens .entry)) (now (cursors .entry)) (now (next .entry)) (now (prev .entry)) (now (home .entry)) (now (element .entry))) (state (now (heads .exit)) (now (tails .exit)) (now (lens .entry)) (now (cursors .exit)) (now (next .exit)) (now (prev .exit)) (now (home .exit)) (now (element .entry))) free d s ⌝ }
+{
+    if tails[d] == s {
+        return;
+    }
+    step_off(cursors, next, d, s);
+    move_back(heads, tails, next, prev, home, d, s);
+}
+
+// The front of the deque d, if there is one.
+pub fn front(
+    heads: &[usize],
+    tails: &[usize],
+    lens: &[usize],
+    cursors: &[usize],
+    next: &[usize],
+    prev: &[usize],
+    home: &[usize],
+    element: &[u64],
+    free: usize,
+    d: usize,
+) -> Looked
+    requires { ⌜ DequeReady (state (now heads) (now tails) (now lens) (now cursors) (now next) (now prev) (now home) (now element)) free d ⌝ }
+    ensures { λ r. ⌜ LooksFront (state (now (heads .entry)) (now (tails .entry)) (now (lens .entry)) (now (cursors .entry)) (now (next .entry)) (now (prev .entry)) (now (home .entry)) (now (element .entry))) d r ⌝ }
+{
+    let s = heads[d];
+    if next.len() <= s {
+        return Looked::Nothing;
+    }
+    Looked::Node {
+        slot: s,
+        element: element[s],
+    }
+}
+
+// The back of the deque d, if there is one.
+pub fn back(
+    heads: &[usize],
+    tails: &[usize],
+    lens: &[usize],
+    cursors: &[usize],
+    next: &[usize],
+    prev: &[usize],
+    home: &[usize],
+    element: &[u64],
+    free: usize,
+    d: usize,
+) -> Looked
+    requires { ⌜ DequeReady (state (now heads) (now tails) (now lens) (now cursors) (now next) (now prev) (now home) (now element)) free d ⌝ }
+    ensures { λ r. ⌜ LooksBack (state (now (heads .entry)) (now (tails .entry)) (now (lens .entry)) (now (cursors .entry)) (now (next .entry)) (now (prev .entry)) (now (home .entry)) (now (element .entry))) d r ⌝ }
+{
+    let s = tails[d];
+    if next.len() <= s {
+        return Looked::Nothing;
+    }
+    Looked::Node {
+        slot: s,
+        element: element[s],
+    }
+}
+
+// The node that next by cursor answers: the cursor's, or the head where the cursor stands at none. Past the end, and in an empty deque, no node.
+fn start(heads: &[usize], cursors: &[usize], d: usize) -> usize
+    requires { ⌜ (d < length (now heads)) × (d < length (now cursors)) ⌝ }
+    ensures { λ r. ⌜ r ≡ startAt (now (heads .entry)) (now (cursors .entry)) d ⌝ }
+{
+    let c = cursors[d];
+    if c == NONE {
+        return heads[d];
+    }
+    c
+}
+
+// Next by cursor: the node at the cursor, which starts at the head; from past the end, and where there is no node, back to none.
+pub fn step(
+    heads: &[usize],
+    tails: &[usize],
+    lens: &[usize],
+    cursors: &mut [usize],
+    next: &[usize],
+    prev: &[usize],
+    home: &[usize],
+    element: &[u64],
+    free: usize,
+    d: usize,
+) -> Looked
+    requires { ⌜ DequeReady (state (now heads) (now tails) (now lens) (now cursors) (now next) (now prev) (now home) (now element)) free d ⌝ }
+    ensures { λ r. ⌜ Steps (state (now (heads .entry)) (now (tails .entry)) (now (lens .entry)) (now (cursors .entry)) (now (next .entry)) (now (prev .entry)) (now (home .entry)) (now (element .entry))) (state (now (heads .entry)) (now (tails .entry)) (now (lens .entry)) (now (cursors .exit)) (now (next .entry)) (now (prev .entry)) (now (home .entry)) (now (element .entry))) d r ⌝ }
+{
+    let s = start(heads, cursors, d);
+    if next.len() <= s {
+        cursors[d] = NONE;
+        return Looked::Nothing;
+    }
+    cursors[d] = moved_on(next, s);
+    Looked::Node {
+        slot: s,
+        element: element[s],
+    }
+}

@@ -1,0 +1,30 @@
+-- `lines::answers::room` meets its contract: the ways to its answer are the two cases of the test. Assumes nothing.
+use native.Mathlib.Omega.{arith}
+use mathlib.Core.Path.{_≡_, refl, sym, ap, subst, _∙_}
+use lib.ListN.{length, take, drop, getD}
+use Rattle.lines.proofs.Waiting.{place-after, place-start}
+use borrow.Author.Needs.{needs}
+use Rattle.lines.proofs.answers.room.Statement.{statement}
+use Rattle.lines.proofs.answers.room.Tie as tie
+
+emptied-requires : tie.Need-emptied-requires
+emptied-requires c κs = search needs
+
+returns : tie.Need-returns
+returns c = let a = c .before .before .before .args in c .emptied .ensures ∙ sym (place-start (a .at) (a .n) (length (a .out .now)) (omega arith))
+
+sub-if2 : tie.Need-sub-if2
+sub-if2 c = search needs
+
+emptied-requires-2 : tie.Need-emptied-requires-2
+emptied-requires-2 c κs = search needs
+
+returns-2 : tie.Need-returns-2
+returns-2 c = let a = c .before .before .before .before .args in c .emptied2 .ensures ∙ sym (place-start (a .at) (a .n) (length (a .out .now)) (omega arith))
+
+returns-3 : tie.Need-returns-3
+returns-3 c = sym (place-after _ _ _ (omega arith))
+
+pub room-spec : {M : Type 1} → statement M
+room-spec =
+    tie.close (tie.spec emptied-requires returns sub-if2 emptied-requires-2 returns-2 returns-3)
