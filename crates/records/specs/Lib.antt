@@ -1,3 +1,7 @@
 -- What the contracts of the wheel's records cite. Assumes nothing.
 pub mod Records
 pub mod Shows
+pub mod Clocks
+pub mod Change
+pub mod Timers
+pub mod Moments

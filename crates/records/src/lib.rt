@@ -2,6 +2,10 @@
 // sound. The records are parallel slices: heads and tails of the buckets; next, prev, bucket, entry, generation and serial of the slots;
 // dated, deadline and generation of the entries. The clock goes in by value and is handed back.
 
+pub mod payload; // the payload of a slot
+pub mod timers; // arming, disarming, rearming
+pub mod moments; // start, end, abandon
+
 // The clock record. While an advance is open, reading is q and previous is p; `step` counts the buckets entered on `level` so far, and
 // level 0 with step 0 stands before the first bucket.
 pub struct Clock {

@@ -1,0 +1,4 @@
+pub mod Showing
+pub mod Tying
+pub mod Timing
+pub mod Retiming
