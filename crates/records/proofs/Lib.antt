@@ -2,3 +2,5 @@ pub mod Showing
 pub mod Tying
 pub mod Timing
 pub mod Retiming
+pub mod Setting
+pub mod Counting

@@ -5,3 +5,5 @@ pub mod Clocks
 pub mod Change
 pub mod Timers
 pub mod Moments
+pub mod Counts
+pub mod Settings

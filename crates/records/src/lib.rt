@@ -4,6 +4,8 @@
 
 pub mod payload; // the payload of a slot
 pub mod timers; // arming, disarming, rearming
+pub mod settings; // setting an entry
+pub mod counts; // armed count, next due
 pub mod moments; // start, end, abandon
 
 // The clock record. While an advance is open, reading is q and previous is p; `step` counts the buckets entered on `level` so far, and
