@@ -1,4 +1,8 @@
 // Armed count and next due: refusals in order, then the count. They change nothing. No `requires`.
+ghost use mathlib.Core.Path.{_≡_};
+ghost use Rattle.rules.specs.Wheel.{due};
+ghost use Rattle.records.specs.Counts.{dueTold};
+ghost use Rattle.wheel.specs.Answers.{dueSays};
 ghost use Rattle.wheel.specs.Lent.{lent};
 ghost use Rattle.wheel.specs.Calls.{ArmedCount, NextDue};
 use crate::Counted;
@@ -7,6 +11,16 @@ use crate::refuse::closed_refusal;
 use crate::refuse::standing_refusal;
 use records::Clock;
 use records::counts;
+
+// The deadline found, or none, as an answer.
+fn told(found: counts::Due) -> Due
+    ensures { λ r. ⌜ dueSays r ≡ due (dueTold found) ⌝ }
+{
+    match found {
+        counts::Due::At(d) => Due::At(d),
+        counts::Due::Nothing => Due::Never,
+    }
+}
 
 // How many slots are armed. It answers while an advance is open too. Refuses (1, 4).
 pub fn armed_count(
@@ -80,8 +94,6 @@ pub fn next_due(
     if no != 0 {
         return Due::Refused(no);
     }
-    match counts::next_due(heads, bucket, entry, dated, deadline) {
-        counts::Due::At(d) => Due::At(d),
-        counts::Due::Nothing => Due::Never,
-    }
+    let found = counts::next_due(heads, bucket, entry, dated, deadline);
+    told(found)
 }
