@@ -4,3 +4,5 @@ pub mod Timing
 pub mod Retiming
 pub mod Setting
 pub mod Counting
+pub mod Clearing
+pub mod Seating

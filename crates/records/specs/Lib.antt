@@ -7,3 +7,4 @@ pub mod Timers
 pub mod Moments
 pub mod Counts
 pub mod Settings
+pub mod Layout

@@ -1,0 +1,2 @@
+-- What the contracts of the advance cite. Assumes nothing.
+pub mod Position

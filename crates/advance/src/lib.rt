@@ -1,0 +1,2 @@
+// The advance, unchecked: for proved code only. What a pull does on records that are known to be sound and show an open advance.
+pub mod position; // which buckets the advance visits
