@@ -26,18 +26,53 @@ use Rattle.records.specs.Change.{join}
 use Rattle.records.specs.Timers.{Ready, ArmReady, SlotReady, MoveReady}
 use Rattle.records.specs.Counts.{DueReady}
 use Rattle.records.specs.Settings.{EntryReady}
+use Rattle.records.specs.Layout.{LayReady}
 use Rattle.wheel_sound.specs.Clauses.{Armed}
 use Rattle.wheel_sound.specs.Sound.{SoundRecords}
 use Rattle.wheel_sound.specs.Shown.{shown}
 use Rattle.wheel_sound.proofs.Showing.{sound-shows, shown-sound}
 use Rattle.wheel.specs.Lent.{lent}
-use Rattle.wheel.specs.Refuse.{unless, answered, roomy, Live, RefusesCount, RefusesClosed, RefusesOpen, RefusesSet, RefusesSchedule, RefusesHandle}
+use Rattle.wheel.specs.Refuse.{unless, answered, roomy, Live, Lendable, RefusesEnable, RefusesCount, RefusesClosed, RefusesOpen, RefusesSet, RefusesSchedule, RefusesHandle}
 use Rattle.wheel.proofs.Rows.{past, standing-past, closed-past}
 use Rattle.wheel.proofs.Refusing.{set-past, stamp-at, dated-at, deadline-at}
+
+-- an index below 4,096, in bytes
+small : (x : ℕ) → x < 4096 → Fits w64 (x * 8)
+small x h = scaled-fits x 4096 8 h (omega arith)
 
 ready : (N : Nodes) (E : Entries) (c : Clock) → c .enabled ≡ true → SoundRecords wheel01 (records N E c) → Ready wheel01 (records N E c)
 ready N E c e s =
     record { w = shown wheel01 (records N E c); shows = sound-shows wheel01 (records N E c) s e; sound = shown-sound wheel01 (records N E c) s }
+
+-- ---- enable
+pub lendable : (R : Records) (k : ℕ) → RefusesEnable R k → k ≡ 0 → Lendable R
+lendable R k f z =
+    let u = past 2 k (f .by) (λ i. omega (arith, z, i)) in
+    past 3 k (u .1) (λ i. omega (arith, z, i)) .0
+
+pub lay-ready : (N : Nodes) (E : Entries) (c : Clock) (k : ℕ) → RefusesEnable (records N E c) k → k ≡ 0 → LayReady wheel01 N E
+lay-ready N E c k f z =
+    let y = lendable (records N E c) k f z in
+    record {
+      seat =
+          record {
+            sizes =
+                record {
+                  tails-len = y .ends .tails-len ∙ sym (y .ends .heads-len);
+                  prev-len = y .nodes .prev-len;
+                  home-len = y .nodes .bucket-len;
+                  few = omega (arith, y .ends .heads-len);
+                  small = y .ranges .nodes-most;
+                };
+            room = omega (arith, y .ends .heads-len, y .ranges .room);
+          };
+      heads-len = y .ends .heads-len;
+      entry-len = y .nodes .entry-len;
+      generation-len = y .nodes .generation-len;
+      serial-len = y .nodes .serial-len;
+      deadline-len = y .entries .deadline-len;
+      entries-generation-len = y .entries .generation-len;
+    }
 
 -- ---- schedule
 pub record Schedulable (N : Nodes) (E : Entries) (c : Clock) (e : ℕ) : Type 0 where
@@ -59,8 +94,8 @@ schedulable N E c e h k f z =
     let q = past 11 k (r .1) (λ i. omega (arith, z, i)) in
     record { enabled = u .0; sound = u .1; entry = v .0; dated = b .0; free = r .0; more = q .0 }
 
-pub arm-ready : (N : Nodes) (E : Entries) (c : Clock) (e h k : ℕ) → RefusesSchedule (records N E c) e h k → k ≡ 0 → c .serial < 2 ^ 64 → ArmReady wheel01 N c
-arm-ready N E c e h k f z l =
+pub arm-ready : (N : Nodes) (E : Entries) (c : Clock) (e h k : ℕ) → RefusesSchedule (records N E c) e h k → k ≡ 0 → ArmReady wheel01 N c
+arm-ready N E c e h k f z =
     let s = schedulable N E c e h k f z in
     let y : Ready wheel01 (records N E c) = ready N E c (s .enabled) (s .sound) in
     let t = y .shows in
@@ -68,7 +103,7 @@ arm-ready N E c e h k f z l =
       E = E;
       ready = y;
       slot = omega (arith, t .rep .next-len, t .rep .spare (c .free) (first-in (t .lists .free) (c .free) (t .free-is) (s .free)) .0);
-      few = omega (arith, l, s .more);
+      few = f .few z;
     }
 
 -- the deadline of its entry is in the slice
@@ -78,8 +113,10 @@ module _ (h t n p b ee g s : List ℕ) (d : List Bool) (l m : List ℕ) (c : Clo
       let s′ = schedulable (nodes h t n p b ee g s) (entries d l m) c e i k f z in
       omega (arith, s′ .entry, s′ .sound .lengths .entries .deadline-len)
 
-  pub due-bytes : length l * 8 < 2 ^ 63 → Fits w64 (e * 8)
-  due-bytes q = scaled-fits e (length l) 8 due-index q
+  pub due-bytes : Fits w64 (e * 8)
+  due-bytes =
+      let s′ = schedulable (nodes h t n p b ee g s) (entries d l m) c e i k f z in
+      small e (omega (arith, s′ .entry, s′ .sound .lengths .ranges .entries-most))
 
 -- ---- set entry
 pub entry-ready : (N : Nodes) (E : Entries) (c : Clock) (e k : ℕ) → RefusesSet (records N E c) e k → k ≡ 0 → EntryReady E e
@@ -143,8 +180,8 @@ module _ (h t n p b ee g s : List ℕ) (d : List Bool) (l m : List ℕ) (c : Clo
   pub entry-index : x < length ee
   entry-index = omega (arith, handled .live .slot, handled .sound .lengths .nodes .entry-len)
 
-  pub entry-bytes : length ee * 8 < 2 ^ 63 → Fits w64 (x * 8)
-  entry-bytes q = scaled-fits x (length ee) 8 entry-index q
+  pub entry-bytes : Fits w64 (x * 8)
+  entry-bytes = small x (omega (arith, handled .live .slot, handled .sound .lengths .ranges .nodes-most))
 
   pub held-dated : getD ee x 0 < length d
   held-dated = omega (arith, exists, handled .sound .lengths .entries .dated-len)
@@ -152,8 +189,8 @@ module _ (h t n p b ee g s : List ℕ) (d : List Bool) (l m : List ℕ) (c : Clo
   pub held-deadline : getD ee x 0 < length l
   held-deadline = omega (arith, exists, handled .sound .lengths .entries .deadline-len)
 
-  pub held-bytes : length l * 8 < 2 ^ 63 → Fits w64 (getD ee x 0 * 8)
-  held-bytes q = scaled-fits (getD ee x 0) (length l) 8 held-deadline q
+  pub held-bytes : Fits w64 (getD ee x 0 * 8)
+  held-bytes = small (getD ee x 0) (omega (arith, exists, handled .sound .lengths .ranges .entries-most))
 
 -- ---- the two counts
 module _ (h t n p b ee g s : List ℕ) (d : List Bool) (l m : List ℕ) (c : Clock) (o : SoundRecords wheel01 (lent h t n p b ee g s d l m c)) where

@@ -9,12 +9,13 @@ use lib.ListN.{length, getD}
 use borrow.Author.Tests.{not-true, not-false}
 use Rattle.links.specs.Lists.{Links}
 use Rattle.rules.specs.Geometry.{wheel01}
-use Rattle.rules.specs.Wheel.{Wheel, Call, setEntry, schedule, reschedule, deschedule, start, abandon, armedCount, nextDue, Answer, refused, ok, handle, removed, number, due}
+use Rattle.rules.specs.Wheel.{Wheel, Call, enable, setEntry, schedule, reschedule, deschedule, start, abandon, armedCount, nextDue, Answer, refused, ok, handle, removed, number, due}
 use Rattle.rules.specs.Calls.{act, rearmed}
 use Rattle.rules.specs.Sound.{Sound, SoundIfEnabled}
 use Rattle.records.specs.declared.Clock.{Clock}
 use Rattle.records.specs.declared.timers.Armed.{Armed}
 use Rattle.records.specs.declared.counts.Due.{Due as Found}
+use Rattle.records.specs.declared.counts.Due.the-variants.{At as FoundAt, Nothing}
 use Rattle.records.specs.Records.{Nodes, Entries, Records, records, nodes, entries}
 use Rattle.records.specs.Shows.{Shows, Stands}
 use Rattle.records.specs.Change.{join}
@@ -22,18 +23,19 @@ use Rattle.records.specs.Timers.{Arms, Disarms, Rearms}
 use Rattle.records.specs.Counts.{Counts, dueTold, FindsDue}
 use Rattle.records.specs.Settings.{settled, Sets}
 use Rattle.records.specs.Moments.{Starts, Abandons}
+use Rattle.records.specs.Layout.{Lays}
 use Rattle.wheel.specs.declared.Timed.the-variants.{Done, Refused as TimedRefused}
 use Rattle.wheel.specs.declared.Noted.the-variants.{Done as Set, Refused as NotedRefused}
 use Rattle.wheel.specs.declared.Scheduled.the-variants.{Armed as Given, Refused as ScheduledRefused}
 use Rattle.wheel.specs.declared.Rescheduled.the-variants.{Moved, Removed, Refused as RescheduledRefused}
 use Rattle.wheel.specs.declared.Counted.the-variants.{Armed as Count, Refused as CountedRefused}
 use Rattle.wheel.specs.declared.Due.{Due}
-use Rattle.wheel.specs.declared.Due.the-variants.{Refused as DueRefused}
-use Rattle.wheel.specs.Answers.{dueSays}
+use Rattle.wheel.specs.declared.Due.the-variants.{At, Never, Refused as DueRefused}
+use Rattle.wheel.specs.Answers.{dueSays, TellsDue}
 use Rattle.wheel.specs.Lent.{lent}
-use Rattle.wheel.specs.Refuse.{answered, unless, setRows, scheduleRows, handleRows, closedRows, openRows, countRows, RefusesCount, RefusesClosed, RefusesOpen, RefusesSet, RefusesSchedule, RefusesHandle}
-use Rattle.wheel.specs.Work.{entrySet, scheduled, handleOf, descheduled, moved, rescheduled, rescheduleSays, opened, left, armedSays, nextSays}
-use Rattle.wheel.specs.Calls.{Acts, Meets, SetEntry, Schedule, Reschedule, Deschedule, Start, Abandon, ArmedCount, NextDue}
+use Rattle.wheel.specs.Refuse.{answered, unless, setRows, scheduleRows, handleRows, closedRows, openRows, countRows, RefusesCount, RefusesClosed, RefusesOpen, RefusesSet, RefusesSchedule, RefusesHandle, RefusesEnable, enableRows}
+use Rattle.wheel.specs.Work.{laidOut, entrySet, scheduled, handleOf, descheduled, moved, rescheduled, rescheduleSays, opened, left, armedSays, nextSays}
+use Rattle.wheel.specs.Calls.{Acts, Meets, Enable, SetEntry, Schedule, Reschedule, Deschedule, Start, Abandon, ArmedCount, NextDue}
 use Rattle.wheel.proofs.Rows.{past, standing-past, closed-past}
 use Rattle.wheel.proofs.Refusing.{set-past}
 use Rattle.wheel.proofs.Acting.{Schedulable, schedulable, Handled, handled-by, deadline-is, held-is}
@@ -59,6 +61,19 @@ lift c R R′ a e f w t o =
     let on : w .enabled ≡ true = sym (t .enabled) ∙ e in
     let r = f w (t .shows on) (o on) in
     (r .0, stands-of R′ (act wheel01 w c .1) (r .1))
+
+-- ---- enable
+module _ (N : Nodes) (E : Entries) (c : Clock) (k : ℕ) (f : RefusesEnable (records N E c) k) where
+  pub enable-no : (k ≡ 0 → ⊥) → Enable (records N E c) (records N E c) (TimedRefused k)
+  enable-no n = record { meets = no _ _ (records N E c) _ _ k (f .by) n }
+
+  pub enable-yes : (N′ : Nodes) (E′ : Entries) (c′ : Clock) → k ≡ 0 → Lays wheel01 N E c N′ E′ c′ → Enable (records N E c) (records N′ E′ c′) (Done c′)
+  enable-yes N′ E′ c′ z u =
+      record {
+        meets =
+            yes-by _ _ (records N E c) (records N′ E′ c′) _ ok _ k (f .by) z refl (λ i. records (u .nodes-are i) (u .entries-are i) (u .clock-is i))
+            (λ w t o. (refl, stands-of (records N′ E′ c′) _ (u .does w (t .reading) (t .next))));
+      }
 
 -- ---- schedule
 module _ (N : Nodes) (E : Entries) (c : Clock) (e h k : ℕ) (f : RefusesSchedule (records N E c) e h k) where
@@ -177,6 +192,12 @@ module _ (N : Nodes) (E : Entries) (c : Clock) (k : ℕ) where
       }
 
 -- ---- the two counts
+pub tells-due : (v : Found) (d : ℕ) → v ≡ FoundAt d → TellsDue v (At d)
+tells-due v d e = record { is = ap (λ (m : Found). due (dueTold m)) (sym e) }
+
+pub tells-never : (v : Found) → v ≡ Nothing → TellsDue v Never
+tells-never v e = record { is = ap (λ (m : Found). due (dueTold m)) (sym e) }
+
 module _ (h t n p b ee g s : List ℕ) (d : List Bool) (l m : List ℕ) (c : Clock) (k : ℕ) where
   pub count-no : RefusesCount (lent h t n p b ee g s d l m c) k → (k ≡ 0 → ⊥) → ArmedCount (lent h t n p b ee g s d l m c) (CountedRefused k)
   count-no f z = record { meets = no _ _ (lent h t n p b ee g s d l m c) _ _ k (f .by) z }
@@ -194,13 +215,13 @@ module _ (h t n p b ee g s : List ℕ) (d : List Bool) (l m : List ℕ) (c : Clo
   pub due-no : RefusesClosed (lent h t n p b ee g s d l m c) k → (k ≡ 0 → ⊥) → NextDue (lent h t n p b ee g s d l m c) (DueRefused k)
   due-no f z = record { meets = no _ _ (lent h t n p b ee g s d l m c) _ _ k (f .by) z }
 
-  pub due-yes : (r : Due) (v : Found) → RefusesClosed (lent h t n p b ee g s d l m c) k → k ≡ 0 → FindsDue wheel01 h b ee d l v → dueSays r ≡ due (dueTold v)
+  pub due-yes : (r : Due) (v : Found) → RefusesClosed (lent h t n p b ee g s d l m c) k → k ≡ 0 → FindsDue wheel01 h b ee d l v → TellsDue v r
       → NextDue (lent h t n p b ee g s d l m c) r
   due-yes r v f z u i =
       let R : Records = lent h t n p b ee g s d l m c in
       record {
         meets =
-            yes-by _ _ R R _ (dueSays r) _ k (f .by) z (i ∙ ap due (u .is)) refl
+            yes-by _ _ R R _ (dueSays r) _ k (f .by) z (i .is ∙ ap due (u .is)) refl
             (lift nextDue R R (dueSays r) (closed-past R answered k (f .by) z .0)
-            (λ w y o. (u .does t n p g s m c w y o ∙ sym i, y)));
+            (λ w y o. (u .does t n p g s m c w y o ∙ sym (i .is), y)));
       }

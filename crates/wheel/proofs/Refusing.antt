@@ -6,7 +6,8 @@ use mathlib.Core.Logic.{_⊎_, inl, inr, ⊎-elim}
 use mathlib.Core.Bool.{Bool, true, false, false≢true, not}
 use mathlib.Core.List.{List}
 use lib.ListN.{length, getD}
-use borrow.Author.Tests.{not-true, not-false}
+use lib.Dec.{eqb}
+use borrow.Author.Tests.{not-true, not-false, eqb-true, eqb-false}
 use borrow.Author.Needs.{scaled-fits}
 use mir.Syntax.{w64}
 use mir.Val.{Fits}
@@ -16,9 +17,10 @@ use Rattle.rules.specs.Geometry.{wheel01, buckets}
 use Rattle.records.specs.declared.Clock.{Clock}
 use Rattle.records.specs.Records.{Records}
 use Rattle.wheel_sound.specs.Decides.{Decides}
+use Rattle.wheel_sound.specs.Clauses.{Ranges, EndsLengths, NodesLengths, EntriesLengths}
 use Rattle.wheel_sound.specs.Sound.{SoundWith, SoundRecords}
 use Rattle.wheel.specs.Lent.{lent}
-use Rattle.wheel.specs.Refuse.{unless, answered, roomy, Live, RefusesCount, RefusesClosed, RefusesOpen, RefusesSet, RefusesSchedule, RefusesHandle}
+use Rattle.wheel.specs.Refuse.{unless, answered, roomy, Live, Lendable, IsLast, RefusesEnable, RefusesCount, RefusesClosed, RefusesOpen, RefusesSet, RefusesSchedule, RefusesHandle}
 use Rattle.wheel.proofs.Rows.{past, standing-stops, closed-stops, entered-stops, standing-past, closed-past}
 
 -- ---- standing: 1, 4
@@ -113,38 +115,46 @@ module _ (h t n p b ee g s : List ℕ) (d : List Bool) (l m : List ℕ) (c : Clo
   dated-index = dated-at (lent h t n p b ee g s d l m c) e k f z
 
 -- ---- schedule: 8 to 11
+pub last-serial : (n : ℕ) → Fits w64 n → IsLast n (eqb n 18446744073709551615)
+last-serial n f =
+    record { is = eqb-true n 18446744073709551615; below = λ e. under n (f .fits) (eqb-false n 18446744073709551615 e) }
+  where
+    under : (m : ℕ) → m < 2 ^ 64 → (m ≡ 2 ^ 64 - 1 → ⊥) → m < 2 ^ 64 - 1
+    under m h d = omega (arith, d)
+
 module _ (R : Records) (e h k : ℕ) (f : RefusesSet R e k) where
   abbrev Rest : ℕ → Type 0
   Rest = unless (getD (R .entries .generation) e 0 ≡ h) 8 (unless (getD (R .entries .dated) e false ≡ true) 9 (roomy R answered))
 
-  reach : (r : ℕ) → k ≡ 0 → Rest r → RefusesSchedule R e h r
-  reach r z m =
+  reach : (r : ℕ) → k ≡ 0 → Rest r → (r ≡ 0 → R .clock .serial < 2 ^ 64 - 1) → RefusesSchedule R e h r
+  reach r z m few =
       let u = set-past R e k f z in
-      record { by = inr (u .0, inr (u .1, inr (u .2, inr (u .3, m)))) }
+      record { by = inr (u .0, inr (u .1, inr (u .2, inr (u .3, m)))); few = few }
 
   pub schedule-stop : (k ≡ 0 → ⊥) → RefusesSchedule R e h k
-  schedule-stop n = record { by = entered-stops R Rest k e (f .by) n }
+  schedule-stop n = record { by = entered-stops R Rest k e (f .by) n; few = λ z. absurd (n z) }
 
   module _ (z : k ≡ 0) where
     pub schedule-8 : (getD (R .entries .generation) e 0 ≡ h → ⊥) → RefusesSchedule R e h 8
-    schedule-8 n = reach 8 z (inl (n, refl))
+    schedule-8 n = reach 8 z (inl (n, refl)) (λ v. absurd (omega (arith, v)))
 
     module _ (i : getD (R .entries .generation) e 0 ≡ h) where
       pub schedule-9 : not (getD (R .entries .dated) e false) ≡ true → RefusesSchedule R e h 9
-      schedule-9 j = reach 9 z (inr (i, inl ((λ y. false≢true (sym (not-true (getD (R .entries .dated) e false) j) ∙ y)), refl)))
+      schedule-9 j = reach 9 z (inr (i, inl ((λ y. false≢true (sym (not-true (getD (R .entries .dated) e false) j) ∙ y)), refl))) (λ v. absurd (omega (arith, v)))
 
       module _ (j : not (getD (R .entries .dated) e false) ≡ false) where
         dated-is : getD (R .entries .dated) e false ≡ true
         dated-is = not-false (getD (R .entries .dated) e false) j
 
         pub schedule-10 : R .clock .free ≡ none → RefusesSchedule R e h 10
-        schedule-10 x = reach 10 z (inr (i, inr (dated-is, inl ((λ y. y x), refl))))
+        schedule-10 x = reach 10 z (inr (i, inr (dated-is, inl ((λ y. y x), refl)))) (λ v. absurd (omega (arith, v)))
 
-        pub schedule-11 : (R .clock .free ≡ none → ⊥) → R .clock .serial ≡ 18446744073709551615 → RefusesSchedule R e h 11
-        schedule-11 x y = reach 11 z (inr (i, inr (dated-is, inr (x, inl ((λ q. q y), refl)))))
+        pub schedule-11 : (b : Bool) → (R .clock .free ≡ none → ⊥) → IsLast (R .clock .serial) b → b ≡ true → RefusesSchedule R e h 11
+        schedule-11 b x l y = reach 11 z (inr (i, inr (dated-is, inr (x, inl ((λ q. q (l .is y)), refl))))) (λ v. absurd (omega (arith, v)))
 
-        pub schedule-0 : (R .clock .free ≡ none → ⊥) → (R .clock .serial ≡ 18446744073709551615 → ⊥) → RefusesSchedule R e h 0
-        schedule-0 x y = reach 0 z (inr (i, inr (dated-is, inr (x, inr (y, refl)))))
+        pub schedule-0 : (b : Bool) → (R .clock .free ≡ none → ⊥) → IsLast (R .clock .serial) b → b ≡ false → RefusesSchedule R e h 0
+        schedule-0 b x l y =
+            reach 0 z (inr (i, inr (dated-is, inr (x, inr ((λ q. omega (arith, q, l .below y)), refl))))) (λ _. l .below y)
 
 pub ruleset schedule-exits = (schedule-stop, schedule-8, schedule-9, schedule-10, schedule-11, schedule-0)
 
@@ -210,3 +220,45 @@ module _ (h t n p b ee g s : List ℕ) (d : List Bool) (l m : List ℕ) (c : Clo
 
   pub generation-index : x < length g
   generation-index = omega (arith, i, slices .lengths .nodes .next-len, slices .lengths .nodes .generation-len)
+
+-- ---- enable: 2, 3
+module _ (h t n p b e g s : List ℕ) (d : List Bool) (l m : List ℕ) (c : Clock) where
+  pub enable-2 : c .enabled ≡ true → RefusesEnable (lent h t n p b e g s d l m c) 2
+  enable-2 i = record { by = inl ((λ j. false≢true (sym j ∙ i)), refl) }
+
+  module _ (i : c .enabled ≡ false) where
+    three : (Lendable (lent h t n p b e g s d l m c) → ⊥) → RefusesEnable (lent h t n p b e g s d l m c) 3
+    three f = record { by = inr (i, inl (f, refl)) }
+
+    pub enable-ranges : (r : Bool) → Decides (Ranges 165 (length n) (length d)) r → not r ≡ true → RefusesEnable (lent h t n p b e g s d l m c) 3
+    enable-ranges r k f = three (λ z. false≢true (sym (not-true r f) ∙ k .complete (z .ranges)))
+
+    pub enable-ends : (r : Bool) → Decides (EndsLengths 165 (length h) (length t)) r → not r ≡ true → RefusesEnable (lent h t n p b e g s d l m c) 3
+    enable-ends r k f = three (λ z. false≢true (sym (not-true r f) ∙ k .complete (z .ends)))
+
+    pub enable-nodes : (r : Bool) → Decides (NodesLengths (length n) (length n) (length p) (length b) (length e) (length g) (length s)) r → not r ≡ true → RefusesEnable (lent h t n p b e g s d l m c) 3
+    enable-nodes r k f = three (λ z. false≢true (sym (not-true r f) ∙ k .complete (z .nodes)))
+
+    pub enable-entries : (r : Bool) → Decides (EntriesLengths (length d) (length d) (length l) (length m)) r → not r ≡ true → RefusesEnable (lent h t n p b e g s d l m c) 3
+    enable-entries r k f = three (λ z. false≢true (sym (not-true r f) ∙ k .complete (z .entries)))
+
+    pub enable-0 : (u v w r : Bool) → Decides (Ranges 165 (length n) (length d)) u → not u ≡ false → Decides (EndsLengths 165 (length h) (length t)) v → not v ≡ false
+        → Decides (NodesLengths (length n) (length n) (length p) (length b) (length e) (length g) (length s)) w → not w ≡ false
+        → Decides (EntriesLengths (length d) (length d) (length l) (length m)) r → not r ≡ false → RefusesEnable (lent h t n p b e g s d l m c) 0
+    enable-0 u v w r a a′ y y′ k k′ o o′ =
+        record {
+          by = inr (
+            i,
+            inr (
+              record {
+                ranges = a .sound (not-false u a′);
+                ends = y .sound (not-false v y′);
+                nodes = k .sound (not-false w k′);
+                entries = o .sound (not-false r o′);
+              },
+              refl,
+            ),
+          );
+        }
+
+pub ruleset enable-exits = (enable-2, enable-ranges, enable-ends, enable-nodes, enable-entries, enable-0)

@@ -1,8 +1,11 @@
 -- What each case of the code's answers says, in 01's numbers and values, and the clock that holds afterwards. Assumes nothing.
 use Prim.Native.Nat.{ℕ}
+use mathlib.Core.Path.{_≡_}
 use mathlib.Core.Option.{Option, none, some}
 use Rattle.rules.specs.Wheel.{Answer, refused, ok, handle, removed, end, expired, rescheduled, number, due}
 use Rattle.records.specs.declared.Clock.{Clock}
+use Rattle.records.specs.declared.counts.Due.{Due as Found}
+use Rattle.records.specs.Counts.{dueTold}
 use Rattle.wheel.specs.declared.Timed.{Timed}
 use Rattle.wheel.specs.declared.Timed.the-variants.{Done, Refused as TimedRefused}
 use Rattle.wheel.specs.declared.Noted.{Noted}
@@ -71,3 +74,7 @@ pulledClock c (Expired entry serial deadline k) = k
 pulledClock c (Placed entry serial place k) = k
 pulledClock c (End k) = k
 pulledClock c (PulledRefused n) = c
+
+-- the answer r says the deadline found, or none
+pub record TellsDue (found : Found) (r : Due) : Type 0 where
+  pub is : dueSays r ≡ due (dueTold found)

@@ -19,8 +19,8 @@ use Rattle.wheel.specs.declared.Rescheduled.{Rescheduled}
 use Rattle.wheel.specs.declared.Counted.{Counted}
 use Rattle.wheel.specs.declared.Due.{Due}
 use Rattle.wheel.specs.Answers.{timedSays, notedSays, scheduledSays, rescheduledSays, countedSays, dueSays}
-use Rattle.wheel.specs.Refuse.{setRows, scheduleRows, handleRows, closedRows, openRows, countRows}
-use Rattle.wheel.specs.Work.{createdClock, emptyEnds, entrySet, scheduled, handleOf, descheduled, rescheduled, rescheduleSays, opened, left, armedSays, nextSays}
+use Rattle.wheel.specs.Refuse.{enableRows, setRows, scheduleRows, handleRows, closedRows, openRows, countRows}
+use Rattle.wheel.specs.Work.{createdClock, emptyEnds, laidOut, entrySet, scheduled, handleOf, descheduled, rescheduled, rescheduleSays, opened, left, armedSays, nextSays}
 
 -- what the rules' call c is on every wheel that the records stand for: this answer, and these records afterwards
 abbrev pub Acts : Call → Records → Records → Answer → Type 0
@@ -40,6 +40,10 @@ pub record Create (first : ℕ) (clock : Clock) (heads tails : List ℕ) : Type 
   pub clock-is : clock ≡ createdClock first
   pub heads-is : heads ≡ emptyEnds
   pub tails-is : tails ≡ emptyEnds
+
+-- the lent lengths are the numbers of node records and entries
+pub record Enable (R R′ : Records) (r : Timed) : Type 0 where
+  pub meets : Meets (enable (length (R .nodes .links .next)) (length (R .entries .dated))) (enableRows R) R R′ (timedSays r) (laidOut R) ok
 
 pub record SetEntry (R R′ : Records) (e : ℕ) (has : Bool) (d h : ℕ) (r : Noted) : Type 0 where
   pub meets : Meets (setEntry e (cond has (some d) none) h) (setRows R e) R R′ (notedSays r) (entrySet R e has d h) ok

@@ -104,8 +104,15 @@ pub record RefusesEnable (R : Records) (r : ℕ) : Type 0 where
 pub record RefusesSet (R : Records) (e r : ℕ) : Type 0 where
   pub by : setRows R e r
 
+-- a serial of 64 bits is the last one, or below it
+pub record IsLast (serial : ℕ) (r : Bool) : Type 0 where
+  pub is : r ≡ true → serial ≡ 2 ^ 64 - 1
+  pub below : r ≡ false → serial < 2 ^ 64 - 1
+
 pub record RefusesSchedule (R : Records) (e h r : ℕ) : Type 0 where
   pub by : scheduleRows R e h r
+  -- not refused: there is a serial to give, and one after it
+  pub few : r ≡ 0 → R .clock .serial < 2 ^ 64 - 1
 
 pub record RefusesHandle (R : Records) (x n h r : ℕ) : Type 0 where
   pub by : handleRows R x n h r

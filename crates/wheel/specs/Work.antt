@@ -15,6 +15,7 @@ use Rattle.records.specs.Clocks.{setFree, counted, started, abandoned}
 use Rattle.records.specs.Change.{armedIn, freedFrom, movedTo}
 use Rattle.records.specs.Counts.{armedAmong, leastAmong}
 use Rattle.records.specs.Settings.{settled}
+use Rattle.records.specs.Layout.{bareNodes, bareEntries, enabledWith}
 
 -- ---- create
 -- "Create(first serial): reading 0, not enabled." No advance, no recorded lengths, no first free slot
@@ -43,6 +44,14 @@ created R first =
     (nodes emptyEnds emptyEnds (R .nodes .links .next) (R .nodes .links .prev) (R .nodes .links .home) (R .nodes .entry) (R .nodes .generation)
     (R .nodes .serial))
     (R .entries) (createdClock first)
+
+-- "Enable: sentinels placed, other slots free, no open advance, each entry set to no deadline, generation 0." Reading and next serial stay
+abbrev pub laidOut : Records → Records
+laidOut R =
+    let D = length (R .nodes .links .heads) in
+    let m = length (R .nodes .links .next) in
+    let k = length (R .entries .dated) in
+    records (bareNodes D m) (bareEntries k) (enabledWith D m k (R .clock))
 
 -- ---- entries and timers
 -- "Set entry: deadline or none, and generation, as given"; without a deadline 0 is written for it

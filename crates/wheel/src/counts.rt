@@ -1,8 +1,5 @@
 // Armed count and next due: refusals in order, then the count. They change nothing. No `requires`.
-ghost use mathlib.Core.Path.{_≡_};
-ghost use Rattle.rules.specs.Wheel.{due};
-ghost use Rattle.records.specs.Counts.{dueTold};
-ghost use Rattle.wheel.specs.Answers.{dueSays};
+ghost use Rattle.wheel.specs.Answers.{TellsDue};
 ghost use Rattle.wheel.specs.Lent.{lent};
 ghost use Rattle.wheel.specs.Calls.{ArmedCount, NextDue};
 use crate::Counted;
@@ -14,7 +11,7 @@ use records::counts;
 
 // The deadline found, or none, as an answer.
 fn told(found: counts::Due) -> Due
-    ensures { λ r. ⌜ dueSays r ≡ due (dueTold found) ⌝ }
+    ensures { λ r. ⌜ TellsDue found r ⌝ }
 {
     match found {
         counts::Due::At(d) => Due::At(d),

@@ -1,18 +1,19 @@
 // The alarm wheel over lent records, in parallel slices: heads and tails of the buckets; next, prev, bucket, entry, generation and serial of the slots; dated,
 // deadline and stamp (the generation) of the entries. The clock goes in by value and comes back in the answer; after a refusal the caller's own still holds.
 // Every call answers for every input: what is refused is refused by number, and then every lent record is as found. No `requires`.
-pub mod advance; // start, pull, abandon
+pub mod advancing; // start, pull, abandon
 pub mod counts; // armed count, next due
 pub mod making; // create, enable
 pub mod refuse; // which refusal applies
 pub mod settings; // set entry
 pub mod timers; // schedule, reschedule, deschedule
 
-pub use advance::abandon;
-pub use advance::start;
+pub use advancing::abandon;
+pub use advancing::start;
 pub use counts::armed_count;
 pub use counts::next_due;
 pub use making::create;
+pub use making::enable;
 pub use records::Clock;
 pub use settings::set_entry;
 pub use timers::deschedule;

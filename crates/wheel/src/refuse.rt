@@ -1,14 +1,25 @@
 // Which refusal applies: the lowest number of 01 whose row holds, or 0. Each stage adds its rows to those of the stage before. All read the records and change nothing.
 // No `requires`.
 ghost use Rattle.wheel.specs.Lent.{lent};
-ghost use Rattle.wheel.specs.Refuse.{RefusesCount, RefusesClosed, RefusesOpen, RefusesSet, RefusesSchedule, RefusesHandle};
+ghost use Rattle.wheel.specs.Refuse.{IsLast, RefusesEnable, RefusesCount, RefusesClosed, RefusesOpen, RefusesSet, RefusesSchedule, RefusesHandle};
 use crate::BUCKETS;
 use links::NONE;
 use records::Clock;
 use wheel_sound::is_sound;
+use wheel_sound::lengths::ends_lent;
+use wheel_sound::lengths::entries_lent;
+use wheel_sound::lengths::nodes_lent;
+use wheel_sound::lengths::ranged;
 
 // The serial that is never given: there is none after it.
 const LAST: u64 = 18446744073709551615;
+
+// Whether this serial is that one.
+fn is_last(serial: u64) -> bool
+    ensures { λ r. ⌜ IsLast serial r ⌝ }
+{
+    serial == LAST
+}
 
 // Armed count: 1, 4.
 pub fn standing_refusal(
@@ -217,7 +228,7 @@ pub fn schedule_refusal(
     if clock.free == NONE {
         return 10;
     }
-    if clock.serial == LAST {
+    if is_last(clock.serial) {
         return 11;
     }
     0
@@ -274,6 +285,49 @@ pub fn handle_refusal(
     }
     if generation[slot] != h {
         return 13;
+    }
+    0
+}
+
+// Enable: 2, 3.
+pub fn enable_refusal(
+    heads: &[usize],
+    tails: &[usize],
+    next: &[usize],
+    prev: &[usize],
+    bucket: &[usize],
+    entry: &[usize],
+    generation: &[u32],
+    serial: &[u64],
+    dated: &[bool],
+    deadline: &[u64],
+    stamp: &[u32],
+    clock: Clock,
+) -> u64
+    ensures { λ r. ⌜ RefusesEnable (lent (now (heads .entry)) (now (tails .entry)) (now (next .entry)) (now (prev .entry)) (now (bucket .entry)) (now (entry .entry)) (now (generation .entry)) (now (serial .entry)) (now (dated .entry)) (now (deadline .entry)) (now (stamp .entry)) clock) r ⌝ }
+{
+    if clock.enabled {
+        return 2;
+    }
+    if !ranged(BUCKETS, next.len(), dated.len()) {
+        return 3;
+    }
+    if !ends_lent(BUCKETS, heads.len(), tails.len()) {
+        return 3;
+    }
+    if !nodes_lent(
+        next.len(),
+        next.len(),
+        prev.len(),
+        bucket.len(),
+        entry.len(),
+        generation.len(),
+        serial.len(),
+    ) {
+        return 3;
+    }
+    if !entries_lent(dated.len(), dated.len(), deadline.len(), stamp.len()) {
+        return 3;
     }
     0
 }
