@@ -96,6 +96,20 @@ pub bucketAt-in : (g : Geometry) (p l j : ℕ) → bucketAt g p l j < buckets g
 bucketAt-in g p l j =
     omega (arith, first-in (g .sizes) 0 l, mod-lt (tick (shiftOf (g .shift) (g .sizes) l) p + j) (pow-pos (sizeOf (g .sizes) l)))
 
+count-most : (l : ℕ) → 2 ^ size01 l ≤ 64
+count-most zero = omega arith
+count-most (suc zero) = omega arith
+count-most (suc (suc zero)) = omega arith
+count-most (suc (suc (suc zero))) = omega arith
+count-most (suc (suc (suc (suc m)))) = omega arith
+
+pub visited-most : (l p q : ℕ) → visitedAt wheel01 p q l ≤ 64
+visited-most l p q =
+    ⊎-elim
+    (λ (i : tick (shift01 l) p < tick (shift01 l) q). omega (arith, visited-moved (shift01 l) (size01 l) p q i, count-most l))
+    (λ (i : tick (shift01 l) q ≤ tick (shift01 l) p). omega (arith, visited-still (shift01 l) (size01 l) p q i))
+    (below? (tick (shift01 l) p) (tick (shift01 l) q))
+
 -- ---- the next position
 module _ (g : Geometry) (p q l j : ℕ) where
   pub onward-here : j < visitedAt g p q l → at l (j + 1) ≡ onward g p q l j

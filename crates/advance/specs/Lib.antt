@@ -1,2 +1,4 @@
 -- What the contracts of the advance cite. Assumes nothing.
 pub mod Position
+pub mod Turns
+pub mod Pull

@@ -1,0 +1,164 @@
+-- The turns of a pull, on the records: 01, "Calls", the paragraph on the advance. Assumes nothing.
+use Prim.Native.Nat.{ℕ, zero, suc, _+_, _-_, _≤_, _<_}
+use mathlib.Core.Path.{_≡_}
+use mathlib.Core.Bool.{Bool, true, false, cond}
+use mathlib.Core.List.{List, []}
+use lib.ListN.{length, getD}
+use lib.Dec.{eqb, leb, ltb}
+use Rattle.links.specs.Chain.{none}
+use Rattle.links.specs.Lists.{Links, homeOf}
+use Rattle.links.specs.Change.{turnTo}
+use Rattle.rules.specs.Geometry.{Geometry, buckets}
+use Rattle.rules.specs.Place.{bucketOf, placeOf}
+use Rattle.rules.specs.Visits.{bucketAt, ahead}
+use Rattle.rules.specs.Wheel.{Wheel, Answer, end, expired, rescheduled, pull}
+use Rattle.rules.specs.Calls.{act}
+use Rattle.rules.specs.Sound.{Sound}
+use Rattle.records.specs.declared.Clock.{Clock}
+use Rattle.records.specs.Records.{Nodes, Entries, entries, Records, records}
+use Rattle.records.specs.Shows.{Shows}
+use Rattle.records.specs.Clocks.{setFree, standing, ended}
+use Rattle.records.specs.Change.{join, withLinks, freedFrom, movedTo}
+use Rattle.records.specs.Counts.{armedAmong}
+use Rattle.records.specs.Timers.{Ready}
+use Rattle.advance.specs.declared.position.Position.{Position}
+use Rattle.advance.specs.declared.turns.Pulled.{Pulled}
+use Rattle.advance.specs.declared.turns.Pulled.the-variants.{Expired, Rescheduled, End}
+use Rattle.advance.specs.declared.turns.Turn.{Turn}
+use Rattle.advance.specs.Position.{onward}
+
+-- what a pull's answer says: "End"; "Expired(entry, serial, deadline)"; "Rescheduled(entry, serial, new place)"
+abbrev pub told : Pulled → Answer
+told (Expired e n d) = expired e n d
+told (Rescheduled e n b) = rescheduled e n b
+told End = end
+
+-- ---- the turns
+abbrev pub goes : Clock → Turn
+goes c = record { going = true; clock = c; event = End }
+
+abbrev pub stops : Clock → Pulled → Turn
+stops c a = record { going = false; clock = c; event = a }
+
+-- the bucket that the advance stands in
+abbrev pub standsIn : Geometry → Clock → ℕ
+standsIn g c = bucketAt g (c .previous) (c .level) (c .step - 1)
+
+-- the first node before its sentinel, or none; before the first bucket none
+abbrev pub waitingAt : Geometry → List ℕ → Clock → ℕ
+waitingAt g heads c =
+    cond (eqb (c .step) 0) none
+    (cond (eqb (getD heads (standsIn g c) 0) (standsIn g c)) none (getD heads (standsIn g c) 0))
+
+-- "On entering a bucket, nodes go front to back until the sentinel is last"
+abbrev pub nextPosition : Geometry → Clock → Position
+nextPosition g c = onward g (c .previous) (c .reading) (c .level) (c .step)
+
+abbrev pub onLinks : Geometry → Links → Clock → Links
+onLinks g a c =
+    let r : Position = nextPosition g c in
+    let b : ℕ = bucketAt g (c .previous) (r .level) (r .step - 1) in
+    cond (r .more) (turnTo a b b) a
+
+abbrev pub onTurn : Geometry → Clock → Turn
+onTurn g c =
+    let r : Position = nextPosition g c in
+    cond (r .more) (goes (standing (r .level) (r .step) c)) (stops (ended c) End)
+
+-- "nodes before the sentinel are popped in turn. No deadline: slot freed, no event. Deadline at most q: freed, Expired(entry, serial, deadline). Otherwise placed
+-- anew with reading q, at the back: Rescheduled(entry, serial, new place)"
+abbrev pub popNodes : Geometry → Nodes → List Bool → List ℕ → Clock → ℕ → Nodes
+popNodes g N t d c x =
+    let e : ℕ = getD (N .entry) x 0 in
+    cond (getD t e false)
+    (cond (leb (getD d e 0) (c .reading)) (freedFrom x (c .free) N) (movedTo (bucketOf g (c .reading) (getD d e 0)) x N))
+    (freedFrom x (c .free) N)
+
+abbrev pub popTurn : Geometry → Nodes → List Bool → List ℕ → Clock → ℕ → Turn
+popTurn g N t d c x =
+    let e : ℕ = getD (N .entry) x 0 in
+    let n : ℕ = getD (N .serial) x 0 in
+    cond (getD t e false)
+    (cond (leb (getD d e 0) (c .reading)) (stops (setFree x c) (Expired e n (getD d e 0))) (stops c (Rescheduled e n (placeOf g (c .reading) (getD d e 0)))))
+    (goes (setFree x c))
+
+-- one turn
+abbrev pub turnNodes : Geometry → Nodes → List Bool → List ℕ → Clock → Nodes
+turnNodes g N t d c =
+    let x : ℕ = waitingAt g (N .links .heads) c in
+    cond (ltb x (length (N .links .next))) (popNodes g N t d c x) (withLinks (onLinks g (N .links) c) N)
+
+abbrev pub turnTurn : Geometry → Nodes → List Bool → List ℕ → Clock → Turn
+turnTurn g N t d c =
+    let x : ℕ = waitingAt g (N .links .heads) c in
+    cond (ltb x (length (N .links .next))) (popTurn g N t d c x) (onTurn g c)
+
+-- how many turns there can be: one for each bucket ahead and each armed slot
+abbrev pub left : Geometry → List ℕ → Clock → ℕ
+left g bucket c =
+    length (ahead g (c .previous) (c .reading) (c .level) (c .step)) + armedAmong (buckets g) bucket (length bucket)
+
+-- ---- what is asked
+-- the records show a sound wheel with an open advance
+pub record TurnReady (g : Geometry) (N : Nodes) (t : List Bool) (d : List ℕ) (c : Clock) : Type 0 where
+  pub ages : List ℕ
+  pub ready : Ready g (records N (entries t d ages) c)
+  pub opened : c .open ≡ true
+
+pub record WaitReady (g : Geometry) (heads : List ℕ) (c : Clock) : Type 0 where
+  pub total : length heads ≡ buckets g
+  pub few : c .step ≤ 64
+
+-- no node waits before the sentinel
+pub record OnReady (g : Geometry) (a : Links) (c : Clock) : Type 0 where
+  pub e : List ℕ
+  pub h : List ℕ
+  pub n : List ℕ
+  pub t : List Bool
+  pub d : List ℕ
+  pub turn : TurnReady g (join a e h n) t d c
+  pub front : length (a .next) ≤ waitingAt g (a .heads) c
+
+-- the node x waits
+pub record PopReady (g : Geometry) (N : Nodes) (t : List Bool) (d : List ℕ) (c : Clock) (x : ℕ) : Type 0 where
+  pub turn : TurnReady g N t d c
+  pub front : x ≡ waitingAt g (N .links .heads) c
+  pub slot : x < length (N .links .next)
+
+-- ---- what is done
+-- a turn that goes on leaves one turn fewer, and the advance open
+pub record Nears (g : Geometry) (c : Clock) (bucket bucket′ : List ℕ) (r : Turn) : Type 0 where
+  pub less : r .going ≡ true → left g bucket c ≡ suc (left g bucket′ (r .clock))
+  pub opened : r .going ≡ true → r .clock .open ≡ true
+
+-- where the pull goes on, the rest of it is the same pull; else the wheel is that after it
+pub record Outcome (g : Geometry) (R : Records) (r : Turn) (w : Wheel) : Type 0 where
+  pub on : r .going ≡ true → (v : Wheel) × Shows g R v × Sound g v × (act g v pull ≡ act g w pull)
+  pub stop : r .going ≡ false → (act g w pull .0 ≡ told (r .event)) × Shows g R (act g w pull .1)
+
+pub record Waits (g : Geometry) (heads : List ℕ) (c : Clock) (r : ℕ) : Type 0 where
+  pub is : r ≡ waitingAt g heads c
+
+pub record GoesOn (g : Geometry) (a : Links) (c : Clock) (a′ : Links) (r : Turn) : Type 0 where
+  pub is : a′ ≡ onLinks g a c
+  pub turn-is : r ≡ onTurn g c
+  pub nears : Nears g c (a .home) (a′ .home) r
+  pub does :
+      (e h n : List ℕ) (E : Entries) (w : Wheel) → Shows g (records (join a e h n) E c) w → Sound g w →
+      Outcome g (records (join a′ e h n) E (r .clock)) r w
+
+pub record Pops (g : Geometry) (N : Nodes) (t : List Bool) (d : List ℕ) (c : Clock) (x : ℕ) (N′ : Nodes) (r : Turn) : Type 0 where
+  pub is : N′ ≡ popNodes g N t d c x
+  pub turn-is : r ≡ popTurn g N t d c x
+  pub nears : Nears g c (N .links .home) (N′ .links .home) r
+  pub does :
+      (ages : List ℕ) (w : Wheel) → Shows g (records N (entries t d ages) c) w → Sound g w →
+      Outcome g (records N′ (entries t d ages) (r .clock)) r w
+
+pub record Turned (g : Geometry) (N : Nodes) (t : List Bool) (d : List ℕ) (c : Clock) (N′ : Nodes) (r : Turn) : Type 0 where
+  pub is : N′ ≡ turnNodes g N t d c
+  pub turn-is : r ≡ turnTurn g N t d c
+  pub nears : Nears g c (N .links .home) (N′ .links .home) r
+  pub does :
+      (ages : List ℕ) (w : Wheel) → Shows g (records N (entries t d ages) c) w → Sound g w →
+      Outcome g (records N′ (entries t d ages) (r .clock)) r w
