@@ -27,6 +27,7 @@ use Rattle.records.specs.Timers.{Ready, ArmReady, SlotReady, MoveReady}
 use Rattle.records.specs.Counts.{DueReady}
 use Rattle.records.specs.Settings.{EntryReady}
 use Rattle.records.specs.Layout.{LayReady}
+use Rattle.advance.specs.Turns.{TurnReady}
 use Rattle.wheel_sound.specs.Clauses.{Armed}
 use Rattle.wheel_sound.specs.Sound.{SoundRecords}
 use Rattle.wheel_sound.specs.Shown.{shown}
@@ -191,6 +192,13 @@ module _ (h t n p b ee g s : List ℕ) (d : List Bool) (l m : List ℕ) (c : Clo
 
   pub held-bytes : Fits w64 (getD ee x 0 * 8)
   held-bytes = small (getD ee x 0) (omega (arith, exists, handled .sound .lengths .ranges .entries-most))
+
+-- ---- pull
+pub turn-ready : (N : Nodes) (t : List Bool) (d m : List ℕ) (c : Clock) (k : ℕ) → RefusesOpen (records N (entries t d m) c) k → k ≡ 0 → TurnReady wheel01 N t d c
+turn-ready N t d m c k f z =
+    let u = standing-past (records N (entries t d m) c) (unless (c .open ≡ true) 6 answered) k (f .by) z in
+    let v = past 6 k (u .2) (λ i. omega (arith, z, i)) in
+    record { ages = m; ready = ready N (entries t d m) c (u .0) (u .1); opened = v .0 }
 
 -- ---- the two counts
 module _ (h t n p b ee g s : List ℕ) (d : List Bool) (l m : List ℕ) (c : Clock) (o : SoundRecords wheel01 (lent h t n p b ee g s d l m c)) where

@@ -9,7 +9,7 @@ use lib.ListN.{length, getD}
 use borrow.Author.Tests.{not-true, not-false}
 use Rattle.links.specs.Lists.{Links}
 use Rattle.rules.specs.Geometry.{wheel01}
-use Rattle.rules.specs.Wheel.{Wheel, Call, enable, setEntry, schedule, reschedule, deschedule, start, abandon, armedCount, nextDue, Answer, refused, ok, handle, removed, number, due}
+use Rattle.rules.specs.Wheel.{Wheel, Call, enable, setEntry, schedule, reschedule, deschedule, start, pull, abandon, armedCount, nextDue, Answer, refused, ok, handle, removed, number, due}
 use Rattle.rules.specs.Calls.{act, rearmed}
 use Rattle.rules.specs.Sound.{Sound, SoundIfEnabled}
 use Rattle.records.specs.declared.Clock.{Clock}
@@ -24,6 +24,12 @@ use Rattle.records.specs.Counts.{Counts, dueTold, FindsDue}
 use Rattle.records.specs.Settings.{settled, Sets}
 use Rattle.records.specs.Moments.{Starts, Abandons}
 use Rattle.records.specs.Layout.{Lays}
+use Rattle.advance.specs.declared.turns.Pulled.{Pulled as Event}
+use Rattle.advance.specs.declared.turns.Pulled.the-variants.{Expired as ExpiredEvent, Rescheduled as PlacedEvent, End as EndEvent}
+use Rattle.advance.specs.Turns.{told}
+use Rattle.advance.specs.Pull.{Pulls}
+use Rattle.wheel.specs.declared.Pulled.{Pulled}
+use Rattle.wheel.specs.declared.Pulled.the-variants.{Expired, Moved as Placed, End, Refused as PulledRefused}
 use Rattle.wheel.specs.declared.Timed.the-variants.{Done, Refused as TimedRefused}
 use Rattle.wheel.specs.declared.Noted.the-variants.{Done as Set, Refused as NotedRefused}
 use Rattle.wheel.specs.declared.Scheduled.the-variants.{Armed as Given, Refused as ScheduledRefused}
@@ -31,11 +37,11 @@ use Rattle.wheel.specs.declared.Rescheduled.the-variants.{Moved, Removed
 use Rattle.wheel.specs.declared.Counted.the-variants.{Armed as Count, Refused as CountedRefused}
 use Rattle.wheel.specs.declared.Due.{Due}
 use Rattle.wheel.specs.declared.Due.the-variants.{At, Never, Refused as DueRefused}
-use Rattle.wheel.specs.Answers.{dueSays, TellsDue}
+use Rattle.wheel.specs.Answers.{pulledSays, pulledClock, dueSays, TellsDue, TellsEvent}
 use Rattle.wheel.specs.Lent.{lent}
 use Rattle.wheel.specs.Refuse.{answered, unless, setRows, scheduleRows, handleRows, closedRows, openRows, countRows, RefusesCount, RefusesClosed, RefusesOpen, RefusesSet, RefusesSchedule, RefusesHandle, RefusesEnable, enableRows}
-use Rattle.wheel.specs.Work.{laidOut, entrySet, scheduled, handleOf, descheduled, moved, rescheduled, rescheduleSays, opened, left, armedSays, nextSays}
-use Rattle.wheel.specs.Calls.{Acts, Meets, Enable, SetEntry, Schedule, Reschedule, Deschedule, Start, Abandon, ArmedCount, NextDue}
+use Rattle.wheel.specs.Work.{laidOut, entrySet, scheduled, handleOf, descheduled, moved, rescheduled, rescheduleSays, opened, pulled, pullSays, left, armedSays, nextSays}
+use Rattle.wheel.specs.Calls.{Acts, Meets, Enable, SetEntry, Schedule, Reschedule, Deschedule, Start, Pull, Abandon, ArmedCount, NextDue}
 use Rattle.wheel.proofs.Rows.{past, standing-past, closed-past}
 use Rattle.wheel.proofs.Refusing.{set-past}
 use Rattle.wheel.proofs.Acting.{Schedulable, schedulable, Handled, handled-by, deadline-is, held-is}
@@ -189,6 +195,40 @@ module _ (N : Nodes) (E : Entries) (c : Clock) (k : ℕ) where
         meets =
             yes-by _ _ (records N E c) (records N E c′) _ ok _ k (f .by) z refl (λ i. records N E (u .is i))
             (lift abandon (records N E c) (records N E c′) ok (v .0) (λ w t o. (refl, u .does N E w t (o′ .0))));
+      }
+
+-- ---- pull
+module _ (a : Event) (k : Clock) where
+  pub tells-expired : (e n d : ℕ) → a ≡ ExpiredEvent e n d → TellsEvent a k (Expired e n d k)
+  tells-expired e n d i = record { is = ap told (sym i); clock-is = λ c. refl }
+
+  pub tells-placed : (e n b : ℕ) → a ≡ PlacedEvent e n b → TellsEvent a k (Placed e n b k)
+  tells-placed e n b i = record { is = ap told (sym i); clock-is = λ c. refl }
+
+  pub tells-end : a ≡ EndEvent → TellsEvent a k (End k)
+  tells-end i = record { is = ap told (sym i); clock-is = λ c. refl }
+
+pub ruleset tells = (tells-expired, tells-placed, tells-end)
+
+module _ (N : Nodes) (t : List Bool) (d m : List ℕ) (c : Clock) (k : ℕ) (f : RefusesOpen (records N (entries t d m) c) k) where
+  pub pull-no : (k ≡ 0 → ⊥) → Pull (records N (entries t d m) c) (records N (entries t d m) c) (PulledRefused k)
+  pull-no n = record { meets = no _ _ (records N (entries t d m) c) _ _ k (f .by) n }
+
+  pub pull-yes : (N′ : Nodes) (c′ : Clock) (a : Event) (r : Pulled) → k ≡ 0 → Pulls wheel01 N t d c N′ c′ a → TellsEvent a c′ r
+      → Pull (records N (entries t d m) c) (records N′ (entries t d m) (pulledClock c r)) r
+  pull-yes N′ c′ a r z u v =
+      let E : Entries = entries t d m in
+      record {
+        meets =
+            yes-by _ _ (records N E c) (records N′ E (pulledClock c r)) _ (pulledSays r) _ k (f .by) z (v .is ∙ ap told (u .event-is))
+            ((λ i. records N′ E (v .clock-is c i)) ∙ (λ i. records (u .is i) E (u .clock-is i)))
+            (lift pull (records N E c) (records N′ E (pulledClock c r)) (pulledSays r)
+            (standing-past (records N E c) (unless (c .open ≡ true) 6 answered) k (f .by) z .0)
+            (λ w s o.
+            let y = u .does m w s o in (
+              y .0 ∙ sym (v .is),
+              subst (λ (x : Clock). Shows wheel01 (records N′ E x) (act wheel01 w pull .1)) (sym (v .clock-is c)) (y .1),
+            )));
       }
 
 -- ---- the two counts

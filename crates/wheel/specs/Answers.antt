@@ -6,6 +6,8 @@ use Rattle.rules.specs.Wheel.{Answer, refused, ok, handle, removed, end, expire
 use Rattle.records.specs.declared.Clock.{Clock}
 use Rattle.records.specs.declared.counts.Due.{Due as Found}
 use Rattle.records.specs.Counts.{dueTold}
+use Rattle.advance.specs.declared.turns.Pulled.{Pulled as Event}
+use Rattle.advance.specs.Turns.{told}
 use Rattle.wheel.specs.declared.Timed.{Timed}
 use Rattle.wheel.specs.declared.Timed.the-variants.{Done, Refused as TimedRefused}
 use Rattle.wheel.specs.declared.Noted.{Noted}
@@ -78,3 +80,8 @@ pulledClock c (PulledRefused n) = c
 -- the answer r says the deadline found, or none
 pub record TellsDue (found : Found) (r : Due) : Type 0 where
   pub is : dueSays r ≡ due (dueTold found)
+
+-- the answer r says the event, and hands the clock k back
+pub record TellsEvent (event : Event) (k : Clock) (r : Pulled) : Type 0 where
+  pub is : pulledSays r ≡ told event
+  pub clock-is : (c : Clock) → pulledClock c r ≡ k

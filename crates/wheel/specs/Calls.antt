@@ -16,11 +16,12 @@ use Rattle.wheel.specs.declared.Timed.{Timed}
 use Rattle.wheel.specs.declared.Noted.{Noted}
 use Rattle.wheel.specs.declared.Scheduled.{Scheduled}
 use Rattle.wheel.specs.declared.Rescheduled.{Rescheduled}
+use Rattle.wheel.specs.declared.Pulled.{Pulled}
 use Rattle.wheel.specs.declared.Counted.{Counted}
 use Rattle.wheel.specs.declared.Due.{Due}
-use Rattle.wheel.specs.Answers.{timedSays, notedSays, scheduledSays, rescheduledSays, countedSays, dueSays}
+use Rattle.wheel.specs.Answers.{timedSays, notedSays, scheduledSays, rescheduledSays, pulledSays, countedSays, dueSays}
 use Rattle.wheel.specs.Refuse.{enableRows, setRows, scheduleRows, handleRows, closedRows, openRows, countRows}
-use Rattle.wheel.specs.Work.{createdClock, emptyEnds, laidOut, entrySet, scheduled, handleOf, descheduled, rescheduled, rescheduleSays, opened, left, armedSays, nextSays}
+use Rattle.wheel.specs.Work.{createdClock, emptyEnds, laidOut, entrySet, scheduled, handleOf, descheduled, rescheduled, rescheduleSays, opened, pulled, pullSays, left, armedSays, nextSays}
 
 -- what the rules' call c is on every wheel that the records stand for: this answer, and these records afterwards
 abbrev pub Acts : Call → Records → Records → Answer → Type 0
@@ -59,6 +60,9 @@ pub record Deschedule (R R′ : Records) (x n h : ℕ) (r : Timed) : Type 0 wher
 
 pub record Start (R R′ : Records) (q : ℕ) (r : Timed) : Type 0 where
   pub meets : Meets (start q) (closedRows R) R R′ (timedSays r) (opened R q) ok
+
+pub record Pull (R R′ : Records) (r : Pulled) : Type 0 where
+  pub meets : Meets pull (openRows R) R R′ (pulledSays r) (pulled R) (pullSays R)
 
 pub record Abandon (R R′ : Records) (r : Timed) : Type 0 where
   pub meets : Meets abandon (openRows R) R R′ (timedSays r) (left R) ok

@@ -15,6 +15,8 @@ use Rattle.records.specs.Clocks.{setFree, counted, started, abandoned}
 use Rattle.records.specs.Change.{armedIn, freedFrom, movedTo}
 use Rattle.records.specs.Counts.{armedAmong, leastAmong}
 use Rattle.records.specs.Settings.{settled}
+use Rattle.advance.specs.Turns.{told}
+use Rattle.advance.specs.Pull.{Step, pullStep}
 use Rattle.records.specs.Layout.{bareNodes, bareEntries, enabledWith}
 
 -- ---- create
@@ -98,6 +100,16 @@ opened R q = records (R .nodes) (R .entries) (started q (R .clock))
 
 abbrev pub left : Records → Records
 left R = records (R .nodes) (R .entries) (abandoned (R .clock))
+
+-- "Pull: one event, or End .. A pull does no more than reach its answer": the turns of the crate advance, specs/Turns.antt
+abbrev pub pulling : Records → Step
+pulling R = pullStep wheel01 (R .entries .dated) (R .entries .deadline) (R .nodes) (R .clock)
+
+abbrev pub pulled : Records → Records
+pulled R = records (pulling R .nodes) (R .entries) (pulling R .turn .clock)
+
+abbrev pub pullSays : Records → Answer
+pullSays R = told (pulling R .turn .event)
 
 -- ---- the two counts
 abbrev pub armedSays : Records → Answer

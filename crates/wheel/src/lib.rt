@@ -9,6 +9,7 @@ pub mod settings; // set entry
 pub mod timers; // schedule, reschedule, deschedule
 
 pub use advancing::abandon;
+pub use advancing::pull;
 pub use advancing::start;
 pub use counts::armed_count;
 pub use counts::next_due;
