@@ -6,3 +6,4 @@ pub mod Setting
 pub mod Counting
 pub mod Clearing
 pub mod Seating
+pub mod Serving
