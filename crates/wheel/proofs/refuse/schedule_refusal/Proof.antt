@@ -28,6 +28,9 @@ returns-3 c = search schedule-exits
 returns-4 : tie.Need-returns-4
 returns-4 c = search schedule-exits
 
+is-last-requires : tie.Need-is-last-requires
+is-last-requires c κs = search needs
+
 returns-5 : tie.Need-returns-5
 returns-5 c = search schedule-exits
 
@@ -46,5 +49,6 @@ schedule-refusal-spec =
     shared-slice-read-if3
     returns-3
     returns-4
+    is-last-requires
     returns-5
     returns-6)

@@ -24,7 +24,7 @@ written-requires : tie.Need-written-requires
 written-requires c κs = search needs
 
 set-entry-requires : tie.Need-set-entry-requires
-set-entry-requires c κs = search entry-ready
+set-entry-requires c κs = entry-ready _ _ _ _ _ (c .before .before .before .before .before .entry-refusal .ensures) (c .before .before .before .before .if1 .left)
 
 same-length-4 : tie.Need-same-length-4
 same-length-4 c = search needs

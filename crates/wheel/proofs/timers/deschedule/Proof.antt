@@ -36,7 +36,7 @@ returns : tie.Need-returns
 returns c = search deschedule-no
 
 disarm-requires : tie.Need-disarm-requires
-disarm-requires c κs = search slot-ready
+disarm-requires c κs = slot-ready _ _ _ _ _ _ _ (c .before .before .before .before .before .before .before .before .before .handle-refusal .ensures) (c .before .before .before .before .before .before .before .before .if1 .left)
 
 same-length-9 : tie.Need-same-length-9
 same-length-9 c = search needs

@@ -36,16 +36,16 @@ returns : tie.Need-returns
 returns c = search reschedule-no
 
 mul-e : tie.Need-mul-e
-mul-e c = search entry-bytes
+mul-e c = entry-bytes _ _ _ _ _ _ _ _ _ _ _ _ _ _ _ _ (c .before .handle-refusal .ensures) (c .if1 .left)
 
 slice-read-e : tie.Need-slice-read-e
-slice-read-e c = search entry-index
+slice-read-e c = entry-index _ _ _ _ _ _ _ _ _ _ _ _ _ _ _ _ (c .before .before .handle-refusal .ensures) (c .before .if1 .left)
 
 shared-slice-read-if2 : tie.Need-shared-slice-read-if2
-shared-slice-read-if2 c = search held-dated
+shared-slice-read-if2 c = held-dated _ _ _ _ _ _ _ _ _ _ _ _ _ _ _ _ (c .before .before .before .handle-refusal .ensures) (c .before .before .if1 .left)
 
 disarm-requires : tie.Need-disarm-requires
-disarm-requires c κs = search slot-ready
+disarm-requires c κs = slot-ready _ _ _ _ _ _ _ (c .before .before .before .before .before .before .before .before .before .before .before .before .handle-refusal .ensures) (c .before .before .before .before .before .before .before .before .before .before .before .if1 .left)
 
 same-length-9 : tie.Need-same-length-9
 same-length-9 c = search needs
@@ -75,13 +75,13 @@ returns-2 : tie.Need-returns-2
 returns-2 c = search reschedule-removes
 
 mul-due : tie.Need-mul-due
-mul-due c = search held-bytes
+mul-due c = held-bytes _ _ _ _ _ _ _ _ _ _ _ _ _ _ _ _ (c .before .before .before .before .handle-refusal .ensures) (c .before .before .before .if1 .left)
 
 shared-slice-read-due : tie.Need-shared-slice-read-due
-shared-slice-read-due c = search held-deadline
+shared-slice-read-due c = held-deadline _ _ _ _ _ _ _ _ _ _ _ _ _ _ _ _ (c .before .before .before .before .before .handle-refusal .ensures) (c .before .before .before .before .if1 .left)
 
 rearm-requires : tie.Need-rearm-requires
-rearm-requires c κs = search move-ready
+rearm-requires c κs = move-ready _ _ _ _ _ _ _ _ _ _ (c .before .before .before .before .before .before .before .before .before .before .handle-refusal .ensures) (c .before .before .before .before .before .before .before .before .before .if1 .left)
 
 same-length-17 : tie.Need-same-length-17
 same-length-17 c = search needs

@@ -36,13 +36,13 @@ returns : tie.Need-returns
 returns c = search schedule-no
 
 mul-due : tie.Need-mul-due
-mul-due c = search due-bytes
+mul-due c = due-bytes _ _ _ _ _ _ _ _ _ _ _ _ _ _ _ (c .before .schedule-refusal .ensures) (c .if1 .left)
 
 shared-slice-read-due : tie.Need-shared-slice-read-due
-shared-slice-read-due c = search due-index
+shared-slice-read-due c = due-index _ _ _ _ _ _ _ _ _ _ _ _ _ _ _ (c .before .before .schedule-refusal .ensures) (c .before .if1 .left)
 
 arm-requires : tie.Need-arm-requires
-arm-requires c κs = search (arm-ready, needs)
+arm-requires c κs = arm-ready _ _ _ _ _ _ (c .before .before .before .before .before .before .before .before .before .before .schedule-refusal .ensures) (c .before .before .before .before .before .before .before .before .before .if1 .left)
 
 same-length-9 : tie.Need-same-length-9
 same-length-9 c = search needs
