@@ -21,7 +21,7 @@ use Rattle.rules.specs.Pull.{Pulled, swept, pulled}
 use Rattle.rules.specs.Calls.{withLists, withClock, act}
 use Rattle.rules.specs.Sound.{Sound}
 use Rattle.rules.proofs.Cases.{below?, not-both}
-use Rattle.rules.proofs.Placing.{visited-still, visited-moved}
+use Rattle.rules.proofs.Placing.{visited-still}
 use Rattle.rules.proofs.SoundLists.{sound-enter}
 use Rattle.records.specs.declared.Clock.{Clock}
 use Rattle.records.specs.Records.{Nodes, Entries, records}

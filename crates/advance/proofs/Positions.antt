@@ -15,13 +15,16 @@ use borrow.Author.Tests.{lt-ltb, le-ltb}
 use Rattle.rules.specs.Geometry.{Geometry, wheel01, tick, shiftOf, sizeOf, dense, firstOf, total, buckets}
 use Rattle.rules.specs.Visits.{moves, visited, visitsFrom, visits, visitedAt, bucketAt, aheadFrom, ahead}
 use Rattle.rules.proofs.Cases.{below?, not-both}
-use Rattle.rules.proofs.Placing.{visited-still, visited-moved}
+use Rattle.rules.proofs.Placing.{visited-still}
 use Rattle.rules.proofs.Positions.{ahead-start, ahead-more, ahead-over, ahead-end, ahead-still}
 use Rattle.place.specs.Levels.{shift01, size01, first01}
 use Rattle.advance.specs.declared.position.Position.{Position}
 use Rattle.advance.specs.Position.{at, over, onward}
 
 -- ---- how many
+visited-moved : (s e p q : ℕ) → tick s p < tick s q → visited s e p q ≡ min (suc (tick s q - tick s p)) (2 ^ e)
+visited-moved s e p q h = simp (lt-ltb (tick s p) (tick s q) h)
+
 pub still : (l p q s : ℕ) → s ≡ shift01 l → q / 2 ^ s ≤ p / 2 ^ s → 0 ≡ visitedAt wheel01 p q l
 unfolding tick
 still l p q s e h = sym (visited-still (shift01 l) (size01 l) p q (rw e at h))

@@ -1,0 +1,333 @@
+// Which refusal applies: the lowest number of 01 whose row holds, or 0. Each stage adds its rows to those of the stage before. All read the records and change nothing.
+// No `requires`.
+ghost use Rattle.wheel.specs.Lent.{lent};
+ghost use Rattle.wheel.specs.Refuse.{IsLast, RefusesEnable, RefusesCount, RefusesClosed, RefusesOpen, RefusesSet, RefusesSchedule, RefusesHandle};
+use crate::BUCKETS;
+use links::NONE;
+use records::Clock;
+use wheel_sound::is_sound;
+use wheel_sound::lengths::ends_lent;
+use wheel_sound::lengths::entries_lent;
+use wheel_sound::lengths::nodes_lent;
+use wheel_sound::lengths::ranged;
+
+// The serial that is never given: there is none after it.
+const LAST: u64 = 18446744073709551615;
+
+// Whether this serial is that one.
+fn is_last(serial: u64) -> bool
+    ensures { λ r. ⌜ IsLast serial r ⌝ }
+{
+    serial == LAST
+}
+
+// Armed count: 1, 4.
+pub fn standing_refusal(
+    heads: &[usize],
+    tails: &[usize],
+    next: &[usize],
+    prev: &[usize],
+    bucket: &[usize],
+    entry: &[usize],
+    generation: &[u32],
+    serial: &[u64],
+    dated: &[bool],
+    deadline: &[u64],
+    stamp: &[u32],
+    clock: Clock,
+) -> u64
+    ensures { λ r. ⌜ RefusesCount (lent (now (heads .entry)) (now (tails .entry)) (now (next .entry)) (now (prev .entry)) (now (bucket .entry)) (now (entry .entry)) (now (generation .entry)) (now (serial .entry)) (now (dated .entry)) (now (deadline .entry)) (now (stamp .entry)) clock) r ⌝ }
+{
+    if !clock.enabled {
+        return 1;
+    }
+    if !is_sound(
+        heads,
+        tails,
+        next,
+        prev,
+        bucket,
+        entry,
+        generation,
+        serial,
+        dated,
+        deadline,
+        stamp,
+        clock,
+        BUCKETS,
+    ) {
+        return 4;
+    }
+    0
+}
+
+// Start, next due: 1, 4, 5.
+pub fn closed_refusal(
+    heads: &[usize],
+    tails: &[usize],
+    next: &[usize],
+    prev: &[usize],
+    bucket: &[usize],
+    entry: &[usize],
+    generation: &[u32],
+    serial: &[u64],
+    dated: &[bool],
+    deadline: &[u64],
+    stamp: &[u32],
+    clock: Clock,
+) -> u64
+    ensures { λ r. ⌜ RefusesClosed (lent (now (heads .entry)) (now (tails .entry)) (now (next .entry)) (now (prev .entry)) (now (bucket .entry)) (now (entry .entry)) (now (generation .entry)) (now (serial .entry)) (now (dated .entry)) (now (deadline .entry)) (now (stamp .entry)) clock) r ⌝ }
+{
+    let no = standing_refusal(
+        heads,
+        tails,
+        next,
+        prev,
+        bucket,
+        entry,
+        generation,
+        serial,
+        dated,
+        deadline,
+        stamp,
+        clock,
+    );
+    if no != 0 {
+        return no;
+    }
+    if clock.open {
+        return 5;
+    }
+    0
+}
+
+// Pull, abandon: 1, 4, 6.
+pub fn open_refusal(
+    heads: &[usize],
+    tails: &[usize],
+    next: &[usize],
+    prev: &[usize],
+    bucket: &[usize],
+    entry: &[usize],
+    generation: &[u32],
+    serial: &[u64],
+    dated: &[bool],
+    deadline: &[u64],
+    stamp: &[u32],
+    clock: Clock,
+) -> u64
+    ensures { λ r. ⌜ RefusesOpen (lent (now (heads .entry)) (now (tails .entry)) (now (next .entry)) (now (prev .entry)) (now (bucket .entry)) (now (entry .entry)) (now (generation .entry)) (now (serial .entry)) (now (dated .entry)) (now (deadline .entry)) (now (stamp .entry)) clock) r ⌝ }
+{
+    let no = standing_refusal(
+        heads,
+        tails,
+        next,
+        prev,
+        bucket,
+        entry,
+        generation,
+        serial,
+        dated,
+        deadline,
+        stamp,
+        clock,
+    );
+    if no != 0 {
+        return no;
+    }
+    if !clock.open {
+        return 6;
+    }
+    0
+}
+
+// Set entry: 1, 4, 5, 7.
+pub fn entry_refusal(
+    heads: &[usize],
+    tails: &[usize],
+    next: &[usize],
+    prev: &[usize],
+    bucket: &[usize],
+    entry: &[usize],
+    generation: &[u32],
+    serial: &[u64],
+    dated: &[bool],
+    deadline: &[u64],
+    stamp: &[u32],
+    clock: Clock,
+    e: usize,
+) -> u64
+    ensures { λ r. ⌜ RefusesSet (lent (now (heads .entry)) (now (tails .entry)) (now (next .entry)) (now (prev .entry)) (now (bucket .entry)) (now (entry .entry)) (now (generation .entry)) (now (serial .entry)) (now (dated .entry)) (now (deadline .entry)) (now (stamp .entry)) clock) e r ⌝ }
+{
+    let no = closed_refusal(
+        heads,
+        tails,
+        next,
+        prev,
+        bucket,
+        entry,
+        generation,
+        serial,
+        dated,
+        deadline,
+        stamp,
+        clock,
+    );
+    if no != 0 {
+        return no;
+    }
+    if clock.entries <= e {
+        return 7;
+    }
+    0
+}
+
+// Schedule: 1, 4, 5, 7, 8, 9, 10, 11.
+pub fn schedule_refusal(
+    heads: &[usize],
+    tails: &[usize],
+    next: &[usize],
+    prev: &[usize],
+    bucket: &[usize],
+    entry: &[usize],
+    generation: &[u32],
+    serial: &[u64],
+    dated: &[bool],
+    deadline: &[u64],
+    stamp: &[u32],
+    clock: Clock,
+    e: usize,
+    h: u32,
+) -> u64
+    ensures { λ r. ⌜ RefusesSchedule (lent (now (heads .entry)) (now (tails .entry)) (now (next .entry)) (now (prev .entry)) (now (bucket .entry)) (now (entry .entry)) (now (generation .entry)) (now (serial .entry)) (now (dated .entry)) (now (deadline .entry)) (now (stamp .entry)) clock) e h r ⌝ }
+{
+    let no = entry_refusal(
+        heads,
+        tails,
+        next,
+        prev,
+        bucket,
+        entry,
+        generation,
+        serial,
+        dated,
+        deadline,
+        stamp,
+        clock,
+        e,
+    );
+    if no != 0 {
+        return no;
+    }
+    if stamp[e] != h {
+        return 8;
+    }
+    if !dated[e] {
+        return 9;
+    }
+    if clock.free == NONE {
+        return 10;
+    }
+    if is_last(clock.serial) {
+        return 11;
+    }
+    0
+}
+
+// Reschedule, deschedule: 1, 4, 5, 12, 13.
+pub fn handle_refusal(
+    heads: &[usize],
+    tails: &[usize],
+    next: &[usize],
+    prev: &[usize],
+    bucket: &[usize],
+    entry: &[usize],
+    generation: &[u32],
+    serial: &[u64],
+    dated: &[bool],
+    deadline: &[u64],
+    stamp: &[u32],
+    clock: Clock,
+    slot: usize,
+    number: u64,
+    h: u32,
+) -> u64
+    ensures { λ r. ⌜ RefusesHandle (lent (now (heads .entry)) (now (tails .entry)) (now (next .entry)) (now (prev .entry)) (now (bucket .entry)) (now (entry .entry)) (now (generation .entry)) (now (serial .entry)) (now (dated .entry)) (now (deadline .entry)) (now (stamp .entry)) clock) slot number h r ⌝ }
+{
+    let no = closed_refusal(
+        heads,
+        tails,
+        next,
+        prev,
+        bucket,
+        entry,
+        generation,
+        serial,
+        dated,
+        deadline,
+        stamp,
+        clock,
+    );
+    if no != 0 {
+        return no;
+    }
+    if next.len() <= slot {
+        return 12;
+    }
+    if slot < heads.len() {
+        return 12;
+    }
+    if heads.len() <= bucket[slot] {
+        return 12;
+    }
+    if serial[slot] != number {
+        return 12;
+    }
+    if generation[slot] != h {
+        return 13;
+    }
+    0
+}
+
+// Enable: 2, 3.
+pub fn enable_refusal(
+    heads: &[usize],
+    tails: &[usize],
+    next: &[usize],
+    prev: &[usize],
+    bucket: &[usize],
+    entry: &[usize],
+    generation: &[u32],
+    serial: &[u64],
+    dated: &[bool],
+    deadline: &[u64],
+    stamp: &[u32],
+    clock: Clock,
+) -> u64
+    ensures { λ r. ⌜ RefusesEnable (lent (now (heads .entry)) (now (tails .entry)) (now (next .entry)) (now (prev .entry)) (now (bucket .entry)) (now (entry .entry)) (now (generation .entry)) (now (serial .entry)) (now (dated .entry)) (now (deadline .entry)) (now (stamp .entry)) clock) r ⌝ }
+{
+    if clock.enabled {
+        return 2;
+    }
+    if !ranged(BUCKETS, next.len(), dated.len()) {
+        return 3;
+    }
+    if !ends_lent(BUCKETS, heads.len(), tails.len()) {
+        return 3;
+    }
+    if !nodes_lent(
+        next.len(),
+        next.len(),
+        prev.len(),
+        bucket.len(),
+        entry.len(),
+        generation.len(),
+        serial.len(),
+    ) {
+        return 3;
+    }
+    if !entries_lent(dated.len(), dated.len(), deadline.len(), stamp.len()) {
+        return 3;
+    }
+    0
+}

@@ -1,0 +1,2 @@
+-- What the theorems on histories speak of. Assumes nothing.
+pub mod History
