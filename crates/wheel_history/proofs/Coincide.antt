@@ -6,7 +6,7 @@ use mathlib.Core.Logic.{_⊎_, inl, inr, ⊎-elim}
 use mathlib.Core.Bool.{Bool}
 use mathlib.Core.Option.{Option, none, some}
 use mathlib.Core.List.{List}
-use Rattle.rules.specs.Wheel.{Call, Answer, refused, ok, handle, removed, number, due}
+use Rattle.rules.specs.Wheel.{Call, Answer, refused, ok, handle, removed, end, expired, rescheduled as moved, number, due}
 use Rattle.rules.proofs.Cases.{same?}
 use Rattle.records.specs.declared.Clock.{Clock}
 use Rattle.records.specs.Records.{Nodes, Entries, Records, records}
@@ -18,13 +18,15 @@ use Rattle.wheel.specs.declared.Scheduled.{Scheduled}
 use Rattle.wheel.specs.declared.Scheduled.the-variants.{Armed, Refused as ScheduledRefused}
 use Rattle.wheel.specs.declared.Rescheduled.{Rescheduled}
 use Rattle.wheel.specs.declared.Rescheduled.the-variants.{Moved, Removed, Refused as RescheduledRefused}
+use Rattle.wheel.specs.declared.Pulled.{Pulled}
+use Rattle.wheel.specs.declared.Pulled.the-variants.{Expired, Moved as Placed, End, Refused as PulledRefused}
 use Rattle.wheel.specs.declared.Counted.{Counted}
 use Rattle.wheel.specs.declared.Counted.the-variants.{Armed as Count, Refused as CountedRefused}
 use Rattle.wheel.specs.declared.Due.{Due}
 use Rattle.wheel.specs.declared.Due.the-variants.{At, Never, Refused as DueRefused}
-use Rattle.wheel.specs.Answers.{timedSays, notedSays, scheduledSays, rescheduledSays, countedSays, dueSays, timedClock, scheduledClock, rescheduledClock}
+use Rattle.wheel.specs.Answers.{timedSays, notedSays, scheduledSays, rescheduledSays, pulledSays, countedSays, dueSays, timedClock, scheduledClock, rescheduledClock, pulledClock}
 use Rattle.wheel.specs.Refuse.{unless, answered, enableRows, setRows, scheduleRows, handleRows, closedRows, openRows, countRows}
-use Rattle.wheel.specs.Calls.{Meets, Create, Enable, SetEntry, Schedule, Reschedule, Deschedule, Start, Abandon, ArmedCount, NextDue}
+use Rattle.wheel.specs.Calls.{Meets, Create, Enable, SetEntry, Schedule, Reschedule, Deschedule, Start, Pull, Abandon, ArmedCount, NextDue}
 
 -- ---- rows give one number
 abbrev pub Single : (ℕ → Type 0) → Type 0
@@ -103,6 +105,24 @@ module _ (c : Clock) where
   rescheduled (RescheduledRefused x) (Removed y) e f = let z : _≡_ {A = ℕ} 0 1 = cc in absurd (omega arith)
   rescheduled (RescheduledRefused x) (RescheduledRefused y) e f = cc
 
+  pulledAnswer : (r s : Pulled) → pulledSays r ≡ pulledSays s → pulledClock c r ≡ pulledClock c s → r ≡ s
+  pulledAnswer (Expired x n d k) (Expired y m b l) e f = cc
+  pulledAnswer (Expired x n d k) (Placed y m b l) e f = let z : _≡_ {A = ℕ} 0 1 = cc in absurd (omega arith)
+  pulledAnswer (Expired x n d k) (End l) e f = let z : _≡_ {A = ℕ} 0 1 = cc in absurd (omega arith)
+  pulledAnswer (Expired x n d k) (PulledRefused y) e f = let z : _≡_ {A = ℕ} 0 1 = cc in absurd (omega arith)
+  pulledAnswer (Placed x n d k) (Expired y m b l) e f = let z : _≡_ {A = ℕ} 0 1 = cc in absurd (omega arith)
+  pulledAnswer (Placed x n d k) (Placed y m b l) e f = cc
+  pulledAnswer (Placed x n d k) (End l) e f = let z : _≡_ {A = ℕ} 0 1 = cc in absurd (omega arith)
+  pulledAnswer (Placed x n d k) (PulledRefused y) e f = let z : _≡_ {A = ℕ} 0 1 = cc in absurd (omega arith)
+  pulledAnswer (End k) (Expired y m b l) e f = let z : _≡_ {A = ℕ} 0 1 = cc in absurd (omega arith)
+  pulledAnswer (End k) (Placed y m b l) e f = let z : _≡_ {A = ℕ} 0 1 = cc in absurd (omega arith)
+  pulledAnswer (End k) (End l) e f = ap End f
+  pulledAnswer (End k) (PulledRefused y) e f = let z : _≡_ {A = ℕ} 0 1 = cc in absurd (omega arith)
+  pulledAnswer (PulledRefused x) (Expired y m b l) e f = let z : _≡_ {A = ℕ} 0 1 = cc in absurd (omega arith)
+  pulledAnswer (PulledRefused x) (Placed y m b l) e f = let z : _≡_ {A = ℕ} 0 1 = cc in absurd (omega arith)
+  pulledAnswer (PulledRefused x) (End l) e f = let z : _≡_ {A = ℕ} 0 1 = cc in absurd (omega arith)
+  pulledAnswer (PulledRefused x) (PulledRefused y) e f = cc
+
 noted : (r s : Noted) → notedSays r ≡ notedSays s → r ≡ s
 noted Set Set e = refl
 noted Set (NotedRefused y) e = let z : _≡_ {A = ℕ} 0 1 = cc in absurd (omega arith)
@@ -164,6 +184,12 @@ module _ (R : Records) (N M : Nodes) (E F : Entries) where
   start-coincides q r s m n =
       let u = met _ _ R _ _ _ _ _ _ (closed-single R) (m .meets) (n .meets) in
       (timed (R .clock) r s (u .0) (ap clockOf (u .1)), ap (λ (x : Records). x .nodes) (u .1), ap (λ (x : Records). x .entries) (u .1))
+
+  pub pull-coincides : (r s : Pulled) → Pull R (records N E (pulledClock (R .clock) r)) r → Pull R (records M F (pulledClock (R .clock) s)) s
+      → (r ≡ s) × (N ≡ M) × (E ≡ F)
+  pull-coincides r s m n =
+      let u = met _ _ R _ _ _ _ _ _ (open-single R) (m .meets) (n .meets) in
+      (pulledAnswer (R .clock) r s (u .0) (ap clockOf (u .1)), ap (λ (x : Records). x .nodes) (u .1), ap (λ (x : Records). x .entries) (u .1))
 
   pub abandon-coincides : (r s : Timed) → Abandon R (records N E (timedClock (R .clock) r)) r → Abandon R (records M F (timedClock (R .clock) s)) s
       → (r ≡ s) × (N ≡ M) × (E ≡ F)

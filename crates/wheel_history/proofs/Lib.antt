@@ -1,3 +1,6 @@
--- What the wheel's promises say together. Coincide, Kept and Runs are what a reader looks for.
+-- What the wheel's promises say together. Coincide, Steps and Runs are what a reader looks for.
 pub mod Coincide
 pub mod Matching
+pub mod Ranges
+pub mod Steps
+pub mod Runs
