@@ -1,3 +1,4 @@
+-- Laws that the proofs of this crate and of those above it cite. Assumes nothing.
 pub mod Positions
 pub mod Turning
 pub mod Waiting

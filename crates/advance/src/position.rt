@@ -1,4 +1,4 @@
-// Unchecked: which buckets an advance from p to q visits, by level and step. Levels from the last on are the last.
+// For proved code only, unchecked: which buckets an advance from p to q visits, by level and step. Levels from the last on are the last.
 ghost use mathlib.Core.Path.{_≡_};
 ghost use Prim.Native.Nat.{_^_, _<_};
 ghost use Rattle.rules.specs.Geometry.{wheel01};

@@ -1,4 +1,4 @@
-// Unchecked: a pull. It does no more than reach its answer.
+// For proved code only, unchecked: a pull. It does no more than reach its answer.
 ghost use Rattle.rules.specs.Geometry.{wheel01};
 ghost use Rattle.records.specs.Records.{nodes};
 ghost use Rattle.advance.specs.Turns.{TurnReady};

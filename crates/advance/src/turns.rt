@@ -1,4 +1,4 @@
-// Unchecked: the turns of a pull. Each does one thing: enter the next bucket, pop one node, or end.
+// For proved code only, unchecked: the turns of a pull. Each does one thing: enter the next bucket, pop one node, or end.
 ghost use Rattle.links.specs.Lists.{links};
 ghost use Rattle.rules.specs.Geometry.{wheel01};
 ghost use Rattle.records.specs.Records.{nodes};

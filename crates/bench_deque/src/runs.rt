@@ -1,4 +1,4 @@
-// Unchecked: runs of calls on one deque whose records are sound.
+// For proved code only, unchecked: runs of calls on one deque whose records are sound.
 ghost use Prim.Native.Nat.{_<_};
 ghost use lib.ListN.{length};
 ghost use Rattle.deque_sound.specs.State.{state};

@@ -1,4 +1,4 @@
-// Unchecked: single calls of the unchecked layer on one deque, which keep its records sound. A caller shows that they are (or tests it once).
+// For proved code only, unchecked: single calls of the unchecked layer on one deque, which keep its records sound. A caller shows that they are (or tests it once).
 ghost use Prim.Native.Nat.{_<_};
 ghost use lib.ListN.{length};
 ghost use Rattle.deque_sound.specs.State.{state};

@@ -1,4 +1,4 @@
-// Unchecked: the two calls that only read: armed count and next due.
+// For proved code only, unchecked: the two calls that only read: armed count and next due.
 ghost use Prim.Native.Nat.{_≤_};
 ghost use lib.ListN.{length};
 ghost use Rattle.rules.specs.Geometry.{wheel01};

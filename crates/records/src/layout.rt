@@ -1,4 +1,4 @@
-// Unchecked: the records as enabling lays them out, whatever they held.
+// For proved code only, unchecked: the records as enabling lays them out, whatever they held.
 ghost use mathlib.Core.Path.{_≡_};
 ghost use lib.ListN.{length};
 ghost use Rattle.links.specs.Lists.{links};

@@ -1,4 +1,4 @@
-// Unchecked: start, end and abandon. They change the clock alone.
+// For proved code only, unchecked: start, end and abandon. They change the clock alone.
 ghost use Rattle.rules.specs.Geometry.{wheel01};
 ghost use Rattle.records.specs.Moments.{Starts, EndsAdvance, Abandons};
 use crate::Clock;

@@ -1,4 +1,4 @@
-// Unchecked: the payload of a slot: entry, generation and serial.
+// For proved code only, unchecked: the payload of a slot: entry, generation and serial.
 ghost use Prim.Native.Nat.{_<_};
 ghost use lib.ListN.{length};
 ghost use Rattle.records.specs.Change.{Writes};

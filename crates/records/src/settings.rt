@@ -1,4 +1,4 @@
-// Unchecked: setting an entry.
+// For proved code only, unchecked: setting an entry.
 ghost use Rattle.rules.specs.Geometry.{wheel01};
 ghost use Rattle.records.specs.Records.{entries};
 ghost use Rattle.records.specs.Settings.{EntryReady, Sets};

@@ -1,4 +1,4 @@
-// Unchecked: arming, disarming and rearming a timer, on records known to be sound.
+// For proved code only, unchecked: arming, disarming and rearming a timer, on records known to be sound.
 ghost use Rattle.links.specs.Lists.{links};
 ghost use Rattle.rules.specs.Geometry.{wheel01};
 ghost use Rattle.records.specs.Records.{nodes};

@@ -1,4 +1,4 @@
-// Unchecked: what is asked of each slot by itself, in slices of one length: its kind, and of an armed one its entry and its serial. One pass over the slots each.
+// For proved code only, unchecked: what is asked of each slot by itself, in slices of one length: its kind, and of an armed one its entry and its serial. One pass over the slots each.
 ghost use mathlib.Core.Path.{_≡_};
 ghost use lib.ListN.{length};
 ghost use Rattle.wheel_sound.specs.Decides.{Decides};
