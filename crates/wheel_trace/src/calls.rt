@@ -1,7 +1,4 @@
 // What the wheel's calls answered, as what goes on: the clock, and the reply. Assumes nothing.
-use crate::answers::Plain;
-use crate::answers::Reply;
-use crate::answers::Word;
 use records::Clock;
 use wheel::Counted;
 use wheel::Due;
@@ -10,6 +7,9 @@ use wheel::Pulled;
 use wheel::Rescheduled;
 use wheel::Scheduled;
 use wheel::Timed;
+use wheel_text::answers::Plain;
+use wheel_text::answers::Reply;
+use wheel_text::answers::Word;
 
 // What a call leaves: the clock, and the answer.
 pub struct Called {

@@ -1,20 +1,15 @@
 // Speaks the trace format for the wheel: calls on standard input, an answer for each on standard
 // output. Assumes nothing.
-mod answers;
 mod calls;
-mod pokes;
-mod requests;
-mod shows;
 mod state;
-mod sums;
 mod work;
 
 use lines::Source;
-use requests::Request;
-use requests::read;
 use state::Progress;
 use state::at_start;
 use state::respond;
+use wheel_text::reading::read;
+use wheel_text::requests::Request;
 
 fn main() {
     let mut heads = [4096usize; 165];

@@ -1,22 +1,22 @@
 // What goes from line to line, and what a line does to it. Assumes nothing.
-use crate::answers::Plain;
-use crate::answers::Reply;
-use crate::answers::Word;
-use crate::answers::say;
 use crate::calls::Called;
-use crate::requests::Look;
-use crate::requests::Request;
-use crate::shows::dump_buckets;
-use crate::shows::dump_entries;
-use crate::shows::dump_nodes;
-use crate::shows::show_bucket;
-use crate::shows::show_clock;
-use crate::sums::sum_buckets;
-use crate::sums::sum_clock;
-use crate::sums::sum_entries;
-use crate::sums::sum_nodes;
 use crate::work::work_lent;
 use records::Clock;
+use wheel_text::answers::Plain;
+use wheel_text::answers::Reply;
+use wheel_text::answers::Word;
+use wheel_text::answers::say;
+use wheel_text::requests::Look;
+use wheel_text::requests::Request;
+use wheel_text::shows::dump_buckets;
+use wheel_text::shows::dump_entries;
+use wheel_text::shows::dump_nodes;
+use wheel_text::shows::show_bucket;
+use wheel_text::shows::show_clock;
+use wheel_text::sums::sum_buckets;
+use wheel_text::sums::sum_clock;
+use wheel_text::sums::sum_entries;
+use wheel_text::sums::sum_nodes;
 
 // The most records, and the most entries, that are lent.
 const MOST: usize = 4100;

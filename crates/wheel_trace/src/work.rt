@@ -1,6 +1,5 @@
 // The calls and pokes on as many records as are lent. Assumes nothing.
 ghost use Prim.Native.Nat.{_≤_};
-use crate::answers::Plain;
 use crate::calls::Called;
 use crate::calls::counted;
 use crate::calls::keep;
@@ -11,14 +10,15 @@ use crate::calls::pulled;
 use crate::calls::rescheduled;
 use crate::calls::scheduled;
 use crate::calls::timed;
-use crate::pokes::poke_bucket;
-use crate::pokes::poke_clock;
-use crate::pokes::poke_node;
-use crate::requests::ClockCall;
-use crate::requests::NodeCall;
-use crate::requests::Setting;
-use crate::requests::Work;
 use records::Clock;
+use wheel_text::answers::Plain;
+use wheel_text::pokes::poke_bucket;
+use wheel_text::pokes::poke_clock;
+use wheel_text::pokes::poke_node;
+use wheel_text::requests::ClockCall;
+use wheel_text::requests::NodeCall;
+use wheel_text::requests::Setting;
+use wheel_text::requests::Work;
 
 // As many as are lent, and no more than there are.
 fn within(n: usize, most: usize) -> usize

@@ -1,9 +1,9 @@
--- `wheel_trace::shows::dump_nodes` is safe and ends. The measure is what is left to go over. Assumes nothing.
+-- `wheel_text::shows::dump_nodes` is safe and ends. The measure is what is left to go over. Assumes nothing.
 use borrow.Author.Needs.{needs}
 use native.Mathlib.Omega.{arith}
 use Prim.Native.Nat.{ℕ, _+_, _-_, _*_, _^_, _≤_, _<_}
-use Rattle.wheel_trace.proofs.shows.dump_nodes.Statement.{statement}
-use Rattle.wheel_trace.proofs.shows.dump_nodes.Tie as tie
+use Rattle.wheel_text.proofs.shows.dump_nodes.Statement.{statement}
+use Rattle.wheel_text.proofs.shows.dump_nodes.Tie as tie
 
 abbrev Inv-loop : tie.InvT-loop
 Inv-loop out₀ at next prev bucket entry generation serial nodes waits₀ x₀ out waits x = x ≤ nodes

@@ -1,9 +1,9 @@
--- `wheel_trace::shows::dump_buckets` is safe and ends. The measure is what is left to go over. Assumes nothing.
+-- `wheel_text::shows::dump_buckets` is safe and ends. The measure is what is left to go over. Assumes nothing.
 use borrow.Author.Needs.{needs}
 use native.Mathlib.Omega.{arith}
 use Prim.Native.Nat.{ℕ, _+_, _-_, _*_, _^_, _≤_, _<_}
-use Rattle.wheel_trace.proofs.shows.dump_buckets.Statement.{statement}
-use Rattle.wheel_trace.proofs.shows.dump_buckets.Tie as tie
+use Rattle.wheel_text.proofs.shows.dump_buckets.Statement.{statement}
+use Rattle.wheel_text.proofs.shows.dump_buckets.Tie as tie
 
 abbrev Inv-loop : tie.InvT-loop
 Inv-loop out₀ at heads tails waits₀ b₀ out waits b = b ≤ 165

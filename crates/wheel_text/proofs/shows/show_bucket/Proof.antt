@@ -1,9 +1,9 @@
--- `wheel_trace::shows::show_bucket` is safe and ends. The measure is the number of slots that may follow. Assumes nothing.
+-- `wheel_text::shows::show_bucket` is safe and ends. The measure is the number of slots that may follow. Assumes nothing.
 use borrow.Author.Needs.{needs}
 use native.Mathlib.Omega.{arith}
 use Prim.Native.Nat.{ℕ, _+_, _-_, _*_, _^_, _≤_, _<_}
-use Rattle.wheel_trace.proofs.shows.show_bucket.Statement.{statement}
-use Rattle.wheel_trace.proofs.shows.show_bucket.Tie as tie
+use Rattle.wheel_text.proofs.shows.show_bucket.Statement.{statement}
+use Rattle.wheel_text.proofs.shows.show_bucket.Tie as tie
 
 abbrev Inv-loop : tie.InvT-loop
 Inv-loop out₀ at next nodes head waits₀ x₀ turns₀ t10 out waits x turns = 0 ≤ turns
