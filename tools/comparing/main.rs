@@ -18,6 +18,7 @@ mod random;
 #[macro_use]
 mod trace;
 mod deque;
+mod place;
 mod sketch;
 mod wheel;
 
@@ -57,6 +58,7 @@ fn source(module: &str, damage: bool) -> Box<dyn Source> {
         "sketch" => Box::new(sketch::Sketches::default()),
         "deque" => Box::new(deque::Deques { damage }),
         "wheel" => Box::new(wheel::Wheels { damage, placed: 0 }),
+        "place" => Box::new(place::Places::new()),
         _ => fail(&format!("no such module: {module}")),
     }
 }

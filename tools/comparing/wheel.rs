@@ -55,7 +55,7 @@ impl Source for Wheels {
 }
 
 /// A time around a tick or level edge, near an end of the range, or anything.
-fn time(r: &mut Random) -> u64 {
+pub fn time(r: &mut Random) -> u64 {
     let nudge = r.pick(&[0, 1, 2, 0u64.wrapping_sub(1)]);
     let shift = r.pick(&SHIFTS);
     match r.below(8) {
@@ -70,7 +70,7 @@ fn time(r: &mut Random) -> u64 {
 }
 
 /// A time near another one: the same tick, some ticks on, at a level's limit, or before it.
-fn near(r: &mut Random, reading: u64) -> u64 {
+pub fn near(r: &mut Random, reading: u64) -> u64 {
     let nudge = r.pick(&[0, 1, 0u64.wrapping_sub(1)]);
     let shift = r.pick(&SHIFTS);
     let ticks = r.pick(&[0, 1, 2, 3, 4, 5, 31, 32, 33, 63, 64, 65, 66]);

@@ -1,0 +1,67 @@
+-- `wheel_text::shows::show_bucket` is safe and ends. The measure is the number of slots that may follow. Assumes nothing.
+use borrow.Author.Needs.{needs}
+use native.Mathlib.Omega.{arith}
+use Prim.Native.Nat.{ℕ, _+_, _-_, _*_, _^_, _≤_, _<_}
+use Rattle.wheel_text.proofs.shows.show_bucket.Statement.{statement}
+use Rattle.wheel_text.proofs.shows.show_bucket.Tie as tie
+
+abbrev Inv-loop : tie.InvT-loop
+Inv-loop out₀ at next nodes head waits₀ x₀ turns₀ t10 out waits x turns = 0 ≤ turns
+
+abbrev μ-loop : tie.MeasureT-loop
+μ-loop out₀ at next nodes head waits₀ x₀ turns₀ t10 out waits x turns = turns
+
+slice-aggregate-append : tie.Need-slice-aggregate-append Inv-loop μ-loop
+slice-aggregate-append c = search needs
+
+append-requires : tie.Need-append-requires Inv-loop μ-loop
+append-requires c κs = search needs
+
+loop-holds : tie.Need-loop-holds Inv-loop μ-loop
+loop-holds c = omega arith
+
+show-slot-requires : tie.Need-show-slot-requires Inv-loop μ-loop
+show-slot-requires c κs = search needs
+
+after-requires : tie.Need-after-requires Inv-loop μ-loop
+after-requires c κs = search needs
+
+is-slot-requires : tie.Need-is-slot-requires Inv-loop μ-loop
+is-slot-requires c κs = search needs
+
+turns-left-requires : tie.Need-turns-left-requires Inv-loop μ-loop
+turns-left-requires c κs = search needs
+
+loop-less : tie.Need-loop-less Inv-loop μ-loop
+loop-less c = c .turns-left .ensures .less (omega arith)
+
+loop-again : tie.Need-loop-again Inv-loop μ-loop
+loop-again c = omega arith
+
+slice-aggregate-append-2 : tie.Need-slice-aggregate-append-2 Inv-loop μ-loop
+slice-aggregate-append-2 c = search needs
+
+append-requires-2 : tie.Need-append-requires-2 Inv-loop μ-loop
+append-requires-2 c κs = search needs
+
+returns : tie.Need-returns Inv-loop μ-loop
+returns c = search needs
+
+pub show-bucket-spec : {M : Type 1} → statement M
+show-bucket-spec =
+    tie.close
+    (tie.spec
+    Inv-loop
+    μ-loop
+    slice-aggregate-append
+    append-requires
+    loop-holds
+    show-slot-requires
+    after-requires
+    is-slot-requires
+    turns-left-requires
+    loop-less
+    loop-again
+    slice-aggregate-append-2
+    append-requires-2
+    returns)
