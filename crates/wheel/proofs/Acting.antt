@@ -32,10 +32,10 @@ use Rattle.wheel_sound.specs.Clauses.{Armed}
 use Rattle.wheel_sound.specs.Sound.{SoundRecords}
 use Rattle.wheel_sound.specs.Shown.{shown}
 use Rattle.wheel_sound.proofs.Showing.{sound-shows, shown-sound}
-use Rattle.wheel.specs.Lent.{lent}
-use Rattle.wheel.specs.Refuse.{unless, answered, roomy, Live, Lendable, RefusesEnable, RefusesCount, RefusesClosed, RefusesOpen, RefusesSet, RefusesSchedule, RefusesHandle}
-use Rattle.wheel.proofs.Rows.{past, standing-past, closed-past}
-use Rattle.wheel.proofs.Refusing.{set-past, stamp-at, dated-at, deadline-at}
+use Rattle.wheel_refuse.specs.Lent.{lent}
+use Rattle.wheel_refuse.specs.Refuse.{unless, answered, roomy, Live, Lendable, RefusesEnable, RefusesCount, RefusesClosed, RefusesOpen, RefusesSet, RefusesSchedule, RefusesHandle}
+use Rattle.wheel_refuse.proofs.Rows.{past, standing-past, closed-past}
+use Rattle.wheel_refuse.proofs.Refusing.{set-past, stamp-at, dated-at, deadline-at}
 
 -- an index below 4,096, in bytes
 small : (x : ℕ) → x < 4096 → Fits w64 (x * 8)

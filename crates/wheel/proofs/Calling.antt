@@ -38,12 +38,12 @@ use Rattle.wheel.specs.declared.Counted.the-variants.{Armed as Count, Re
 use Rattle.wheel.specs.declared.Due.{Due}
 use Rattle.wheel.specs.declared.Due.the-variants.{At, Never, Refused as DueRefused}
 use Rattle.wheel.specs.Answers.{pulledSays, pulledClock, dueSays, TellsDue, TellsEvent}
-use Rattle.wheel.specs.Lent.{lent}
-use Rattle.wheel.specs.Refuse.{answered, unless, setRows, scheduleRows, handleRows, closedRows, openRows, countRows, RefusesCount, RefusesClosed, RefusesOpen, RefusesSet, RefusesSchedule, RefusesHandle, RefusesEnable, enableRows}
+use Rattle.wheel_refuse.specs.Lent.{lent}
+use Rattle.wheel_refuse.specs.Refuse.{answered, unless, setRows, scheduleRows, handleRows, closedRows, openRows, countRows, RefusesCount, RefusesClosed, RefusesOpen, RefusesSet, RefusesSchedule, RefusesHandle, RefusesEnable, enableRows}
 use Rattle.wheel.specs.Work.{laidOut, entrySet, scheduled, handleOf, descheduled, moved, rescheduled, rescheduleSays, opened, pulled, pullSays, left, armedSays, nextSays}
 use Rattle.wheel.specs.Calls.{Acts, Meets, Enable, SetEntry, Schedule, Reschedule, Deschedule, Start, Pull, Abandon, ArmedCount, NextDue}
-use Rattle.wheel.proofs.Rows.{past, standing-past, closed-past}
-use Rattle.wheel.proofs.Refusing.{set-past}
+use Rattle.wheel_refuse.proofs.Rows.{past, standing-past, closed-past}
+use Rattle.wheel_refuse.proofs.Refusing.{set-past}
 use Rattle.wheel.proofs.Acting.{Schedulable, schedulable, Handled, handled-by, deadline-is, held-is}
 
 -- a refusal by a number that is not 0, and a result by 0

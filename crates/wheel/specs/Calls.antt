@@ -20,7 +20,7 @@ use Rattle.wheel.specs.declared.Pulled.{Pulled}
 use Rattle.wheel.specs.declared.Counted.{Counted}
 use Rattle.wheel.specs.declared.Due.{Due}
 use Rattle.wheel.specs.Answers.{timedSays, notedSays, scheduledSays, rescheduledSays, pulledSays, countedSays, dueSays}
-use Rattle.wheel.specs.Refuse.{enableRows, setRows, scheduleRows, handleRows, closedRows, openRows, countRows}
+use Rattle.wheel_refuse.specs.Refuse.{enableRows, setRows, scheduleRows, handleRows, closedRows, openRows, countRows}
 use Rattle.wheel.specs.Work.{createdClock, emptyEnds, laidOut, entrySet, scheduled, handleOf, descheduled, rescheduled, rescheduleSays, opened, pulled, pullSays, left, armedSays, nextSays}
 
 -- what the rules' call c is on every wheel that the records stand for: this answer, and these records afterwards

@@ -1,15 +1,15 @@
 // Start, pull, abandon: refusals in order, then the work. No `requires`. A refused call leaves every record as found.
-ghost use Rattle.wheel.specs.Lent.{lent};
+ghost use Rattle.wheel_refuse.specs.Lent.{lent};
 ghost use Rattle.wheel.specs.Answers.{timedClock, pulledClock, TellsEvent};
 ghost use Rattle.wheel.specs.Calls.{Start, Pull, Abandon};
 use crate::Pulled;
 use crate::Timed;
-use crate::refuse::closed_refusal;
-use crate::refuse::open_refusal;
 use advance::pull;
 use advance::turns;
 use records::Clock;
 use records::moments;
+use wheel_refuse::closed_refusal;
+use wheel_refuse::open_refusal;
 
 // The event or End, and the clock then, as an answer.
 fn told(event: turns::Pulled, clock: Clock) -> Pulled

@@ -1,13 +1,13 @@
 // Armed count and next due: refusals in order, then the count. They change nothing. No `requires`.
 ghost use Rattle.wheel.specs.Answers.{TellsDue};
-ghost use Rattle.wheel.specs.Lent.{lent};
+ghost use Rattle.wheel_refuse.specs.Lent.{lent};
 ghost use Rattle.wheel.specs.Calls.{ArmedCount, NextDue};
 use crate::Counted;
 use crate::Due;
-use crate::refuse::closed_refusal;
-use crate::refuse::standing_refusal;
 use records::Clock;
 use records::counts;
+use wheel_refuse::closed_refusal;
+use wheel_refuse::standing_refusal;
 
 // The deadline found, or none, as an answer.
 fn told(found: counts::Due) -> Due

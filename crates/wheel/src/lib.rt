@@ -4,7 +4,6 @@
 pub mod advancing; // start, pull, abandon
 pub mod counts; // armed count, next due
 pub mod making; // create, enable
-pub mod refuse; // which refusal applies
 pub mod settings; // set entry
 pub mod timers; // schedule, reschedule, deschedule
 
@@ -20,9 +19,6 @@ pub use settings::set_entry;
 pub use timers::deschedule;
 pub use timers::reschedule;
 pub use timers::schedule;
-
-// The buckets of the wheel.
-pub const BUCKETS: usize = 165;
 
 // Create: the clock, and heads and tails with no slot in any bucket.
 pub struct Created {

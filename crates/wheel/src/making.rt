@@ -1,13 +1,13 @@
 // Create and enable. No `requires`.
-ghost use Rattle.wheel.specs.Lent.{lent};
+ghost use Rattle.wheel_refuse.specs.Lent.{lent};
 ghost use Rattle.wheel.specs.Answers.{timedClock};
 ghost use Rattle.wheel.specs.Calls.{Create, Enable};
 use crate::Created;
 use crate::Timed;
-use crate::refuse::enable_refusal;
 use links::NONE;
 use records::Clock;
 use records::layout::lay_out;
+use wheel_refuse::enable_refusal;
 
 // Begins a wheel with this first serial: reading 0, not enabled, no slot in any bucket. Nodes and entries stay as found. Never refused.
 pub fn create(first: u64) -> Created

@@ -1,12 +1,12 @@
 // Set entry: refusals in order, then the work. No `requires`. A refused call leaves every record as found.
 ghost use mathlib.Core.Path.{_≡_};
 ghost use mathlib.Core.Bool.{cond};
-ghost use Rattle.wheel.specs.Lent.{lent};
+ghost use Rattle.wheel_refuse.specs.Lent.{lent};
 ghost use Rattle.wheel.specs.Calls.{SetEntry};
 use crate::Noted;
-use crate::refuse::entry_refusal;
 use records::Clock;
 use records::settings;
+use wheel_refuse::entry_refusal;
 
 // What is written for a deadline: 0 where there is none.
 fn written(has: bool, due: u64) -> u64

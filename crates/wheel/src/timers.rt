@@ -1,16 +1,16 @@
 // Schedule, reschedule, deschedule: refusals in order, then the work. No `requires`. A refused call leaves every record as found.
-ghost use Rattle.wheel.specs.Lent.{lent};
+ghost use Rattle.wheel_refuse.specs.Lent.{lent};
 ghost use Rattle.wheel.specs.Answers.{scheduledClock, rescheduledClock, timedClock};
 ghost use Rattle.wheel.specs.Calls.{Schedule, Reschedule, Deschedule};
 use crate::Rescheduled;
 use crate::Scheduled;
 use crate::Timed;
-use crate::refuse::handle_refusal;
-use crate::refuse::schedule_refusal;
 use records::Clock;
 use records::timers::arm;
 use records::timers::disarm;
 use records::timers::rearm;
+use wheel_refuse::handle_refusal;
+use wheel_refuse::schedule_refusal;
 
 // Puts a new node for the entry e, whose generation is h, at the back of its bucket. Answers the handle, or refuses (1, 4, 5, 7 to 11).
 pub fn schedule(

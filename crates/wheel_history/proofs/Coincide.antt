@@ -25,7 +25,7 @@ use Rattle.wheel.specs.declared.Counted.the-variants.{Armed as Count, Refused a
 use Rattle.wheel.specs.declared.Due.{Due}
 use Rattle.wheel.specs.declared.Due.the-variants.{At, Never, Refused as DueRefused}
 use Rattle.wheel.specs.Answers.{timedSays, notedSays, scheduledSays, rescheduledSays, pulledSays, countedSays, dueSays, timedClock, scheduledClock, rescheduledClock, pulledClock}
-use Rattle.wheel.specs.Refuse.{unless, answered, enableRows, setRows, scheduleRows, handleRows, closedRows, openRows, countRows}
+use Rattle.wheel_refuse.specs.Refuse.{unless, answered, enableRows, setRows, scheduleRows, handleRows, closedRows, openRows, countRows}
 use Rattle.wheel.specs.Calls.{Meets, Create, Enable, SetEntry, Schedule, Reschedule, Deschedule, Start, Pull, Abandon, ArmedCount, NextDue}
 
 -- ---- rows give one number

@@ -22,8 +22,8 @@ use Rattle.records.specs.Records.{Records}
 use Rattle.records.specs.Shows.{nodeAt, ShowsAdvance, Shows}
 use Rattle.wheel_sound.specs.Clauses.{Ranges}
 use Rattle.wheel_sound.specs.Sound.{SoundRecords}
-use Rattle.wheel.specs.Refuse as on
-use Rattle.wheel.specs.Refuse.{unless, answered, Live, Lendable, enableRows, setRows, scheduleRows, handleRows, closedRows, openRows, countRows}
+use Rattle.wheel_refuse.specs.Refuse as on
+use Rattle.wheel_refuse.specs.Refuse.{unless, answered, Live, Lendable, enableRows, setRows, scheduleRows, handleRows, closedRows, openRows, countRows}
 use Rattle.wheel_history.specs.History.{Parallel, Tells}
 
 -- ---- one row

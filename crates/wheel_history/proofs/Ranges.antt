@@ -20,7 +20,7 @@ use Rattle.advance.specs.Position.{at, over, onward}
 use Rattle.advance.specs.Turns.{goes, stops, waitingAt, nextPosition, onTurn, popTurn, turnNodes, turnTurn, left}
 use Rattle.advance.specs.Pull.{Step, turns, pullStep}
 use Rattle.wheel_sound.specs.Sound.{SoundRecords, InRange}
-use Rattle.wheel.specs.Refuse.{Lendable}
+use Rattle.wheel_refuse.specs.Refuse.{Lendable}
 use Rattle.wheel.specs.Work.{laidOut, moved, descheduled, rescheduled}
 
 pub of-sound : (R : Records) → SoundRecords wheel01 R → InRange wheel01 (R .clock)

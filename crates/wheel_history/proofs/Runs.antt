@@ -14,8 +14,8 @@ use Rattle.rules.specs.Demand3.{Arms, Timely, Demand3}
 use Rattle.rules.proofs.Demand3.{demand3}
 use Rattle.records.specs.Records.{Records}
 use Rattle.wheel_sound.specs.Sound.{SoundRecords}
-use Rattle.wheel.specs.Refuse.{unless, answered, Live, setRows, scheduleRows, handleRows, closedRows, openRows, countRows}
-use Rattle.wheel.specs.Refuse as on
+use Rattle.wheel_refuse.specs.Refuse.{unless, answered, Live, setRows, scheduleRows, handleRows, closedRows, openRows, countRows}
+use Rattle.wheel_refuse.specs.Refuse as on
 use Rattle.wheel_history.specs.History.{Tells, Promised, Leads, done, then}
 use Rattle.wheel_history.proofs.Steps.{create-is, step-is}
 

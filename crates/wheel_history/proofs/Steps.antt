@@ -16,11 +16,11 @@ use Rattle.rules.proofs.SoundCalls.{sound-step}
 use Rattle.records.specs.Records.{Records}
 use Rattle.wheel_sound.specs.Sound.{SoundRecords, InRange}
 use Rattle.wheel_sound.proofs.Shown.{shows-sound}
-use Rattle.wheel.specs.Refuse.{unless, answered, roomy, Live, Lendable, enableRows, setRows, scheduleRows, handleRows, closedRows, openRows, countRows}
-use Rattle.wheel.specs.Refuse as on
+use Rattle.wheel_refuse.specs.Refuse.{unless, answered, roomy, Live, Lendable, enableRows, setRows, scheduleRows, handleRows, closedRows, openRows, countRows}
+use Rattle.wheel_refuse.specs.Refuse as on
 use Rattle.wheel.specs.Work.{created, hasDeadline, rescheduled}
 use Rattle.wheel.specs.Calls.{Meets}
-use Rattle.wheel.proofs.Rows.{past, standing-past, closed-past}
+use Rattle.wheel_refuse.proofs.Rows.{past, standing-past, closed-past}
 use Rattle.wheel_history.specs.History.{Parallel, Tells, Promised}
 use Rattle.wheel_history.proofs.Matching.{count-number, start-number, due-number, pull-number, abandon-number, set-number, schedule-number, reschedule-number, deschedule-number, enable-number}
 use Rattle.wheel_history.proofs.Ranges.{of-sound, freeing, counting, starting, abandoning, enabling, moving, pulling-range}

@@ -12,7 +12,7 @@ use Rattle.records.specs.Records.{Records}
 use Rattle.records.specs.Shows.{Stands}
 use Rattle.wheel_sound.specs.Clauses.{EndsLengths, NodesLengths, EntriesLengths}
 use Rattle.wheel_sound.specs.Sound.{SoundRecords}
-use Rattle.wheel.specs.Refuse.{enableRows, setRows, scheduleRows, handleRows, closedRows, openRows, countRows}
+use Rattle.wheel_refuse.specs.Refuse.{enableRows, setRows, scheduleRows, handleRows, closedRows, openRows, countRows}
 use Rattle.wheel.specs.Work.{created, laidOut, entrySet, scheduled, handleOf, descheduled, rescheduled, rescheduleSays, opened, pulled, pullSays, left, armedSays, nextSays}
 use Rattle.wheel.specs.Calls.{Meets}
 

@@ -7,7 +7,7 @@ use mathlib.Core.Bool.{Bool, true, false}
 use Rattle.rules.specs.Geometry.{wheel01}
 use Rattle.records.specs.Records.{Records}
 use Rattle.wheel_sound.specs.Sound.{SoundRecords}
-use Rattle.wheel.specs.Refuse.{unless, answered, standing, closed, entered}
+use Rattle.wheel_refuse.specs.Refuse.{unless, answered, standing, closed, entered}
 
 -- ---- one row
 -- a number that is not the row's: its condition holds, and the rows after it decide

@@ -1,8 +1,8 @@
 -- `closed_refusal` meets its contract. Assumes nothing.
-use Rattle.wheel.proofs.Refusing.{closed-exits}
+use Rattle.wheel_refuse.proofs.Refusing.{closed-exits}
 use borrow.Author.Needs.{needs}
-use Rattle.wheel.proofs.refuse.closed_refusal.Statement.{statement}
-use Rattle.wheel.proofs.refuse.closed_refusal.Tie as tie
+use Rattle.wheel_refuse.proofs.closed_refusal.Statement.{statement}
+use Rattle.wheel_refuse.proofs.closed_refusal.Tie as tie
 
 standing-refusal-requires : tie.Need-standing-refusal-requires
 standing-refusal-requires c κs = search needs

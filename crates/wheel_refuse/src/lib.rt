@@ -1,8 +1,7 @@
 // Which refusal applies: the lowest number of 01 whose row holds, or 0. Each stage adds its rows to those of the stage before. All read the records and change nothing.
 // No `requires`.
-ghost use Rattle.wheel.specs.Lent.{lent};
-ghost use Rattle.wheel.specs.Refuse.{IsLast, RefusesEnable, RefusesCount, RefusesClosed, RefusesOpen, RefusesSet, RefusesSchedule, RefusesHandle};
-use crate::BUCKETS;
+ghost use Rattle.wheel_refuse.specs.Lent.{lent};
+ghost use Rattle.wheel_refuse.specs.Refuse.{IsLast, RefusesEnable, RefusesCount, RefusesClosed, RefusesOpen, RefusesSet, RefusesSchedule, RefusesHandle};
 use links::NONE;
 use records::Clock;
 use wheel_sound::is_sound;
@@ -11,6 +10,8 @@ use wheel_sound::lengths::entries_lent;
 use wheel_sound::lengths::nodes_lent;
 use wheel_sound::lengths::ranged;
 
+// The buckets of the wheel.
+pub const BUCKETS: usize = 165;
 // The serial that is never given: there is none after it.
 const LAST: u64 = 18446744073709551615;
 

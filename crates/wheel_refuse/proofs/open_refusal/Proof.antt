@@ -1,8 +1,8 @@
 -- `open_refusal` meets its contract. Assumes nothing.
-use Rattle.wheel.proofs.Refusing.{open-exits}
+use Rattle.wheel_refuse.proofs.Refusing.{open-exits}
 use borrow.Author.Needs.{needs}
-use Rattle.wheel.proofs.refuse.open_refusal.Statement.{statement}
-use Rattle.wheel.proofs.refuse.open_refusal.Tie as tie
+use Rattle.wheel_refuse.proofs.open_refusal.Statement.{statement}
+use Rattle.wheel_refuse.proofs.open_refusal.Tie as tie
 
 standing-refusal-requires : tie.Need-standing-refusal-requires
 standing-refusal-requires c κs = search needs

@@ -1,8 +1,8 @@
 -- `enable_refusal` meets its contract. Assumes nothing.
-use Rattle.wheel.proofs.Refusing.{enable-exits}
+use Rattle.wheel_refuse.proofs.Refusing.{enable-exits}
 use borrow.Author.Needs.{needs}
-use Rattle.wheel.proofs.refuse.enable_refusal.Statement.{statement}
-use Rattle.wheel.proofs.refuse.enable_refusal.Tie as tie
+use Rattle.wheel_refuse.proofs.enable_refusal.Statement.{statement}
+use Rattle.wheel_refuse.proofs.enable_refusal.Tie as tie
 
 returns : tie.Need-returns
 returns c = search enable-exits

@@ -1,8 +1,8 @@
 -- `entry_refusal` meets its contract. Assumes nothing.
-use Rattle.wheel.proofs.Refusing.{set-exits}
+use Rattle.wheel_refuse.proofs.Refusing.{set-exits}
 use borrow.Author.Needs.{needs}
-use Rattle.wheel.proofs.refuse.entry_refusal.Statement.{statement}
-use Rattle.wheel.proofs.refuse.entry_refusal.Tie as tie
+use Rattle.wheel_refuse.proofs.entry_refusal.Statement.{statement}
+use Rattle.wheel_refuse.proofs.entry_refusal.Tie as tie
 
 closed-refusal-requires : tie.Need-closed-refusal-requires
 closed-refusal-requires c κs = search needs

@@ -1,8 +1,8 @@
 -- `handle_refusal` meets its contract. Assumes nothing.
-use Rattle.wheel.proofs.Refusing.{bucket-index, generation-index, handle-exits, serial-index}
+use Rattle.wheel_refuse.proofs.Refusing.{bucket-index, generation-index, handle-exits, serial-index}
 use borrow.Author.Needs.{needs}
-use Rattle.wheel.proofs.refuse.handle_refusal.Statement.{statement}
-use Rattle.wheel.proofs.refuse.handle_refusal.Tie as tie
+use Rattle.wheel_refuse.proofs.handle_refusal.Statement.{statement}
+use Rattle.wheel_refuse.proofs.handle_refusal.Tie as tie
 
 closed-refusal-requires : tie.Need-closed-refusal-requires
 closed-refusal-requires c κs = search needs

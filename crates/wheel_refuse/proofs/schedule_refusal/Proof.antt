@@ -1,8 +1,8 @@
 -- `schedule_refusal` meets its contract. Assumes nothing.
-use Rattle.wheel.proofs.Refusing.{dated-index, schedule-exits, stamp-bytes, stamp-index}
+use Rattle.wheel_refuse.proofs.Refusing.{dated-index, schedule-exits, stamp-bytes, stamp-index}
 use borrow.Author.Needs.{needs}
-use Rattle.wheel.proofs.refuse.schedule_refusal.Statement.{statement}
-use Rattle.wheel.proofs.refuse.schedule_refusal.Tie as tie
+use Rattle.wheel_refuse.proofs.schedule_refusal.Statement.{statement}
+use Rattle.wheel_refuse.proofs.schedule_refusal.Tie as tie
 
 entry-refusal-requires : tie.Need-entry-refusal-requires
 entry-refusal-requires c κs = search needs

@@ -1,8 +1,8 @@
 -- `standing_refusal` meets its contract. Assumes nothing.
-use Rattle.wheel.proofs.Refusing.{count-exits}
+use Rattle.wheel_refuse.proofs.Refusing.{count-exits}
 use borrow.Author.Needs.{needs}
-use Rattle.wheel.proofs.refuse.standing_refusal.Statement.{statement}
-use Rattle.wheel.proofs.refuse.standing_refusal.Tie as tie
+use Rattle.wheel_refuse.proofs.standing_refusal.Statement.{statement}
+use Rattle.wheel_refuse.proofs.standing_refusal.Tie as tie
 
 returns : tie.Need-returns
 returns c = search count-exits

@@ -19,9 +19,9 @@ use Rattle.records.specs.Records.{Records}
 use Rattle.wheel_sound.specs.Decides.{Decides}
 use Rattle.wheel_sound.specs.Clauses.{Ranges, EndsLengths, NodesLengths, EntriesLengths}
 use Rattle.wheel_sound.specs.Sound.{SoundWith, SoundRecords}
-use Rattle.wheel.specs.Lent.{lent}
-use Rattle.wheel.specs.Refuse.{unless, answered, roomy, Live, Lendable, IsLast, RefusesEnable, RefusesCount, RefusesClosed, RefusesOpen, RefusesSet, RefusesSchedule, RefusesHandle}
-use Rattle.wheel.proofs.Rows.{past, standing-stops, closed-stops, entered-stops, standing-past, closed-past}
+use Rattle.wheel_refuse.specs.Lent.{lent}
+use Rattle.wheel_refuse.specs.Refuse.{unless, answered, roomy, Live, Lendable, IsLast, RefusesEnable, RefusesCount, RefusesClosed, RefusesOpen, RefusesSet, RefusesSchedule, RefusesHandle}
+use Rattle.wheel_refuse.proofs.Rows.{past, standing-stops, closed-stops, entered-stops, standing-past, closed-past}
 
 -- ---- standing: 1, 4
 module _ (R : Records) where

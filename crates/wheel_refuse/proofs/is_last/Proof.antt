@@ -1,7 +1,7 @@
 -- `is_last` meets its contract. Assumes nothing.
-use Rattle.wheel.proofs.Refusing.{last-serial}
-use Rattle.wheel.proofs.refuse.is_last.Statement.{statement}
-use Rattle.wheel.proofs.refuse.is_last.Tie as tie
+use Rattle.wheel_refuse.proofs.Refusing.{last-serial}
+use Rattle.wheel_refuse.proofs.is_last.Statement.{statement}
+use Rattle.wheel_refuse.proofs.is_last.Tie as tie
 
 returns : tie.Need-returns
 returns c = last-serial _ (c .fits .serial)

@@ -1,0 +1,3 @@
+-- What the contracts of the refusals cite. Assumes nothing.
+pub mod Lent
+pub mod Refuse
