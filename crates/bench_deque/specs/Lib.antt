@@ -1,2 +1,0 @@
--- What the contracts of `bench_deque` cite. Assumes nothing.
-pub mod Ready
