@@ -1,32 +1,31 @@
 -- The next bucket is entered, or the advance ends. Assumes nothing.
-use Prim.Native.Nat.{ℕ, zero, suc, _+_, _-_, _^_, _≤_, _<_, min}
+use Prim.Native.Nat.{ℕ, suc, _-_, _<_}
 use native.Mathlib.Omega.{arith}
 use mathlib.Core.Path.{_≡_, refl, sym, ap, subst, _∙_}
-use mathlib.Core.Logic.{_⊎_, inl, inr, ⊎-elim}
+use mathlib.Core.Logic.{inl}
 use mathlib.Core.Bool.{Bool, true, false, cond}
-use mathlib.Core.List.{List, [], _∷_, _++_}
+use mathlib.Core.List.{List, [], _∷_}
 use lib.ListN.{length, getD}
 use lib.Dec.{eqb}
 use Rattle.links.specs.Chain.{In}
 use Rattle.links.specs.Chain.{none as nowhere}
-use Rattle.links.specs.Lists.{Links, homeOf, deq}
+use Rattle.links.specs.Lists.{Links, deq}
 use Rattle.links.specs.Lists.{turn as turnLists}
 use Rattle.links.specs.Change.{turnTo, turnNow, HeldBy, Turns}
 use Rattle.links.proofs.Slots.{app-right, in-same}
-use Rattle.rules.specs.Geometry.{Geometry, wheel01, buckets}
+use Rattle.rules.specs.Geometry.{wheel01, buckets}
 use Rattle.rules.specs.Visits.{visitedAt, bucketAt, ahead}
-use Rattle.rules.specs.Lists.{Lists, enter}
-use Rattle.rules.specs.Wheel.{Advance, closed, within, Wheel, Answer, end, pull}
+use Rattle.rules.specs.Lists.{enter}
+use Rattle.rules.specs.Wheel.{closed, within, Wheel, Answer, end, pull}
 use Rattle.rules.specs.Pull.{Pulled, swept, pulled}
-use Rattle.rules.specs.Calls.{withLists, withClock, act}
+use Rattle.rules.specs.Calls.{withLists, withClock}
 use Rattle.rules.specs.Sound.{Sound}
-use Rattle.rules.proofs.Cases.{below?, not-both}
-use Rattle.rules.proofs.Placing.{visited-still}
+use Rattle.rules.proofs.Cases.{not-both}
 use Rattle.rules.proofs.SoundLists.{sound-enter}
 use Rattle.records.specs.declared.Clock.{Clock}
-use Rattle.records.specs.Records.{Nodes, Entries, records}
+use Rattle.records.specs.Records.{Entries, records}
 use Rattle.records.specs.Shows.{Shows}
-use Rattle.records.specs.Clocks.{standing, ended}
+use Rattle.records.specs.Clocks.{standing}
 use Rattle.records.specs.Change.{join}
 use Rattle.records.specs.Counts.{armedAmong}
 use Rattle.records.specs.Moments.{EndsAdvance}
@@ -36,8 +35,8 @@ use Rattle.records.proofs.Retiming.{retimed}
 use Rattle.advance.specs.declared.position.Position.{Position}
 use Rattle.advance.specs.declared.turns.Pulled.the-variants.{End}
 use Rattle.advance.specs.Position.{onward}
-use Rattle.advance.specs.Turns.{Nears, left, told, goes, stops, nextPosition, onLinks, onTurn, OnReady, TurnReady, Outcome, GoesOn}
-use Rattle.advance.proofs.Positions.{Leads, leads, bucketAt-in, visited-most}
+use Rattle.advance.specs.Turns.{goes, stops, nextPosition, OnReady, Outcome, GoesOn}
+use Rattle.advance.proofs.Positions.{Leads, leads, bucketAt-in}
 use Rattle.advance.proofs.Waiting.{to-sweep}
 
 -- what a pull makes of what it pulled
@@ -82,9 +81,6 @@ module _ (a : Links) (c : Clock) (y : OnReady wheel01 a c) (r : Position) (e : r
 
     pub step-some : 0 < r .step
     step-some = omega (arith, some .1)
-
-    pub step-small : r .step - 1 < 2 ^ 32
-    step-small = omega (arith, some .1, some .2, visited-most (r .level) (c .previous) (c .reading))
 
     module _ (b : ℕ) (eb : b ≡ bucketAt wheel01 (c .previous) (r .level) (r .step - 1)) where
       hb : b < buckets wheel01

@@ -1,25 +1,24 @@
 -- One turn: a node popped, or the next bucket. Assumes nothing.
-use Prim.Native.Nat.{ℕ, _+_, _≤_, _<_}
+use Prim.Native.Nat.{ℕ, _≤_, _<_}
 use native.Mathlib.Omega.{arith}
-use mathlib.Core.Path.{_≡_, refl, sym, ap, subst, _∙_}
-use mathlib.Core.Bool.{Bool, true, false, cond}
-use mathlib.Core.List.{List, [], _∷_}
-use lib.ListN.{length, getD}
+use mathlib.Core.Path.{_≡_, ap, _∙_}
+use mathlib.Core.Bool.{Bool, true, false}
+use mathlib.Core.List.{List}
+use lib.ListN.{length}
 use lib.Dec.{ltb}
 use borrow.Author.Tests.{lt-ltb, le-ltb}
 use Rattle.links.specs.Lists.{Links, links}
-use Rattle.rules.specs.Geometry.{Geometry, wheel01, buckets}
+use Rattle.rules.specs.Geometry.{wheel01}
 use Rattle.records.specs.declared.Clock.{Clock}
-use Rattle.records.specs.Records.{Nodes, nodes, entries, records}
-use Rattle.records.specs.Change.{join, withLinks}
+use Rattle.records.specs.Records.{Nodes, nodes, entries}
+use Rattle.records.specs.Change.{join}
 use Rattle.advance.specs.declared.turns.Turn.{Turn}
 use Rattle.advance.specs.Turns.{waitingAt, popNodes, popTurn, TurnReady, WaitReady, OnReady, PopReady, Waits, GoesOn, Pops, Turned}
-use Rattle.advance.proofs.Waiting.{few-steps}
 
-pub turn-waits : (N : Nodes) (t : List Bool) (d : List ℕ) (c : Clock) → TurnReady wheel01 N t d c → WaitReady wheel01 (N .links .heads) c
+pub turn-waits : (N : Nodes) (t : List Bool) (d : List ℕ) (c : Clock) → TurnReady wheel01 N t d c → WaitReady wheel01 (N .links .heads)
 turn-waits N t d c y =
     let s = y .ready .shows in
-    record { total = s .rep .heads-len ∙ s .count; few = few-steps c (y .ready .w .advance) (y .opened) (s .advance) }
+    record { total = s .rep .heads-len ∙ s .count }
 
 module _ (h tl n p o e γ s : List ℕ) (t : List Bool) (d : List ℕ) (c : Clock) (y : TurnReady wheel01 (nodes h tl n p o e γ s) t d c) (x : ℕ) (k : Waits wheel01 h c x) where
   pub turn-on : length n ≤ x → OnReady wheel01 (links h tl n p o) c

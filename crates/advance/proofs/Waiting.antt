@@ -1,22 +1,20 @@
 -- The node that a turn looks at: what it is of the lists that the records show. Assumes nothing.
-use Prim.Native.Nat.{ℕ, zero, suc, _+_, _-_, _≤_, _<_}
+use Prim.Native.Nat.{ℕ, suc, _+_, _-_, _≤_, _<_}
 use native.Mathlib.Omega.{arith}
 use mathlib.Core.Path.{_≡_, refl, sym, ap, subst, _∙_}
 use mathlib.Core.Logic.{_⊎_, inl, inr, ⊎-elim}
-use mathlib.Core.Bool.{Bool, true, false, cond}
+use mathlib.Core.Bool.{true}
 use mathlib.Core.List.{List, [], _∷_, _++_}
 use lib.ListN.{length, getD}
-use lib.Dec.{eqb, ltb}
 use borrow.Author.Tests.{eq-eqb, ne-eqb}
 use Rattle.links.specs.Chain.{first}
 use Rattle.links.specs.Chain.{none as nowhere}
-use Rattle.links.specs.Lists.{deq}
 use Rattle.links.proofs.Reading.{head-is}
 use Rattle.rules.specs.Geometry.{Geometry, wheel01, buckets}
-use Rattle.rules.specs.Visits.{visits, visitedAt, bucketAt, ahead}
-use Rattle.rules.specs.Lists.{Lists, whole, hit, count, times}
-use Rattle.rules.specs.Wheel.{Entry, Advance, closed, poised, within, Wheel}
-use Rattle.rules.specs.Pull.{Pulled, swept, pulled}
+use Rattle.rules.specs.Visits.{visits, bucketAt, ahead}
+use Rattle.rules.specs.Lists.{whole, count, times}
+use Rattle.rules.specs.Wheel.{Advance, closed, poised, within, Wheel}
+use Rattle.rules.specs.Pull.{swept, pulled}
 use Rattle.rules.specs.Sound.{Sound}
 use Rattle.rules.proofs.Cases.{below?, same?, not-both}
 use Rattle.rules.proofs.Counting.{hit-is}
@@ -26,7 +24,7 @@ use Rattle.records.specs.Records.{Nodes, Entries, records}
 use Rattle.records.specs.Shows.{ShowsAdvance, Shows}
 use Rattle.links.specs.Read.{Front}
 use Rattle.advance.specs.Turns.{standsIn, waitingAt, Waits}
-use Rattle.advance.proofs.Positions.{bucketAt-in, visited-most}
+use Rattle.advance.proofs.Positions.{bucketAt-in}
 use Rattle.advance.proofs.Turning.{turn-done}
 
 -- ---- the numbers
@@ -51,12 +49,6 @@ module _ (h : List ℕ) (c : Clock) (b x : ℕ) (n : c .step ≡ 0 → ⊥) (eb 
 
   pub waits-some : (x ≡ b → ⊥) → Waits wheel01 h c x
   waits-some k = record { is = sym (wait-some wheel01 h c n (λ e. k (sym at-head ∙ e ∙ sym eb)) ∙ at-head) }
-
--- an advance has entered few buckets of its level
-pub few-steps : (c : Clock) (A : Advance) → c .open ≡ true → ShowsAdvance wheel01 c A → c .step ≤ 64
-few-steps c closed o a = absurd (not-both (sym a ∙ o))
-few-steps c (poised p bs) o a = omega (arith, a .3)
-few-steps c (within p b bs) o a = omega (arith, a .3, a .4, visited-most (c .level) p (c .reading))
 
 -- ---- one bucket as a list
 nothing-early : (b : ℕ) (es ls : List ℕ) → count b es ≡ 0 → first (es ++ (b ∷ ls)) ≡ b → es ≡ []

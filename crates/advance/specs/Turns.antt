@@ -105,9 +105,9 @@ pub record TurnReady (g : Geometry) (N : Nodes) (t : List Bool) (d : List ℕ) (
   pub ready : Ready g (records N (entries t d ages) c)
   pub opened : c .open ≡ true
 
-pub record WaitReady (g : Geometry) (heads : List ℕ) (c : Clock) : Type 0 where
+-- the bucket that an advance stands in has a head
+pub record WaitReady (g : Geometry) (heads : List ℕ) : Type 0 where
   pub total : length heads ≡ buckets g
-  pub few : c .step ≤ 64
 
 -- no node waits before the sentinel
 pub record OnReady (g : Geometry) (a : Links) (c : Clock) : Type 0 where

@@ -3,11 +3,11 @@ ghost use Rattle.links.specs.Lists.{links};
 ghost use Rattle.rules.specs.Geometry.{wheel01};
 ghost use Rattle.records.specs.Records.{nodes};
 ghost use Rattle.advance.specs.Turns.{WaitReady, Waits, OnReady, GoesOn, PopReady, Pops, TurnReady, Turned};
-use crate::position::bucket_at;
 use crate::position::next_position;
 use links::NONE;
 use links::read::front;
 use place::find;
+use place::visits::bucket_at;
 use records::Clock;
 use records::moments::end;
 use records::timers::disarm;
@@ -37,13 +37,13 @@ pub struct Turn {
 
 // The first node before the sentinel of the bucket that the advance stands in, or NONE where there is none.
 fn waiting(heads: &[usize], clock: Clock) -> usize
-    requires { ⌜ WaitReady wheel01 (now heads) clock ⌝ }
+    requires { ⌜ WaitReady wheel01 (now heads) ⌝ }
     ensures { λ r. ⌜ Waits wheel01 (now (heads .entry)) clock r ⌝ }
 {
     if clock.step == 0 {
         return NONE;
     }
-    let b = bucket_at(clock.level, clock.previous, (clock.step - 1) as u64);
+    let b = bucket_at(clock.level, clock.previous, clock.step - 1);
     let x = front(heads, b);
     if x == b {
         return NONE;
@@ -72,7 +72,7 @@ fn go_on(
             event: Pulled::End,
         };
     }
-    let b = bucket_at(to.level, clock.previous, (to.step - 1) as u64);
+    let b = bucket_at(to.level, clock.previous, to.step - 1);
     links::change::turn(heads, tails, next, prev, bucket, b, b);
     let mut after = clock;
     after.level = to.level;

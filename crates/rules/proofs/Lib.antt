@@ -1,4 +1,4 @@
--- The laws of the rules. Demand3, SoundCalls, Order, Counts and Worked are what a reader looks for; Shows, ShowsClock and Turns serve the wheel on records. Assumes nothing.
+-- The laws of the rules. Demand3, SoundCalls, Order, Counts and Worked are what a reader looks for. Assumes nothing.
 pub mod Cases
 pub mod Ticks
 pub mod Placing
@@ -22,5 +22,3 @@ pub mod Premises
 pub mod Order
 pub mod Counts
 pub mod Turns
-pub mod Shows
-pub mod ShowsClock

@@ -1,4 +1,4 @@
--- The rules of the wheel, as definitions. The order is that of reading: times and places, the state, the calls, runs, demand 3; then what ties them to records. Assumes nothing.
+-- The rules of the wheel, as definitions. The order is that of reading: times and places, the state, the calls, runs, demand 3. Assumes nothing.
 pub mod Geometry
 pub mod Place
 pub mod Visits
@@ -12,4 +12,3 @@ pub mod Runs
 pub mod Demand3
 pub mod Worked
 pub mod Order
-pub mod Shows

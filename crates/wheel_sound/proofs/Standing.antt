@@ -1,39 +1,17 @@
--- Where an advance stands: how many buckets it visits at a level, and why each answer of the test is right. Assumes nothing.
-use Prim.Native.Nat.{ℕ, _+_, _-_, _/_, _^_, _≤_, _<_}
+-- Where an advance stands: why each answer of the test is right. Assumes nothing.
+use Prim.Native.Nat.{ℕ, _≤_, _<_}
 use native.Mathlib.Omega.{arith}
-use mathlib.Core.Path.{_≡_, refl, sym, _∙_}
+use mathlib.Core.Path.{_≡_, sym, _∙_}
 use mathlib.Core.Logic.{_⊎_, inl, inr, ⊎-elim}
 use mathlib.Core.Bool.{Bool, true, false, not, false≢true}
 use lib.Dec.{leb, eqb}
-use borrow.Author.Tests.{lt-ltb, le-ltb, leb-true, le-leb, eqb-true, eq-eqb, not-true, not-false}
-use Rattle.rules.specs.Geometry.{wheel01, tick}
-use Rattle.rules.specs.Visits.{visited, visitedAt}
-use Rattle.place.specs.Levels.{shift01, size01}
+use borrow.Author.Tests.{leb-true, le-leb, eqb-true, eq-eqb, not-true, not-false}
+use Rattle.rules.specs.Geometry.{wheel01}
+use Rattle.rules.specs.Visits.{visitedAt}
 use Rattle.records.specs.declared.Clock.{Clock}
 use Rattle.wheel_sound.specs.Decides.{Decides}
 use Rattle.wheel_sound.specs.Clauses.{StandsAt, AdvanceStands}
 use Rattle.wheel_sound.proofs.Answers.{yes, no}
-
--- ---- how many buckets are visited, by the two ticks
-pub stays : (l p q s : ℕ) → s ≡ shift01 l → q / 2 ^ s ≤ p / 2 ^ s → 0 ≡ visitedAt wheel01 p q l
-unfolding tick
-stays l p q s e h = rw (le-ltb (p / 2 ^ shift01 l) (q / 2 ^ shift01 l) (rw e at h)) refl
-
-pub few : (l p q s n : ℕ) → s ≡ shift01 l → n ≡ 2 ^ size01 l → p / 2 ^ s < q / 2 ^ s → q / 2 ^ s - p / 2 ^ s < n → (q / 2 ^ s - p / 2 ^ s) + 1 ≡ visitedAt wheel01 p q l
-unfolding tick
-few l p q s n e f h k =
-    let h′ : p / 2 ^ shift01 l < q / 2 ^ shift01 l = rw e at h in
-    let k′ : q / 2 ^ shift01 l - p / 2 ^ shift01 l < 2 ^ size01 l = rw (e, f) at k in
-    rw (e, lt-ltb (p / 2 ^ shift01 l) (q / 2 ^ shift01 l) h′) (omega arith)
-
-pub many : (l p q s n : ℕ) → s ≡ shift01 l → n ≡ 2 ^ size01 l → p / 2 ^ s < q / 2 ^ s → n ≤ q / 2 ^ s - p / 2 ^ s → n ≡ visitedAt wheel01 p q l
-unfolding tick
-many l p q s n e f h k =
-    let h′ : p / 2 ^ shift01 l < q / 2 ^ shift01 l = rw e at h in
-    let k′ : 2 ^ size01 l ≤ q / 2 ^ shift01 l - p / 2 ^ shift01 l = rw (e, f) at k in
-    rw (f, lt-ltb (p / 2 ^ shift01 l) (q / 2 ^ shift01 l) h′) (omega arith)
-
-pub ruleset counts = (stays, few, many)
 
 -- ---- the answers
 pub no-level : (p q l j : ℕ) → 4 < l → Decides (StandsAt wheel01 p q l j) false

@@ -9,8 +9,8 @@ use Rattle.advance.proofs.position.next_position.Tie as tie
 visited-requires : tie.Need-visited-requires
 visited-requires c κs = search needs
 
-add-t8 : tie.Need-add-t8
-add-t8 c = search needs
+add-t7 : tie.Need-add-t7
+add-t7 c = search needs
 
 returns : tie.Need-returns
 returns c = onward-here wheel01 _ _ _ _ (omega (arith, c .before .visited .ensures))
@@ -41,7 +41,7 @@ next-position-spec =
     tie.close
     (tie.spec
     visited-requires
-    add-t8
+    add-t7
     returns
     level-count-requires
     returns-2

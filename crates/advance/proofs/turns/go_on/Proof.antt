@@ -1,5 +1,5 @@
 -- `go_on` meets its contract. Assumes nothing.
-use Rattle.advance.proofs.Going.{on-ends, on-goes, step-some, step-small, enter-asks}
+use Rattle.advance.proofs.Going.{on-ends, on-goes, step-some, enter-asks}
 use borrow.Author.Needs.{needs}
 use borrow.Author.Tests.{not-true, not-false}
 use Rattle.advance.proofs.turns.go_on.Statement.{statement}
@@ -18,7 +18,7 @@ sub-bucket-at : tie.Need-sub-bucket-at
 sub-bucket-at c = step-some _ _ (c .before .before .before .before .before .before .before .before .before .pre) _ (c .before .before .before .next-position .ensures) (not-false _ (c .before .if1 .left))
 
 bucket-at-requires : tie.Need-bucket-at-requires
-bucket-at-requires c κs = step-small _ _ (c .before .before .before .before .before .before .before .before .before .pre) _ (c .before .before .before .next-position .ensures) (not-false _ (c .before .if1 .left))
+bucket-at-requires c κs = search needs
 
 turn-requires : tie.Need-turn-requires
 turn-requires c κs = enter-asks _ _ (c .before .before .before .before .before .before .before .before .before .before .before .before .before .before .pre) _ (c .before .before .before .before .before .before .before .before .next-position .ensures) (not-false _ (c .before .before .before .before .before .before .if1 .left)) _ (c .before .before .before .before .bucket-at .ensures)
