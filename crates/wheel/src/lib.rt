@@ -1,88 +1,26 @@
 // The alarm wheel over lent records, in parallel slices: heads and tails of the buckets; next, prev, bucket, entry, generation and serial of the slots; dated,
 // deadline and stamp (the generation) of the entries. The clock goes in by value and comes back in the answer; after a refusal the caller's own still holds.
 // Every call answers for every input: what is refused is refused by number, and then every lent record is as found. No `requires`.
-pub mod advancing; // start, pull, abandon
-pub mod counts; // armed count, next due
-pub mod making; // create, enable
-pub mod settings; // set entry
-pub mod timers; // schedule, reschedule, deschedule
+pub mod arming; // schedule
+pub mod pulling; // pull
 
-pub use advancing::abandon;
-pub use advancing::pull;
-pub use advancing::start;
-pub use counts::armed_count;
-pub use counts::next_due;
-pub use making::create;
-pub use making::enable;
+pub use arming::schedule;
+pub use pulling::pull;
 pub use records::Clock;
-pub use settings::set_entry;
-pub use timers::deschedule;
-pub use timers::reschedule;
-pub use timers::schedule;
-
-// Create: the clock, and heads and tails with no slot in any bucket.
-pub struct Created {
-    pub clock: Clock,
-    pub heads: [usize; 165],
-    pub tails: [usize; 165],
-}
-
-// Enable, deschedule, start, abandon: the clock from now on.
-pub enum Timed {
-    Done(Clock),
-    Refused(u64),
-}
-
-// Set entry.
-pub enum Noted {
-    Done,
-    Refused(u64),
-}
-
-// Schedule: the handle, and the clock from now on.
-pub enum Scheduled {
-    Armed {
-        slot: usize,
-        serial: u64,
-        clock: Clock,
-    },
-    Refused(u64),
-}
-
-// Reschedule: moved; or removed, since the entry has no deadline, and the clock from now on.
-pub enum Rescheduled {
-    Moved,
-    Removed(Clock),
-    Refused(u64),
-}
-
-// Pull: an event or End, and the clock from now on.
-pub enum Pulled {
-    Expired {
-        entry: usize,
-        serial: u64,
-        deadline: u64,
-        clock: Clock,
-    },
-    Moved {
-        entry: usize,
-        serial: u64,
-        place: u64,
-        clock: Clock,
-    },
-    End(Clock),
-    Refused(u64),
-}
-
-// Armed count.
-pub enum Counted {
-    Armed(usize),
-    Refused(u64),
-}
-
-// Next due: the smallest deadline, or none.
-pub enum Due {
-    At(u64),
-    Never,
-    Refused(u64),
-}
+pub use wheel_enable::enable;
+pub use wheel_handles::deschedule;
+pub use wheel_handles::reschedule;
+pub use wheel_plain::Counted;
+pub use wheel_plain::Created;
+pub use wheel_plain::Due;
+pub use wheel_plain::Noted;
+pub use wheel_plain::Pulled;
+pub use wheel_plain::Rescheduled;
+pub use wheel_plain::Scheduled;
+pub use wheel_plain::Timed;
+pub use wheel_plain::abandon;
+pub use wheel_plain::armed_count;
+pub use wheel_plain::create;
+pub use wheel_plain::next_due;
+pub use wheel_plain::set_entry;
+pub use wheel_plain::start;

@@ -10,20 +10,20 @@ use Rattle.rules.specs.Wheel.{Call, Answer, refused, ok, handle, removed, end, 
 use Rattle.rules.proofs.Cases.{same?}
 use Rattle.records.specs.declared.Clock.{Clock}
 use Rattle.records.specs.Records.{Nodes, Entries, Records, records}
-use Rattle.wheel.specs.declared.Timed.{Timed}
-use Rattle.wheel.specs.declared.Timed.the-variants.{Done, Refused as TimedRefused}
-use Rattle.wheel.specs.declared.Noted.{Noted}
-use Rattle.wheel.specs.declared.Noted.the-variants.{Done as Set, Refused as NotedRefused}
-use Rattle.wheel.specs.declared.Scheduled.{Scheduled}
-use Rattle.wheel.specs.declared.Scheduled.the-variants.{Armed, Refused as ScheduledRefused}
-use Rattle.wheel.specs.declared.Rescheduled.{Rescheduled}
-use Rattle.wheel.specs.declared.Rescheduled.the-variants.{Moved, Removed, Refused as RescheduledRefused}
-use Rattle.wheel.specs.declared.Pulled.{Pulled}
-use Rattle.wheel.specs.declared.Pulled.the-variants.{Expired, Moved as Placed, End, Refused as PulledRefused}
-use Rattle.wheel.specs.declared.Counted.{Counted}
-use Rattle.wheel.specs.declared.Counted.the-variants.{Armed as Count, Refused as CountedRefused}
-use Rattle.wheel.specs.declared.Due.{Due}
-use Rattle.wheel.specs.declared.Due.the-variants.{At, Never, Refused as DueRefused}
+use Rattle.wheel_plain.specs.declared.Timed.{Timed}
+use Rattle.wheel_plain.specs.declared.Timed.the-variants.{Done, Refused as TimedRefused}
+use Rattle.wheel_plain.specs.declared.Noted.{Noted}
+use Rattle.wheel_plain.specs.declared.Noted.the-variants.{Done as Set, Refused as NotedRefused}
+use Rattle.wheel_plain.specs.declared.Scheduled.{Scheduled}
+use Rattle.wheel_plain.specs.declared.Scheduled.the-variants.{Armed, Refused as ScheduledRefused}
+use Rattle.wheel_plain.specs.declared.Rescheduled.{Rescheduled}
+use Rattle.wheel_plain.specs.declared.Rescheduled.the-variants.{Moved, Removed, Refused as RescheduledRefused}
+use Rattle.wheel_plain.specs.declared.Pulled.{Pulled}
+use Rattle.wheel_plain.specs.declared.Pulled.the-variants.{Expired, Moved as Placed, End, Refused as PulledRefused}
+use Rattle.wheel_plain.specs.declared.Counted.{Counted}
+use Rattle.wheel_plain.specs.declared.Counted.the-variants.{Armed as Count, Refused as CountedRefused}
+use Rattle.wheel_plain.specs.declared.Due.{Due}
+use Rattle.wheel_plain.specs.declared.Due.the-variants.{At, Never, Refused as DueRefused}
 use Rattle.wheel.specs.Answers.{timedSays, notedSays, scheduledSays, rescheduledSays, pulledSays, countedSays, dueSays, timedClock, scheduledClock, rescheduledClock, pulledClock}
 use Rattle.wheel_refuse.specs.Refuse.{unless, answered, enableRows, setRows, scheduleRows, handleRows, closedRows, openRows, countRows}
 use Rattle.wheel.specs.Calls.{Meets, Create, Enable, SetEntry, Schedule, Reschedule, Deschedule, Start, Pull, Abandon, ArmedCount, NextDue}

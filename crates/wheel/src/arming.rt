@@ -1,0 +1,71 @@
+// Schedule: refusals in order, then the work. No `requires`. A refused call leaves every record as found.
+ghost use Rattle.wheel_refuse.specs.Lent.{lent};
+ghost use Rattle.wheel_plain.specs.Answers.{scheduledClock};
+ghost use Rattle.wheel_plain.specs.Calls.{Schedule};
+use records::Clock;
+use records::timers::arm;
+use wheel_plain::Scheduled;
+use wheel_refuse::schedule_refusal;
+
+// Puts a new node for the entry e, whose generation is h, at the back of its bucket. Answers the handle, or refuses (1, 4, 5, 7 to 11).
+pub fn schedule(
+    heads: &mut [usize],
+    tails: &mut [usize],
+    next: &mut [usize],
+    prev: &mut [usize],
+    bucket: &mut [usize],
+    entry: &mut [usize],
+    generation: &mut [u32],
+    serial: &mut [u64],
+    dated: &[bool],
+    deadline: &[u64],
+    stamp: &[u32],
+    clock: Clock,
+    e: usize,
+    h: u32,
+) -> Scheduled
+    ensures { λ r. ⌜ Schedule (lent (now (heads .entry)) (now (tails .entry)) (now (next .entry)) (now (prev .entry)) (now (bucket .entry)) (now (entry .entry)) (now (generation .entry)) (now (serial .entry)) (now (dated .entry)) (now (deadline .entry)) (now (stamp .entry)) clock) (lent (now (heads .exit)) (now (tails .exit)) (now (next .exit)) (now (prev .exit)) (now (bucket .exit)) (now (entry .exit)) (now (generation .exit)) (now (serial .exit)) (now (dated .entry)) (now (deadline .entry)) (now (stamp .entry)) (scheduledClock clock r)) e h r ⌝ }
+{
+    let no = schedule_refusal(
+        heads,
+        tails,
+        next,
+        prev,
+        bucket,
+        entry,
+        generation,
+        serial,
+        dated,
+        deadline,
+        stamp,
+        clock,
+        e,
+        h,
+    );
+    if no != 0 {
+        return Scheduled::Refused(no);
+    }
+    let due = deadline[e];
+    let armed = arm(
+        heads,
+        tails,
+        next,
+        prev,
+        bucket,
+        entry,
+        generation,
+        serial,
+        clock,
+        e,
+        h,
+        due,
+    );
+    let slot = armed.slot;
+    let given = armed.serial;
+    let after = armed.clock;
+    Scheduled::Armed {
+        slot,
+        serial: given,
+        clock: after,
+    }
+}

@@ -1,0 +1,86 @@
+// Start and abandon: refusals in order, then the clock. They move no node. No `requires`. A refused call leaves every record as found.
+ghost use Rattle.wheel_refuse.specs.Lent.{lent};
+ghost use Rattle.wheel_plain.specs.Answers.{timedClock};
+ghost use Rattle.wheel_plain.specs.Calls.{Start, Abandon};
+use crate::Timed;
+use records::Clock;
+use records::moments;
+use wheel_refuse::closed_refusal;
+use wheel_refuse::open_refusal;
+
+// Opens an advance to q: the reading becomes q, the old one is kept. It moves no node. Refuses (1, 4, 5).
+pub fn start(
+    heads: &[usize],
+    tails: &[usize],
+    next: &[usize],
+    prev: &[usize],
+    bucket: &[usize],
+    entry: &[usize],
+    generation: &[u32],
+    serial: &[u64],
+    dated: &[bool],
+    deadline: &[u64],
+    stamp: &[u32],
+    clock: Clock,
+    q: u64,
+) -> Timed
+    ensures { λ r. ⌜ Start (lent (now (heads .entry)) (now (tails .entry)) (now (next .entry)) (now (prev .entry)) (now (bucket .entry)) (now (entry .entry)) (now (generation .entry)) (now (serial .entry)) (now (dated .entry)) (now (deadline .entry)) (now (stamp .entry)) clock) (lent (now (heads .entry)) (now (tails .entry)) (now (next .entry)) (now (prev .entry)) (now (bucket .entry)) (now (entry .entry)) (now (generation .entry)) (now (serial .entry)) (now (dated .entry)) (now (deadline .entry)) (now (stamp .entry)) (timedClock clock r)) q r ⌝ }
+{
+    let no = closed_refusal(
+        heads,
+        tails,
+        next,
+        prev,
+        bucket,
+        entry,
+        generation,
+        serial,
+        dated,
+        deadline,
+        stamp,
+        clock,
+    );
+    if no != 0 {
+        return Timed::Refused(no);
+    }
+    let after = moments::start(clock, q);
+    Timed::Done(after)
+}
+
+// Closes the open advance and restores the reading that it started from. What was pulled stays pulled, what was moved stays moved. Refuses (1, 4, 6).
+pub fn abandon(
+    heads: &[usize],
+    tails: &[usize],
+    next: &[usize],
+    prev: &[usize],
+    bucket: &[usize],
+    entry: &[usize],
+    generation: &[u32],
+    serial: &[u64],
+    dated: &[bool],
+    deadline: &[u64],
+    stamp: &[u32],
+    clock: Clock,
+) -> Timed
+    ensures { λ r. ⌜ Abandon (lent (now (heads .entry)) (now (tails .entry)) (now (next .entry)) (now (prev .entry)) (now (bucket .entry)) (now (entry .entry)) (now (generation .entry)) (now (serial .entry)) (now (dated .entry)) (now (deadline .entry)) (now (stamp .entry)) clock) (lent (now (heads .entry)) (now (tails .entry)) (now (next .entry)) (now (prev .entry)) (now (bucket .entry)) (now (entry .entry)) (now (generation .entry)) (now (serial .entry)) (now (dated .entry)) (now (deadline .entry)) (now (stamp .entry)) (timedClock clock r)) r ⌝ }
+{
+    let no = open_refusal(
+        heads,
+        tails,
+        next,
+        prev,
+        bucket,
+        entry,
+        generation,
+        serial,
+        dated,
+        deadline,
+        stamp,
+        clock,
+    );
+    if no != 0 {
+        return Timed::Refused(no);
+    }
+    let after = moments::abandon(clock);
+    Timed::Done(after)
+}
