@@ -1,0 +1,19 @@
+use mathlib.Core.Path.{refl}
+use Rattle.story.proofs.Beginning.{creating}
+use borrow.Author.Needs.{needs}
+use Rattle.story.proofs.making.create.Statement.{statement}
+use Rattle.story.proofs.making.create.Tie as tie
+use Rattle.story.proofs.making.create.Reads as reads
+use Rattle.story.proofs.making.create.Lts as lts
+use Rattle.wheel.proofs.create.Reads as create-reads
+
+-- src/making.rt:14:9
+create-requires : tie.Need-create-requires
+create-requires c κs = search needs
+
+-- src/making.rt:11:1
+returns : tie.Need-returns
+returns c = (refl, creating _ _ _ _ _ _ _ _ _ _ _ _ _ (c .before .before .before .create .ensures))
+
+pub create-spec : {M : Type 1} → statement M
+create-spec = tie.close (tie.spec create-requires returns)

@@ -1,0 +1,3 @@
+-- What the contracts of the story cite. Assumes nothing.
+pub mod Held
+pub mod Story

@@ -1,0 +1,7 @@
+mod answers;
+mod calls;
+mod clocks;
+mod held;
+mod making;
+
+fn main() {}
