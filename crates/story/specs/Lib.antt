@@ -1,3 +1,2 @@
 -- What the contracts of the story cite. Assumes nothing.
-pub mod Held
 pub mod Story

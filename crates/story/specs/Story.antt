@@ -1,11 +1,9 @@
 -- The story: what is called, chapter by chapter, and what it means to have come that far. Assumes nothing.
 use Prim.Native.Nat.{ℕ, _+_, _^_}
-use mathlib.Core.Path.{_≡_}
-use mathlib.Core.Bool.{Bool, true}
 use mathlib.Core.Option.{some}
 use mathlib.Core.List.{List, [], _∷_, _++_}
 use Rattle.rules.specs.Geometry.{wheel01}
-use Rattle.rules.specs.Wheel.{Call, create, enable, setEntry, schedule, deschedule, start, pull, abandon, Answer}
+use Rattle.rules.specs.Wheel.{Call, create, enable, setEntry, schedule, deschedule, start, pull, abandon}
 use Rattle.rules.specs.Runs.{after}
 use Rattle.rules.specs.Worked.{nothing}
 use Rattle.records.specs.Records.{Records}
@@ -14,16 +12,6 @@ use Rattle.wheel_history.specs.History.{Tells}
 -- the records stand for the wheel that these calls of the rules lead to, and are sound
 pub record Reached (calls : List Call) (R : Records) : Type 0 where
   pub tells : Tells R (after wheel01 nothing calls .wheel)
-
--- r is whether the answer a is b
-pub record Whether (a b : Answer) (r : Bool) : Type 0 where
-  pub yes : a ≡ b → r ≡ true
-  pub only : r ≡ true → a ≡ b
-
--- r is whether the numbers are these three
-pub record Agree (e n k entry serial last : ℕ) (r : Bool) : Type 0 where
-  pub yes : e ≡ entry → n ≡ serial → k ≡ last → r ≡ true
-  pub only : r ≡ true → (e ≡ entry) × (n ≡ serial) × (k ≡ last)
 
 -- ---- the chapters
 -- a wheel of 168 node records and 2 entries, whose serials begin at 7

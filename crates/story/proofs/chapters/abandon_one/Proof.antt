@@ -5,18 +5,12 @@ use mathlib.Core.List.{[], _∷_, _++_}
 use borrow.Author.Tests.{eq-eqb}
 use Rattle.rules.specs.Geometry.{tick}
 use Rattle.rules.specs.Wheel.{abandon, start}
-use Rattle.story.specs.Held.{held}
+use Rattle.story_calls.specs.Held.{held}
 use Rattle.story.specs.Story.{Reached, cancelled, abandoned}
 use Rattle.story.proofs.Telling.{on, says, reads}
 use borrow.Author.Needs.{needs}
 use Rattle.story.proofs.chapters.abandon_one.Statement.{statement}
 use Rattle.story.proofs.chapters.abandon_one.Tie as tie
-use Rattle.story.proofs.chapters.abandon_one.Reads as reads
-use Rattle.story.proofs.chapters.abandon_one.Lts as lts
-use Rattle.check.proofs.expect.Reads as expect-reads
-use Rattle.story.proofs.answers.is_done.Reads as is-done-reads
-use Rattle.story.proofs.calls.abandon.Reads as abandon-reads
-use Rattle.story.proofs.calls.start.Reads as start-reads
 
 reached1 : (c : tie.After-start) → Reached (cancelled ++ (start (2 ^ 31) ∷ [])) (held (c .start .result .after))
 reached1 c = on (start (2 ^ 31)) _ _ (c .before .pre) (c .start .ensures)
@@ -24,42 +18,33 @@ reached1 c = on (start (2 ^ 31)) _ _ (c .before .pre) (c .start .ensures)
 reached2 : (c : tie.After-abandon) → Reached abandoned (held (c .abandon .result .after))
 reached2 c = on abandon _ _ (reached1 (c .before .before .before .before)) (c .abandon .ensures)
 
--- src/chapters.rt:83:28
 mul-start : tie.Need-mul-start
 mul-start c = search needs
 
--- src/chapters.rt:83:9
 start-requires : tie.Need-start-requires
 start-requires c κs = search needs
 
--- src/chapters.rt:85:19
 is-done-requires : tie.Need-is-done-requires
 is-done-requires c κs = search needs
 
--- src/chapters.rt:85:5
 expect-requires : tie.Need-expect-requires
 unfolding tick
 expect-requires c κs = c .is-done .ensures .yes (says (start (2 ^ 31)) _ _ (c .before .before .pre) (c .before .start .ensures) _ refl)
 
--- src/chapters.rt:87:9
 abandon-requires : tie.Need-abandon-requires
 abandon-requires c κs = search needs
 
--- src/chapters.rt:89:19
 is-done-requires-2 : tie.Need-is-done-requires-2
 is-done-requires-2 c κs = search needs
 
--- src/chapters.rt:89:5
 expect-requires-2 : tie.Need-expect-requires-2
 unfolding tick
 expect-requires-2 c κs = c .is-done2 .ensures .yes (says abandon _ _ (reached1 (c .before .before .before .before .before)) (c .before .abandon .ensures) _ refl)
 
--- src/chapters.rt:92:5
 expect-requires-3 : tie.Need-expect-requires-3
 unfolding tick
 expect-requires-3 c κs = eq-eqb _ 0 (reads (reached2 (c .before .before .before .before .before)) 0 refl)
 
--- src/chapters.rt:79:1
 returns : tie.Need-returns
 returns c = reached2 (c .before .before .before .before .before .before)
 

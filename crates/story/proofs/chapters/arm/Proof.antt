@@ -5,19 +5,12 @@ use mathlib.Core.Option.{some}
 use mathlib.Core.List.{[], _∷_, _++_}
 use Rattle.rules.specs.Geometry.{tick}
 use Rattle.rules.specs.Wheel.{schedule, setEntry}
-use Rattle.story.specs.Held.{held}
+use Rattle.story_calls.specs.Held.{held}
 use Rattle.story.specs.Story.{Reached, begun, armed}
 use Rattle.story.proofs.Telling.{on, says}
 use borrow.Author.Needs.{needs}
 use Rattle.story.proofs.chapters.arm.Statement.{statement}
 use Rattle.story.proofs.chapters.arm.Tie as tie
-use Rattle.story.proofs.chapters.arm.Reads as reads
-use Rattle.story.proofs.chapters.arm.Lts as lts
-use Rattle.check.proofs.expect.Reads as expect-reads
-use Rattle.story.proofs.answers.is_handle.Reads as is-handle-reads
-use Rattle.story.proofs.answers.is_noted.Reads as is-noted-reads
-use Rattle.story.proofs.calls.schedule.Reads as schedule-reads
-use Rattle.story.proofs.calls.set.Reads as set-reads
 
 reached1 : (c : tie.After-set) → Reached (begun ++ (setEntry 0 (some (2 ^ 30 + 5)) 1 ∷ [])) (held (c .set .result .after))
 reached1 c = on (setEntry 0 (some (2 ^ 30 + 5)) 1) _ _ (c .before .pre) (c .set .ensures)
@@ -25,33 +18,26 @@ reached1 c = on (setEntry 0 (some (2 ^ 30 + 5)) 1) _ _ (c .before .pre) (c .set 
 reached2 : (c : tie.After-schedule) → Reached armed (held (c .schedule .result .after))
 reached2 c = on (schedule 0 1) _ _ (reached1 (c .before .before .before .before)) (c .schedule .ensures)
 
--- src/chapters.rt:45:9
 set-requires : tie.Need-set-requires
 set-requires c κs = search needs
 
--- src/chapters.rt:47:19
 is-noted-requires : tie.Need-is-noted-requires
 is-noted-requires c κs = search needs
 
--- src/chapters.rt:47:5
 expect-requires : tie.Need-expect-requires
 unfolding tick
 expect-requires c κs = c .is-noted .ensures .yes (says (setEntry 0 (some (2 ^ 30 + 5)) 1) _ _ (c .before .before .pre) (c .before .set .ensures) _ refl)
 
--- src/chapters.rt:49:9
 schedule-requires : tie.Need-schedule-requires
 schedule-requires c κs = search needs
 
--- src/chapters.rt:51:19
 is-handle-requires : tie.Need-is-handle-requires
 is-handle-requires c κs = search needs
 
--- src/chapters.rt:51:5
 expect-requires-2 : tie.Need-expect-requires-2
 unfolding tick
 expect-requires-2 c κs = c .is-handle .ensures .yes (says (schedule 0 1) _ _ (reached1 (c .before .before .before .before .before)) (c .before .schedule .ensures) _ refl)
 
--- src/chapters.rt:41:1
 returns : tie.Need-returns
 returns c = reached2 (c .before .before .before)
 

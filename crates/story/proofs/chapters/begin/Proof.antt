@@ -2,36 +2,25 @@
 use mathlib.Core.Path.{refl}
 use Rattle.rules.specs.Geometry.{tick}
 use Rattle.rules.specs.Wheel.{enable}
-use Rattle.story.specs.Held.{held}
+use Rattle.story_calls.specs.Held.{held}
 use Rattle.story.proofs.Telling.{beginning, on, says}
 use borrow.Author.Needs.{needs}
 use Rattle.story.proofs.chapters.begin.Statement.{statement}
 use Rattle.story.proofs.chapters.begin.Tie as tie
-use Rattle.story.proofs.chapters.begin.Reads as reads
-use Rattle.story.proofs.chapters.begin.Lts as lts
-use Rattle.check.proofs.expect.Reads as expect-reads
-use Rattle.story.proofs.answers.is_done.Reads as is-done-reads
-use Rattle.story.proofs.making.create.Reads as create-reads
-use Rattle.story.proofs.making.enable.Reads as enable-reads
 
--- src/chapters.rt:33:9
 create-requires : tie.Need-create-requires
 create-requires c κs = search needs
 
--- src/chapters.rt:34:9
 enable-requires : tie.Need-enable-requires
 enable-requires c κs = search needs
 
--- src/chapters.rt:36:19
 is-done-requires : tie.Need-is-done-requires
 is-done-requires c κs = search needs
 
--- src/chapters.rt:36:5
 expect-requires : tie.Need-expect-requires
 unfolding tick
 expect-requires c κs = c .is-done .ensures .yes (says (enable 168 2) _ _ (beginning 7 (held (c .before .before .create .result)) _ (c .before .before .create .ensures)) (c .before .enable .ensures) _ refl)
 
--- src/chapters.rt:30:1
 returns : tie.Need-returns
 returns c = on (enable 168 2) _ _ (beginning 7 (held (c .before .before .before .before .create .result)) _ (c .before .before .before .before .create .ensures)) (c .before .before .before .enable .ensures)
 

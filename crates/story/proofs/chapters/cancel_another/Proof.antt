@@ -5,22 +5,12 @@ use mathlib.Core.Option.{some}
 use mathlib.Core.List.{[], _∷_, _++_}
 use Rattle.rules.specs.Geometry.{tick}
 use Rattle.rules.specs.Wheel.{deschedule, schedule, setEntry}
-use Rattle.story.specs.Held.{held}
+use Rattle.story_calls.specs.Held.{held}
 use Rattle.story.specs.Story.{Reached, armed, cancelled}
 use Rattle.story.proofs.Telling.{on, says}
 use borrow.Author.Needs.{needs}
 use Rattle.story.proofs.chapters.cancel_another.Statement.{statement}
 use Rattle.story.proofs.chapters.cancel_another.Tie as tie
-use Rattle.story.proofs.chapters.cancel_another.Reads as reads
-use Rattle.story.proofs.chapters.cancel_another.Lts as lts
-use Rattle.check.proofs.expect.Reads as expect-reads
-use Rattle.story.proofs.answers.is_done.Reads as is-done-reads
-use Rattle.story.proofs.answers.is_handle.Reads as is-handle-reads
-use Rattle.story.proofs.answers.is_noted.Reads as is-noted-reads
-use Rattle.story.proofs.answers.is_refused.Reads as is-refused-reads
-use Rattle.story.proofs.calls.deschedule.Reads as deschedule-reads
-use Rattle.story.proofs.calls.schedule.Reads as schedule-reads
-use Rattle.story.proofs.calls.set.Reads as set-reads
 
 reached1 : (c : tie.After-set) → Reached (armed ++ (setEntry 1 (some (2 ^ 36)) 3 ∷ [])) (held (c .set .result .after))
 reached1 c = on (setEntry 1 (some (2 ^ 36)) 3) _ _ (c .before .pre) (c .set .ensures)
@@ -34,63 +24,49 @@ reached3 c = on (deschedule 166 8 3) _ _ (reached2 (c .before .before .before .b
 reached4 : (c : tie.After-deschedule2) → Reached cancelled (held (c .deschedule2 .result .after))
 reached4 c = on (deschedule 166 8 3) _ _ (reached3 (c .before .before .before .before)) (c .deschedule2 .ensures)
 
--- src/chapters.rt:60:28
 mul-set : tie.Need-mul-set
 mul-set c = search needs
 
--- src/chapters.rt:60:9
 set-requires : tie.Need-set-requires
 set-requires c κs = search needs
 
--- src/chapters.rt:62:19
 is-noted-requires : tie.Need-is-noted-requires
 is-noted-requires c κs = search needs
 
--- src/chapters.rt:62:5
 expect-requires : tie.Need-expect-requires
 unfolding tick
 expect-requires c κs = c .is-noted .ensures .yes (says (setEntry 1 (some (2 ^ 36)) 3) _ _ (c .before .before .pre) (c .before .set .ensures) _ refl)
 
--- src/chapters.rt:64:9
 schedule-requires : tie.Need-schedule-requires
 schedule-requires c κs = search needs
 
--- src/chapters.rt:66:19
 is-handle-requires : tie.Need-is-handle-requires
 is-handle-requires c κs = search needs
 
--- src/chapters.rt:66:5
 expect-requires-2 : tie.Need-expect-requires-2
 unfolding tick
 expect-requires-2 c κs = c .is-handle .ensures .yes (says (schedule 1 3) _ _ (reached1 (c .before .before .before .before .before)) (c .before .schedule .ensures) _ refl)
 
--- src/chapters.rt:68:9
 deschedule-requires : tie.Need-deschedule-requires
 deschedule-requires c κs = search needs
 
--- src/chapters.rt:70:19
 is-done-requires : tie.Need-is-done-requires
 is-done-requires c κs = search needs
 
--- src/chapters.rt:70:5
 expect-requires-3 : tie.Need-expect-requires-3
 unfolding tick
 expect-requires-3 c κs = c .is-done .ensures .yes (says (deschedule 166 8 3) _ _ (reached2 (c .before .before .before .before .before)) (c .before .deschedule .ensures) _ refl)
 
--- src/chapters.rt:72:9
 deschedule-requires-2 : tie.Need-deschedule-requires-2
 deschedule-requires-2 c κs = search needs
 
--- src/chapters.rt:74:19
 is-refused-requires : tie.Need-is-refused-requires
 is-refused-requires c κs = search needs
 
--- src/chapters.rt:74:5
 expect-requires-4 : tie.Need-expect-requires-4
 unfolding tick
 expect-requires-4 c κs = c .is-refused .ensures .yes (says (deschedule 166 8 3) _ _ (reached3 (c .before .before .before .before .before)) (c .before .deschedule2 .ensures) _ refl)
 
--- src/chapters.rt:56:1
 returns : tie.Need-returns
 returns c = reached4 (c .before .before .before)
 

@@ -6,26 +6,17 @@ use Rattle.story.proofs.Telling.{says}
 use borrow.Author.Needs.{needs}
 use Rattle.story.proofs.chapters.count_none.Statement.{statement}
 use Rattle.story.proofs.chapters.count_none.Tie as tie
-use Rattle.story.proofs.chapters.count_none.Reads as reads
-use Rattle.story.proofs.chapters.count_none.Lts as lts
-use Rattle.check.proofs.expect.Reads as expect-reads
-use Rattle.story.proofs.answers.is_count.Reads as is-count-reads
-use Rattle.story.proofs.calls.armed_count.Reads as armed-count-reads
 
--- src/chapters.rt:156:9
 armed-count-requires : tie.Need-armed-count-requires
 armed-count-requires c κs = search needs
 
--- src/chapters.rt:157:19
 is-count-requires : tie.Need-is-count-requires
 is-count-requires c κs = search needs
 
--- src/chapters.rt:157:5
 expect-requires : tie.Need-expect-requires
 unfolding tick
 expect-requires c κs = c .is-count .ensures .yes (says armedCount _ _ (c .before .before .pre) (c .before .armed-count .ensures) _ refl)
 
--- src/chapters.rt:153:1
 returns : tie.Need-returns
 returns c = search needs
 

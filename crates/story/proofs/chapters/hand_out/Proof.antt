@@ -4,20 +4,12 @@ use mathlib.Core.Path.{refl}
 use mathlib.Core.List.{[], _∷_, _++_}
 use Rattle.rules.specs.Geometry.{tick}
 use Rattle.rules.specs.Wheel.{pull, start}
-use Rattle.story.specs.Held.{held}
+use Rattle.story_calls.specs.Held.{held}
 use Rattle.story.specs.Story.{Reached, steppedBack, handedOut}
 use Rattle.story.proofs.Telling.{on, says}
 use borrow.Author.Needs.{needs}
 use Rattle.story.proofs.chapters.hand_out.Statement.{statement}
 use Rattle.story.proofs.chapters.hand_out.Tie as tie
-use Rattle.story.proofs.chapters.hand_out.Reads as reads
-use Rattle.story.proofs.chapters.hand_out.Lts as lts
-use Rattle.check.proofs.expect.Reads as expect-reads
-use Rattle.story.proofs.answers.is_done.Reads as is-done-reads
-use Rattle.story.proofs.answers.is_end.Reads as is-end-reads
-use Rattle.story.proofs.answers.is_expired.Reads as is-expired-reads
-use Rattle.story.proofs.calls.pull.Reads as pull-reads
-use Rattle.story.proofs.calls.start.Reads as start-reads
 
 reached1 : (c : tie.After-start) → Reached (steppedBack ++ (start (2 ^ 31) ∷ [])) (held (c .start .result .after))
 reached1 c = on (start (2 ^ 31)) _ _ (c .before .pre) (c .start .ensures)
@@ -28,50 +20,39 @@ reached2 c = on pull _ _ (reached1 (c .before .before .before .before)) (c .pull
 reached3 : (c : tie.After-pull2) → Reached handedOut (held (c .pull2 .result .after))
 reached3 c = on pull _ _ (reached2 (c .before .before .before .before)) (c .pull2 .ensures)
 
--- src/chapters.rt:138:28
 mul-start : tie.Need-mul-start
 mul-start c = search needs
 
--- src/chapters.rt:138:9
 start-requires : tie.Need-start-requires
 start-requires c κs = search needs
 
--- src/chapters.rt:140:19
 is-done-requires : tie.Need-is-done-requires
 is-done-requires c κs = search needs
 
--- src/chapters.rt:140:5
 expect-requires : tie.Need-expect-requires
 unfolding tick
 expect-requires c κs = c .is-done .ensures .yes (says (start (2 ^ 31)) _ _ (c .before .before .pre) (c .before .start .ensures) _ refl)
 
--- src/chapters.rt:142:9
 pull-requires : tie.Need-pull-requires
 pull-requires c κs = search needs
 
--- src/chapters.rt:144:19
 is-expired-requires : tie.Need-is-expired-requires
 is-expired-requires c κs = search needs
 
--- src/chapters.rt:144:5
 expect-requires-2 : tie.Need-expect-requires-2
 unfolding tick
 expect-requires-2 c κs = c .is-expired .ensures .yes (says pull _ _ (reached1 (c .before .before .before .before .before)) (c .before .pull .ensures) _ refl)
 
--- src/chapters.rt:146:9
 pull-requires-2 : tie.Need-pull-requires-2
 pull-requires-2 c κs = search needs
 
--- src/chapters.rt:148:19
 is-end-requires : tie.Need-is-end-requires
 is-end-requires c κs = search needs
 
--- src/chapters.rt:148:5
 expect-requires-3 : tie.Need-expect-requires-3
 unfolding tick
 expect-requires-3 c κs = c .is-end .ensures .yes (says pull _ _ (reached2 (c .before .before .before .before .before)) (c .before .pull2 .ensures) _ refl)
 
--- src/chapters.rt:134:1
 returns : tie.Need-returns
 returns c = reached3 (c .before .before .before)
 

@@ -4,19 +4,12 @@ use mathlib.Core.List.{[], _∷_, _++_}
 use borrow.Author.Tests.{eq-eqb}
 use Rattle.rules.specs.Geometry.{tick}
 use Rattle.rules.specs.Wheel.{pull, start}
-use Rattle.story.specs.Held.{held}
+use Rattle.story_calls.specs.Held.{held}
 use Rattle.story.specs.Story.{Reached, tooEarly, steppedBack}
 use Rattle.story.proofs.Telling.{on, says, reads}
 use borrow.Author.Needs.{needs}
 use Rattle.story.proofs.chapters.step_back.Statement.{statement}
 use Rattle.story.proofs.chapters.step_back.Tie as tie
-use Rattle.story.proofs.chapters.step_back.Reads as reads
-use Rattle.story.proofs.chapters.step_back.Lts as lts
-use Rattle.check.proofs.expect.Reads as expect-reads
-use Rattle.story.proofs.answers.is_done.Reads as is-done-reads
-use Rattle.story.proofs.answers.is_end.Reads as is-end-reads
-use Rattle.story.proofs.calls.pull.Reads as pull-reads
-use Rattle.story.proofs.calls.start.Reads as start-reads
 
 reached1 : (c : tie.After-start) → Reached (tooEarly ++ (start 5 ∷ [])) (held (c .start .result .after))
 reached1 c = on (start 5) _ _ (c .before .pre) (c .start .ensures)
@@ -24,38 +17,30 @@ reached1 c = on (start 5) _ _ (c .before .pre) (c .start .ensures)
 reached2 : (c : tie.After-pull) → Reached steppedBack (held (c .pull .result .after))
 reached2 c = on pull _ _ (reached1 (c .before .before .before .before)) (c .pull .ensures)
 
--- src/chapters.rt:120:9
 start-requires : tie.Need-start-requires
 start-requires c κs = search needs
 
--- src/chapters.rt:122:19
 is-done-requires : tie.Need-is-done-requires
 is-done-requires c κs = search needs
 
--- src/chapters.rt:122:5
 expect-requires : tie.Need-expect-requires
 unfolding tick
 expect-requires c κs = c .is-done .ensures .yes (says (start 5) _ _ (c .before .before .pre) (c .before .start .ensures) _ refl)
 
--- src/chapters.rt:124:9
 pull-requires : tie.Need-pull-requires
 pull-requires c κs = search needs
 
--- src/chapters.rt:126:19
 is-end-requires : tie.Need-is-end-requires
 is-end-requires c κs = search needs
 
--- src/chapters.rt:126:5
 expect-requires-2 : tie.Need-expect-requires-2
 unfolding tick
 expect-requires-2 c κs = c .is-end .ensures .yes (says pull _ _ (reached1 (c .before .before .before .before .before)) (c .before .pull .ensures) _ refl)
 
--- src/chapters.rt:129:5
 expect-requires-3 : tie.Need-expect-requires-3
 unfolding tick
 expect-requires-3 c κs = eq-eqb _ 5 (reads (reached2 (c .before .before .before .before .before)) 5 refl)
 
--- src/chapters.rt:116:1
 returns : tie.Need-returns
 returns c = reached2 (c .before .before .before .before .before .before)
 
