@@ -1,5 +1,5 @@
 -- The story: what is called, chapter by chapter, and what it means to have come that far. Assumes nothing.
-use Prim.Native.Nat.{ℕ, _+_, _^_}
+use Prim.Native.Nat.{_+_, _^_}
 use mathlib.Core.Option.{some}
 use mathlib.Core.List.{List, [], _∷_, _++_}
 use Rattle.rules.specs.Geometry.{wheel01}

@@ -1,9 +1,9 @@
 -- What the tests of answers find: an answer of the variant that is looked for, or of another. Assumes nothing.
 use Prim.Native.Nat.{ℕ}
 use native.Mathlib.Omega.{arith}
-use borrow.Author.Tests.{eq-eqb, ne-eqb, eqb-true}
+use borrow.Author.Tests.{eq-eqb, eqb-true}
 use lib.Dec.{eqb}
-use mathlib.Core.Path.{_≡_, refl, sym, ap, _∙_}
+use mathlib.Core.Path.{_≡_, refl, ap, _∙_}
 use mathlib.Core.Bool.{Bool, true, false, false≢true}
 use Rattle.rules.specs.Wheel.{Answer, refused, ok, handle, end, expired, rescheduled, number}
 use Rattle.records.specs.declared.Clock.{Clock}

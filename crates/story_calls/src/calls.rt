@@ -1,5 +1,4 @@
 // The wheel's public calls on held records, each with the wheel's own promise. Assumes nothing.
-ghost use mathlib.Core.Bool.{true};
 ghost use mathlib.Core.Option.{some};
 ghost use Rattle.rules.specs.Wheel.{setEntry, schedule, deschedule, start, pull, abandon, armedCount};
 ghost use Rattle.wheel.specs.Answers.{timedSays, notedSays, scheduledSays, pulledSays, countedSays};
