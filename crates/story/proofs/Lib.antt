@@ -1,0 +1,2 @@
+-- What the proofs of the story share. Assumes nothing.
+pub mod Telling

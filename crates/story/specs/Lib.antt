@@ -1,0 +1,2 @@
+-- What the contracts of the story cite. Assumes nothing.
+pub mod Story

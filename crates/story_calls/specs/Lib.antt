@@ -1,0 +1,3 @@
+-- What the contracts of the calls on held records cite. Assumes nothing.
+pub mod Held
+pub mod Tests
