@@ -4,12 +4,12 @@ use mathlib.Core.Path.{_≡_, sym, ap, subst}
 use Rattle.rules.specs.Wheel.{Call, Answer}
 use Rattle.records.specs.declared.Clock.{Clock}
 use Rattle.records.specs.Records.{Nodes, Entries, Records, records}
-use Rattle.wheel.specs.declared.Timed.{Timed}
-use Rattle.wheel.specs.declared.Timed.the-variants.{Done}
-use Rattle.wheel.specs.declared.Scheduled.{Scheduled}
-use Rattle.wheel.specs.declared.Scheduled.the-variants.{Armed}
-use Rattle.wheel.specs.declared.Pulled.{Pulled}
-use Rattle.wheel.specs.declared.Pulled.the-variants.{Expired, Moved, End}
+use Rattle.wheel_plain.specs.declared.Timed.{Timed}
+use Rattle.wheel_plain.specs.declared.Timed.the-variants.{Done}
+use Rattle.wheel_plain.specs.declared.Scheduled.{Scheduled}
+use Rattle.wheel_plain.specs.declared.Scheduled.the-variants.{Armed}
+use Rattle.wheel_plain.specs.declared.Pulled.{Pulled}
+use Rattle.wheel_plain.specs.declared.Pulled.the-variants.{Expired, Moved, End}
 use Rattle.wheel.specs.Answers.{timedClock, scheduledClock, pulledClock}
 use Rattle.wheel.specs.Calls.{Meets}
 
