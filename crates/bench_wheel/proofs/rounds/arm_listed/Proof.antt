@@ -1,0 +1,116 @@
+-- `arm_listed` leaves a sound wheel. From turn to turn the records show a sound wheel and keep their lengths; the measure is how many are left. Assumes nothing.
+use borrow.Author.Needs.{needs}
+use native.Mathlib.Omega.{arith}
+use mathlib.Core.Path.{_≡_, refl, _∙_}
+use lib.ListN.{length}
+use Rattle.bench_wheel.specs.Kept.{lent}
+use Rattle.bench_wheel.proofs.Keeping.{Going, begins, goes, kept}
+use Prim.Native.Nat.{_-_}
+use Rattle.bench_wheel.proofs.rounds.arm_listed.Statement.{statement}
+use Rattle.bench_wheel.proofs.rounds.arm_listed.Tie as tie
+
+abbrev Inv-loop : tie.InvT-loop
+Inv-loop heads₀ tails₀ next₀ prev₀ bucket₀ entry₀ generation₀ serial₀ dated₀ deadline₀ stamp₀ slots₀ list count workload first digest c₀ x₀ h₀ i₀ heads tails next prev bucket entry generation serial dated deadline stamp slots c x h i =
+    Going (lent heads₀ tails₀ next₀ prev₀ bucket₀ entry₀ generation₀ serial₀ dated₀ deadline₀ stamp₀ c₀) (lent heads tails next prev bucket entry generation serial dated deadline stamp c) × (length slots ≡ length slots₀)
+
+abbrev μ-loop : tie.MeasureT-loop
+μ-loop heads₀ tails₀ next₀ prev₀ bucket₀ entry₀ generation₀ serial₀ dated₀ deadline₀ stamp₀ slots₀ list count workload first digest c₀ x₀ h₀ i₀ heads tails next prev bucket entry generation serial dated deadline stamp slots c x h i = count - i
+
+loop-holds : tie.Need-loop-holds Inv-loop μ-loop
+loop-holds c = (begins _ (c .before .before .before .before .before .before .before .before .before .before .before .before .before .pre), refl)
+
+listed-requires : tie.Need-listed-requires Inv-loop μ-loop
+listed-requires c κs = search needs
+
+add-i : tie.Need-add-i Inv-loop μ-loop
+add-i c = search needs
+
+following-requires : tie.Need-following-requires Inv-loop μ-loop
+following-requires c κs = search needs
+
+digest-step-requires : tie.Need-digest-step-requires Inv-loop μ-loop
+digest-step-requires c κs = search needs
+
+delay-requires : tie.Need-delay-requires Inv-loop μ-loop
+delay-requires c κs = search needs
+
+wrapping-add-u64-requires : tie.Need-wrapping-add-u64-requires Inv-loop μ-loop
+wrapping-add-u64-requires c κs = search needs
+
+arm-entry-requires : tie.Need-arm-entry-requires Inv-loop μ-loop
+arm-entry-requires c κs = c .before .before .before .before .before .before .before .before .before .before .before .before .before .before .before .before .before .before .loop .inv .0 .works
+
+loop-less : tie.Need-loop-less Inv-loop μ-loop
+loop-less c = omega (arith, c .before .before .before .before .before .before .before .before .before .before .before .before .before .before .before .before .before .before .before .before .before .before .before .before .before .before .before .before .before .before .before .before .before .before .before .before .before .before .before .before .before .before .loop-test .taken)
+
+loop-again : tie.Need-loop-again Inv-loop μ-loop
+loop-again c = (goes _ _ _ (c .before .before .before .before .before .before .before .before .before .before .before .before .before .before .before .before .before .before .before .before .before .before .before .before .before .before .before .before .before .before .before .before .before .before .before .before .before .before .before .before .before .before .before .loop .inv .0) (c .before .before .before .before .before .before .before .before .before .before .before .before .before .before .before .before .before .before .before .before .before .before .before .before .arm-entry .ensures), c .before .before .before .before .before .before .before .before .before .before .before .before .before .before .before .before .before .before .before .before .before .before .before .before .arm-entry .kept .1 .1 .1 .1 .1 .1 .1 .1 .1 .1 .1 .0 ∙ c .before .before .before .before .before .before .before .before .before .before .before .before .before .before .before .before .before .before .before .before .before .before .before .before .before .before .before .before .before .before .before .before .before .before .before .before .before .before .before .before .before .before .before .loop .inv .1)
+
+same-length : tie.Need-same-length Inv-loop μ-loop
+same-length c = c .before .loop .inv .0 .heads
+
+same-length-2 : tie.Need-same-length-2 Inv-loop μ-loop
+same-length-2 c = c .before .loop .inv .0 .tails
+
+same-length-3 : tie.Need-same-length-3 Inv-loop μ-loop
+same-length-3 c = c .before .loop .inv .0 .next
+
+same-length-4 : tie.Need-same-length-4 Inv-loop μ-loop
+same-length-4 c = c .before .loop .inv .0 .prev
+
+same-length-5 : tie.Need-same-length-5 Inv-loop μ-loop
+same-length-5 c = c .before .loop .inv .0 .bucket
+
+same-length-6 : tie.Need-same-length-6 Inv-loop μ-loop
+same-length-6 c = c .before .loop .inv .0 .entry
+
+same-length-7 : tie.Need-same-length-7 Inv-loop μ-loop
+same-length-7 c = c .before .loop .inv .0 .generation
+
+same-length-8 : tie.Need-same-length-8 Inv-loop μ-loop
+same-length-8 c = c .before .loop .inv .0 .serial
+
+same-length-9 : tie.Need-same-length-9 Inv-loop μ-loop
+same-length-9 c = c .before .loop .inv .0 .dated
+
+same-length-10 : tie.Need-same-length-10 Inv-loop μ-loop
+same-length-10 c = c .before .loop .inv .0 .deadline
+
+same-length-11 : tie.Need-same-length-11 Inv-loop μ-loop
+same-length-11 c = c .before .loop .inv .0 .stamp
+
+same-length-12 : tie.Need-same-length-12 Inv-loop μ-loop
+same-length-12 c = c .before .loop .inv .1
+
+returns : tie.Need-returns Inv-loop μ-loop
+returns c = kept _ _ (c .before .loop .inv .0)
+
+pub arm-listed-spec : {M : Type 1} → statement M
+arm-listed-spec =
+    tie.close
+    (tie.spec
+    Inv-loop
+    μ-loop
+    loop-holds
+    listed-requires
+    add-i
+    following-requires
+    digest-step-requires
+    delay-requires
+    wrapping-add-u64-requires
+    arm-entry-requires
+    loop-less
+    loop-again
+    same-length
+    same-length-2
+    same-length-3
+    same-length-4
+    same-length-5
+    same-length-6
+    same-length-7
+    same-length-8
+    same-length-9
+    same-length-10
+    same-length-11
+    same-length-12
+    returns)

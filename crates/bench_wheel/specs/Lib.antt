@@ -1,0 +1,2 @@
+-- What the contracts of `bench_wheel` cite. Assumes nothing.
+pub mod Kept
