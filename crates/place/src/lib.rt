@@ -1,5 +1,5 @@
 // Where a deadline is placed at a reading: the bucket's number, for the wheel, and level x 64 + index, for the host. No `requires`.
-// Each level is tried with its number written out, so that the compiler reads the lists of levels.rt and no list is built when the code runs.
+// Each level is tried with its number written out, so that the compiler works out the numbers of levels.rt.
 ghost use mathlib.Core.Path.{_≡_};
 ghost use Prim.Native.Nat.{_-_};
 ghost use Rattle.place.specs.Levels.{indexAt, placeAt};
