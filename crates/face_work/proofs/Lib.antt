@@ -1,2 +1,5 @@
 -- Laws that several proofs cite. Assumes nothing.
 pub mod Fields
+pub mod Turning
+pub mod Loading
+pub mod Facing
