@@ -2,4 +2,5 @@
 pub mod Fields
 pub mod Turning
 pub mod Loading
+pub mod Crowding
 pub mod Facing

@@ -1,12 +1,12 @@
 -- From columns to the nodes that were read into the table: what holds of the columns' records holds of the nodes'. Assumes nothing.
-use Prim.Native.Nat.{ℕ, _≤_, _<_}
+use Prim.Native.Nat.{ℕ, _+_, _≤_, _<_}
 use native.Mathlib.Omega.{arith}
 use mathlib.Core.Path.{_≡_, refl, sym, ap, subst, _∙_}
 use mathlib.Core.Bool.{Bool, true, false, cond}
-use mathlib.Core.List.{List, map}
+use mathlib.Core.List.{List, map, _++_}
 use lib.Dec.{leb}
-use lib.ListN.{length, take, length-map}
-use lib.Seq.{length-take-le}
+use lib.ListN.{length, take, drop, length-map, length-append, take-append-drop}
+use lib.Seq.{length-take-le, take-at}
 use borrow.Author.Tests.{le-leb, lt-leb}
 use Rattle.records.specs.declared.Clock.{Clock}
 use Rattle.records.specs.Records.{Records}
@@ -22,6 +22,35 @@ module _ (n : ℕ) (table : List Node) (whole : length table ≡ 4096) (fits : n
   pub front-length : (g : Node → ℕ) (xs : List ℕ) → xs ≡ map g (take n table) → n ≡ length xs
   front-length g xs e =
       sym (length-take-le n table (omega (arith, whole))) ∙ sym (length-map (take n table) g) ∙ ap length (sym e)
+
+-- a column of which the first n numbers were lent, ys, and came back as xs
+module _ (n : ℕ) (fits : n ≤ 4096) (xs ys : List ℕ) (same : length xs ≡ length (take n ys)) (room : length ys ≡ 4168) where
+  lent-length : length xs ≡ n
+  lent-length = same ∙ length-take-le n ys (omega (arith, room))
+
+  pub back-length : 4168 ≡ length (xs ++ drop n ys)
+  back-length =
+      sym room ∙ ap length (sym (take-append-drop n ys)) ∙ length-append (take n ys) (drop n ys) ∙ ap (λ (k : ℕ). k + length (drop n ys)) (sym same)
+      ∙ sym (length-append xs (drop n ys))
+
+  pub back-has : n ≤ length (xs ++ drop n ys)
+  back-has = omega (arith, back-length)
+
+  pub back-front : take n (xs ++ drop n ys) ≡ xs
+  back-front = take-at xs (drop n ys) n lent-length
+
+-- all six, with the nodes that they were gathered into
+pub back-columns : (ns : List Node) (a b c d e f a′ b′ c′ d′ e′ f′ : List ℕ) → a ≡ a′ → b ≡ b′ → c ≡ c′ → d ≡ d′ → e ≡ e′ → f ≡ f′ → Columns ns a b c d e f
+    → Columns ns a′ b′ c′ d′ e′ f′
+back-columns ns a b c d e f a′ b′ c′ d′ e′ f′ i j k l m n u =
+    record {
+      next-is = sym i ∙ u .next-is;
+      prev-is = sym j ∙ u .prev-is;
+      bucket-is = sym k ∙ u .bucket-is;
+      entry-is = sym l ∙ u .entry-is;
+      generation-is = sym m ∙ u .generation-is;
+      serial-is = sym n ∙ u .serial-is;
+    }
 
 -- ---- the records of columns are those of their nodes
 same : (h t : List ℕ) (ns : List Node) (nx pv bk en gn sr : List ℕ) (d : List Bool) (l m : List ℕ) (c : Clock) → Columns ns nx pv bk en gn sr

@@ -4,6 +4,7 @@ pub mod columns; // a table of nodes, field by field; unchecked
 pub mod answers; // what the calls over columns answer, without the clock
 pub mod refusals; // the number where more nodes are lent than a wheel may have
 pub mod advancing; // start, pull, abandon
+pub mod timers; // schedule, reschedule, deschedule
 
 use nodes::Node;
 use records::Clock;

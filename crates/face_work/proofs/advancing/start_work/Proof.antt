@@ -15,7 +15,7 @@ crowded-requires : tie.Need-crowded-requires
 crowded-requires c κs = search needs
 
 returns : tie.Need-returns
-returns c = start-crowded _ _ _ _ _ _ _ _ _ _ (c .before .if1 .taken) (c .crowded .ensures)
+returns c = start-crowded (c .before .if1 .taken) (c .crowded .ensures)
 
 slice-aggregate-split : tie.Need-slice-aggregate-split
 slice-aggregate-split c = search needs
@@ -101,7 +101,7 @@ timed-requires c κs = search needs
 returns-2 : tie.Need-returns-2
 returns-2 c =
     let x = c .before .before .before .before .before .before .before .before .before .before .before .before .before .before in
-    start-done _ _ _ _ _ _ _ _ _ _ _ _ _ _ _ _ _ (x .before .before .before .before .before .before .before .if1 .left) (x .split .ensures) (c .before .start .ensures) (c .timed .ensures)
+    start-done (x .before .before .before .before .before .before .before .if1 .left) (x .split .ensures) (c .before .start .ensures) (c .timed .ensures)
 
 pub start-work-spec : {M : Type 1} → statement M
 start-work-spec =
