@@ -1,11 +1,11 @@
 // The work of enable. No `requires`.
 ghost use Rattle.face_work.specs.Works.{EnableFor};
-use crate::NotedMade;
-use crate::answers;
-use crate::columns::ROOM;
-use crate::columns::gather;
-use crate::columns::split;
-use crate::refusals::crowded_enable;
+use face_work::NotedMade;
+use face_work::answers;
+use face_work::columns::ROOM;
+use face_work::columns::gather;
+use face_work::columns::split;
+use face_work::refusals::crowded_enable;
 use nodes::Node;
 use records::Clock;
 use wheel::Noted;

@@ -1,15 +1,15 @@
 // The work of schedule, reschedule and deschedule. No `requires`.
 ghost use Rattle.face_work.specs.Works.{ScheduleFor, RescheduleFor, DescheduleFor};
-use crate::NotedMade;
-use crate::Rescheduled;
-use crate::RescheduledMade;
-use crate::Scheduled;
-use crate::ScheduledMade;
-use crate::answers;
-use crate::columns::ROOM;
-use crate::columns::gather;
-use crate::columns::split;
-use crate::refusals::crowded;
+use face_work::NotedMade;
+use face_work::Rescheduled;
+use face_work::RescheduledMade;
+use face_work::Scheduled;
+use face_work::ScheduledMade;
+use face_work::answers;
+use face_work::columns::ROOM;
+use face_work::columns::gather;
+use face_work::columns::split;
+use face_work::refusals::crowded;
 use nodes::Node;
 use records::Clock;
 use wheel::Noted;

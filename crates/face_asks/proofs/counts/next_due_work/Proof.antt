@@ -1,9 +1,9 @@
 -- `next_due_work` meets its promise. Assumes nothing.
 use Rattle.face_work.proofs.Loading.{front-length}
 use Rattle.face_work.proofs.Facing.{due-crowded, due-done}
 use borrow.Author.Needs.{needs}
-use Rattle.face_work.proofs.counts.next_due_work.Statement.{statement}
-use Rattle.face_work.proofs.counts.next_due_work.Tie as tie
+use Rattle.face_asks.proofs.counts.next_due_work.Statement.{statement}
+use Rattle.face_asks.proofs.counts.next_due_work.Tie as tie
 
 crowded-requires : tie.Need-crowded-requires
 crowded-requires c κs = search needs

@@ -1,9 +1,9 @@
 -- `reschedule_work` meets its promise. Assumes nothing.
 use Rattle.face_work.proofs.Loading.{front-length, back-length, back-has, back-front, back-columns}
 use Rattle.face_work.proofs.Facing.{reschedule-crowded, reschedule-done}
 use borrow.Author.Needs.{needs}
-use Rattle.face_work.proofs.timers.reschedule_work.Statement.{statement}
-use Rattle.face_work.proofs.timers.reschedule_work.Tie as tie
+use Rattle.face_timers.proofs.timers.reschedule_work.Statement.{statement}
+use Rattle.face_timers.proofs.timers.reschedule_work.Tie as tie
 
 crowded-requires : tie.Need-crowded-requires
 crowded-requires c κs = search needs

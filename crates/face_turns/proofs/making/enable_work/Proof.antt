@@ -1,9 +1,9 @@
 -- `enable_work` meets its promise. Assumes nothing.
 use Rattle.face_work.proofs.Loading.{front-length, back-length, back-has, back-front, back-columns}
 use Rattle.face_work.proofs.Facing.{enable-crowded, enable-done}
 use borrow.Author.Needs.{needs}
-use Rattle.face_work.proofs.making.enable_work.Statement.{statement}
-use Rattle.face_work.proofs.making.enable_work.Tie as tie
+use Rattle.face_turns.proofs.making.enable_work.Statement.{statement}
+use Rattle.face_turns.proofs.making.enable_work.Tie as tie
 
 crowded-enable-requires : tie.Need-crowded-enable-requires
 crowded-enable-requires c κs = search needs

@@ -1,8 +1,8 @@
 // The work of set entry. No `requires`.
 ghost use Rattle.face_work.specs.Works.{SetEntryFor};
-use crate::columns::ROOM;
-use crate::columns::split;
-use crate::refusals::crowded;
+use face_work::columns::ROOM;
+use face_work::columns::split;
+use face_work::refusals::crowded;
 use nodes::Node;
 use records::Clock;
 use wheel::Noted;

@@ -1,15 +1,15 @@
--- `armed_count_work` meets its promise. Assumes nothing.
+-- `set_entry_work` meets its promise. Assumes nothing.
 use Rattle.face_work.proofs.Loading.{front-length}
-use Rattle.face_work.proofs.Facing.{count-crowded, count-done}
+use Rattle.face_work.proofs.Facing.{set-crowded, set-done}
 use borrow.Author.Needs.{needs}
-use Rattle.face_work.proofs.counts.armed_count_work.Statement.{statement}
-use Rattle.face_work.proofs.counts.armed_count_work.Tie as tie
+use Rattle.face_asks.proofs.settings.set_entry_work.Statement.{statement}
+use Rattle.face_asks.proofs.settings.set_entry_work.Tie as tie
 
 crowded-requires : tie.Need-crowded-requires
 crowded-requires c κs = search needs
 
 returns : tie.Need-returns
-returns c = count-crowded (c .before .if1 .taken) (c .crowded .ensures)
+returns c = set-crowded (c .before .if1 .taken) (c .crowded .ensures)
 
 slice-aggregate-split : tie.Need-slice-aggregate-split
 slice-aggregate-split c = search needs
@@ -35,8 +35,8 @@ split-requires c κs = search needs
 array-share-prefix-next : tie.Need-array-share-prefix-next
 array-share-prefix-next c = search needs
 
-slice-aggregate-armed-count : tie.Need-slice-aggregate-armed-count
-slice-aggregate-armed-count c =
+slice-aggregate-set-entry : tie.Need-slice-aggregate-set-entry
+slice-aggregate-set-entry c =
     let x = c .before .before .before .before .before .before .before in
     let z = x .before .before .before .before .before .before .before .before .before .before .before .before .before in
     front-length (z .args .n) (z .args .table) (z .good .0 .1 .0 .1) (x .before .before .before .before .before .before .before .if1 .left) _ _ (x .split .ensures .next-is)
@@ -44,8 +44,8 @@ slice-aggregate-armed-count c =
 array-share-prefix-prev : tie.Need-array-share-prefix-prev
 array-share-prefix-prev c = search needs
 
-slice-aggregate-armed-count-2 : tie.Need-slice-aggregate-armed-count-2
-slice-aggregate-armed-count-2 c =
+slice-aggregate-set-entry-2 : tie.Need-slice-aggregate-set-entry-2
+slice-aggregate-set-entry-2 c =
     let x = c .before .before .before .before .before .before .before .before in
     let z = x .before .before .before .before .before .before .before .before .before .before .before .before .before in
     front-length (z .args .n) (z .args .table) (z .good .0 .1 .0 .1) (x .before .before .before .before .before .before .before .if1 .left) _ _ (x .split .ensures .prev-is)
@@ -53,8 +53,8 @@ slice-aggregate-armed-count-2 c =
 array-share-prefix-bucket : tie.Need-array-share-prefix-bucket
 array-share-prefix-bucket c = search needs
 
-slice-aggregate-armed-count-3 : tie.Need-slice-aggregate-armed-count-3
-slice-aggregate-armed-count-3 c =
+slice-aggregate-set-entry-3 : tie.Need-slice-aggregate-set-entry-3
+slice-aggregate-set-entry-3 c =
     let x = c .before .before .before .before .before .before .before .before .before in
     let z = x .before .before .before .before .before .before .before .before .before .before .before .before .before in
     front-length (z .args .n) (z .args .table) (z .good .0 .1 .0 .1) (x .before .before .before .before .before .before .before .if1 .left) _ _ (x .split .ensures .bucket-is)
@@ -62,8 +62,8 @@ slice-aggregate-armed-count-3 c =
 array-share-prefix-entry : tie.Need-array-share-prefix-entry
 array-share-prefix-entry c = search needs
 
-slice-aggregate-armed-count-4 : tie.Need-slice-aggregate-armed-count-4
-slice-aggregate-armed-count-4 c =
+slice-aggregate-set-entry-4 : tie.Need-slice-aggregate-set-entry-4
+slice-aggregate-set-entry-4 c =
     let x = c .before .before .before .before .before .before .before .before .before .before in
     let z = x .before .before .before .before .before .before .before .before .before .before .before .before .before in
     front-length (z .args .n) (z .args .table) (z .good .0 .1 .0 .1) (x .before .before .before .before .before .before .before .if1 .left) _ _ (x .split .ensures .entry-is)
@@ -71,8 +71,8 @@ slice-aggregate-armed-count-4 c =
 array-share-prefix-generation : tie.Need-array-share-prefix-generation
 array-share-prefix-generation c = search needs
 
-slice-aggregate-armed-count-5 : tie.Need-slice-aggregate-armed-count-5
-slice-aggregate-armed-count-5 c =
+slice-aggregate-set-entry-5 : tie.Need-slice-aggregate-set-entry-5
+slice-aggregate-set-entry-5 c =
     let x = c .before .before .before .before .before .before .before .before .before .before .before in
     let z = x .before .before .before .before .before .before .before .before .before .before .before .before .before in
     front-length (z .args .n) (z .args .table) (z .good .0 .1 .0 .1) (x .before .before .before .before .before .before .before .if1 .left) _ _ (x .split .ensures .generation-is)
@@ -80,22 +80,31 @@ slice-aggregate-armed-count-5 c =
 array-share-prefix-serial : tie.Need-array-share-prefix-serial
 array-share-prefix-serial c = search needs
 
-slice-aggregate-armed-count-6 : tie.Need-slice-aggregate-armed-count-6
-slice-aggregate-armed-count-6 c =
+slice-aggregate-set-entry-6 : tie.Need-slice-aggregate-set-entry-6
+slice-aggregate-set-entry-6 c =
     let x = c .before .before .before .before .before .before .before .before .before .before .before .before in
     let z = x .before .before .before .before .before .before .before .before .before .before .before .before .before in
     front-length (z .args .n) (z .args .table) (z .good .0 .1 .0 .1) (x .before .before .before .before .before .before .before .if1 .left) _ _ (x .split .ensures .serial-is)
 
-armed-count-requires : tie.Need-armed-count-requires
-armed-count-requires c κs = search needs
+set-entry-requires : tie.Need-set-entry-requires
+set-entry-requires c κs = search needs
+
+same-length : tie.Need-same-length
+same-length c = search needs
+
+same-length-2 : tie.Need-same-length-2
+same-length-2 c = search needs
+
+same-length-3 : tie.Need-same-length-3
+same-length-3 c = search needs
 
 returns-2 : tie.Need-returns-2
 returns-2 c =
-    let x = c .before .before .before .before .before .before .before .before .before .before .before .before .before in
-    count-done (x .before .before .before .before .before .before .before .if1 .left) (x .split .ensures) (c .armed-count .ensures)
+    let x = c .before .before .before .before .before .before .before .before .before .before .before .before .before .before .before .before .before .before .before .before .before .before in
+    set-done (x .before .before .before .before .before .before .before .if1 .left) (x .split .ensures) (c .before .before .before .before .before .before .set-entry .ensures)
 
-pub armed-count-work-spec : {M : Type 1} → statement M
-armed-count-work-spec =
+pub set-entry-work-spec : {M : Type 1} → statement M
+set-entry-work-spec =
     tie.close
     (tie.spec
     crowded-requires
@@ -108,16 +117,19 @@ armed-count-work-spec =
     slice-aggregate-split-6
     split-requires
     array-share-prefix-next
-    slice-aggregate-armed-count
+    slice-aggregate-set-entry
     array-share-prefix-prev
-    slice-aggregate-armed-count-2
+    slice-aggregate-set-entry-2
     array-share-prefix-bucket
-    slice-aggregate-armed-count-3
+    slice-aggregate-set-entry-3
     array-share-prefix-entry
-    slice-aggregate-armed-count-4
+    slice-aggregate-set-entry-4
     array-share-prefix-generation
-    slice-aggregate-armed-count-5
+    slice-aggregate-set-entry-5
     array-share-prefix-serial
-    slice-aggregate-armed-count-6
-    armed-count-requires
+    slice-aggregate-set-entry-6
+    set-entry-requires
+    same-length
+    same-length-2
+    same-length-3
     returns-2)
