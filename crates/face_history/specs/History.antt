@@ -1,0 +1,74 @@
+-- Histories of the public calls: one after the other over what is lent, each meeting its promise. Assumes nothing.
+use Prim.Native.Nat.{ℕ}
+use mathlib.Core.Path.{_≡_}
+use mathlib.Core.Bool.{Bool, cond}
+use mathlib.Core.Option.{none, some}
+use mathlib.Core.List.{List, [], _∷_}
+use lib.ListN.{length}
+use Rattle.rules.specs.Geometry.{wheel01, buckets}
+use Rattle.rules.specs.Wheel.{Call, create, enable, setEntry, schedule, reschedule, deschedule, start, pull, abandon, armedCount, nextDue, Answer, ok}
+use Rattle.records.specs.declared.Clock.{Clock}
+use Rattle.records.specs.Records.{Records}
+use Rattle.wheel_sound.specs.Clauses.{EndsLengths, EntriesLengths}
+use Rattle.wheel.specs.declared.Noted.{Noted}
+use Rattle.wheel.specs.declared.Counted.{Counted}
+use Rattle.wheel.specs.declared.Due.{Due}
+use Rattle.wheel.specs.Answers.{notedSays, countedSays, dueSays}
+use Rattle.wheel.specs.Work.{createdClock, emptyEnds}
+use Rattle.nodes.specs.declared.Node.{Node}
+use Rattle.nodes.specs.Shown.{shown}
+use Rattle.face_work.specs.declared.Scheduled.{Scheduled}
+use Rattle.face_work.specs.declared.Rescheduled.{Rescheduled}
+use Rattle.face_work.specs.declared.Pulled.{Pulled}
+use Rattle.face_work.specs.Answers.{scheduledSays, rescheduledSays, pulledSays}
+use Rattle.face_work.specs.Faces.{FaceEnable, FaceSetEntry, FaceSchedule, FaceReschedule, FaceDeschedule, FaceStart, FacePull, FaceAbandon, FaceArmedCount, FaceNextDue}
+
+-- all that a host lends: heads and tails, the node records, the entries, the clock
+pub record Lent : Type 0 where
+  pub heads : List ℕ
+  pub tails : List ℕ
+  pub nodes : List Node
+  pub dated : List Bool
+  pub deadline : List ℕ
+  pub stamp : List ℕ
+  pub clock : Clock
+
+abbrev pub recordsOf : Lent → Records
+recordsOf L = shown (L .heads) (L .tails) (L .nodes) (L .dated) (L .deadline) (L .stamp) (L .clock)
+
+-- as many heads and tails as there are buckets, and k entries in slices of one length
+pub record Fitting (k : ℕ) (L : Lent) : Type 0 where
+  pub ends : EndsLengths (buckets wheel01) (length (L .heads)) (length (L .tails))
+  pub entries : EntriesLengths k (length (L .dated)) (length (L .deadline)) (length (L .stamp))
+
+-- create hands out clock, heads and tails; nodes and entries stay as found
+abbrev pub begun : Lent → ℕ → Lent
+begun L first = record {
+  heads = emptyEnds;
+  tails = emptyEnds;
+  nodes = L .nodes;
+  dated = L .dated;
+  deadline = L .deadline;
+  stamp = L .stamp;
+  clock = createdClock first;
+}
+
+-- a call on what is lent: some answer r of the call says a, and the call's promise holds of what was lent, of what is lent then and of r
+abbrev pub Done : Call → Lent → Lent → Answer → Type 0
+Done (create n) L M a = (a ≡ ok) × (M ≡ begun L n)
+Done (enable m k) L M a = (m ≡ length (L .nodes)) × Fitting k L × (r : Noted) × (a ≡ notedSays r) × FaceEnable (recordsOf L) (recordsOf M) r
+Done (setEntry e o h) L M a =
+    (t : Bool) × (d : ℕ) × (r : Noted) × (o ≡ cond t (some d) none) × (a ≡ notedSays r) × FaceSetEntry (recordsOf L) (recordsOf M) e t d h r
+Done (schedule e h) L M a = (r : Scheduled) × (a ≡ scheduledSays r) × FaceSchedule (recordsOf L) (recordsOf M) e h r
+Done (reschedule x n h) L M a = (r : Rescheduled) × (a ≡ rescheduledSays r) × FaceReschedule (recordsOf L) (recordsOf M) x n h r
+Done (deschedule x n h) L M a = (r : Noted) × (a ≡ notedSays r) × FaceDeschedule (recordsOf L) (recordsOf M) x n h r
+Done (start q) L M a = (r : Noted) × (a ≡ notedSays r) × FaceStart (recordsOf L) (recordsOf M) q r
+Done pull L M a = (r : Pulled) × (a ≡ pulledSays r) × FacePull (recordsOf L) (recordsOf M) r
+Done abandon L M a = (r : Noted) × (a ≡ notedSays r) × FaceAbandon (recordsOf L) (recordsOf M) r
+Done armedCount L M a = (M ≡ L) × (r : Counted) × (a ≡ countedSays r) × FaceArmedCount (recordsOf L) r
+Done nextDue L M a = (M ≡ L) × (r : Due) × (a ≡ dueSays r) × FaceNextDue (recordsOf L) r
+
+-- the calls, one after the other, lead from what was lent to what is lent then, with these answers: only they write
+pub data Leads : Lent → List Call → List Answer → Lent → Type 0 where
+  done : {L : Lent} → Leads L [] [] L
+  then : {L M N : Lent} {c : Call} {a : Answer} {cs : List Call} {answers : List Answer} → Done c L M a → Leads M cs answers N → Leads L (c ∷ cs) (a ∷ answers) N

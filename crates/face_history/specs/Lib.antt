@@ -1,0 +1,2 @@
+-- What the theorems on histories of the calls over lent nodes speak of. Assumes nothing.
+pub mod History
