@@ -2,12 +2,12 @@
 use Prim.Native.Nat.{ℕ}
 use native.Mathlib.Omega.{arith}
 use mathlib.Core.Path.{_≡_, refl}
-use Rattle.wheel.specs.declared.Noted.{Noted}
-use Rattle.wheel.specs.declared.Noted.the-variants.{Done, Refused as NotedRefused}
-use Rattle.wheel.specs.declared.Counted.{Counted}
-use Rattle.wheel.specs.declared.Counted.the-variants.{Armed as Count, Refused as CountedRefused}
-use Rattle.wheel.specs.declared.Due.{Due}
-use Rattle.wheel.specs.declared.Due.the-variants.{At, Never, Refused as DueRefused}
+use Rattle.wheel_plain.specs.declared.Noted.{Noted}
+use Rattle.wheel_plain.specs.declared.Noted.the-variants.{Done, Refused as NotedRefused}
+use Rattle.wheel_plain.specs.declared.Counted.{Counted}
+use Rattle.wheel_plain.specs.declared.Counted.the-variants.{Armed as Count, Refused as CountedRefused}
+use Rattle.wheel_plain.specs.declared.Due.{Due}
+use Rattle.wheel_plain.specs.declared.Due.the-variants.{At, Never, Refused as DueRefused}
 use Rattle.wheel.specs.Answers.{notedSays, countedSays, dueSays}
 use Rattle.face_work.specs.declared.Scheduled.{Scheduled}
 use Rattle.face_work.specs.declared.Scheduled.the-variants.{Armed, Refused as ScheduledRefused}

@@ -7,9 +7,9 @@ use mathlib.Core.List.{List, [], _∷_}
 use lib.ListN.{length}
 use Rattle.records.specs.declared.Clock.{Clock}
 use Rattle.records.specs.Records.{Records}
-use Rattle.wheel.specs.declared.Noted.{Noted}
-use Rattle.wheel.specs.declared.Counted.{Counted}
-use Rattle.wheel.specs.declared.Due.{Due}
+use Rattle.wheel_plain.specs.declared.Noted.{Noted}
+use Rattle.wheel_plain.specs.declared.Counted.{Counted}
+use Rattle.wheel_plain.specs.declared.Due.{Due}
 use Rattle.wheel_history.proofs.Coincide.{met, enable-single, set-single, schedule-single, handle-single, closed-single, open-single, count-single}
 use Rattle.nodes.specs.declared.Node.{Node}
 use Rattle.nodes.specs.Shown.{nexts, prevs, buckets, entryNumbers, generations, serials, shown}

@@ -10,9 +10,9 @@ use Rattle.rules.specs.Wheel.{Call, create, enable, setEntry, schedule, resched
 use Rattle.records.specs.declared.Clock.{Clock}
 use Rattle.records.specs.Records.{Records}
 use Rattle.wheel_sound.specs.Clauses.{EndsLengths, EntriesLengths}
-use Rattle.wheel.specs.declared.Noted.{Noted}
-use Rattle.wheel.specs.declared.Counted.{Counted}
-use Rattle.wheel.specs.declared.Due.{Due}
+use Rattle.wheel_plain.specs.declared.Noted.{Noted}
+use Rattle.wheel_plain.specs.declared.Counted.{Counted}
+use Rattle.wheel_plain.specs.declared.Due.{Due}
 use Rattle.wheel.specs.Answers.{notedSays, countedSays, dueSays}
 use Rattle.wheel.specs.Work.{createdClock, emptyEnds}
 use Rattle.nodes.specs.declared.Node.{Node}

@@ -8,16 +8,16 @@ use Rattle.rules.specs.Wheel.{Call, Answer}
 use Rattle.records.specs.declared.Clock.{Clock}
 use Rattle.records.specs.Records.{Records}
 use Rattle.wheel_refuse.specs.Lent.{lent}
-use Rattle.wheel.specs.declared.Timed.{Timed}
-use Rattle.wheel.specs.declared.Noted.{Noted}
-use Rattle.wheel.specs.declared.Noted.the-variants.{Refused as NotedRefused}
-use Rattle.wheel.specs.declared.Scheduled.{Scheduled}
-use Rattle.wheel.specs.declared.Rescheduled.{Rescheduled}
-use Rattle.wheel.specs.declared.Pulled.{Pulled}
-use Rattle.wheel.specs.declared.Counted.{Counted}
-use Rattle.wheel.specs.declared.Counted.the-variants.{Refused as CountedRefused}
-use Rattle.wheel.specs.declared.Due.{Due}
-use Rattle.wheel.specs.declared.Due.the-variants.{Refused as DueRefused}
+use Rattle.wheel_plain.specs.declared.Timed.{Timed}
+use Rattle.wheel_plain.specs.declared.Noted.{Noted}
+use Rattle.wheel_plain.specs.declared.Noted.the-variants.{Refused as NotedRefused}
+use Rattle.wheel_plain.specs.declared.Scheduled.{Scheduled}
+use Rattle.wheel_plain.specs.declared.Rescheduled.{Rescheduled}
+use Rattle.wheel_plain.specs.declared.Pulled.{Pulled}
+use Rattle.wheel_plain.specs.declared.Counted.{Counted}
+use Rattle.wheel_plain.specs.declared.Counted.the-variants.{Refused as CountedRefused}
+use Rattle.wheel_plain.specs.declared.Due.{Due}
+use Rattle.wheel_plain.specs.declared.Due.the-variants.{Refused as DueRefused}
 use Rattle.wheel.specs.Answers.{timedClock, scheduledClock, rescheduledClock, pulledClock}
 use Rattle.wheel.specs.Calls.{Meets, Enable, SetEntry, Schedule, Reschedule, Deschedule, Start, Pull, Abandon, ArmedCount, NextDue}
 use Rattle.nodes.specs.declared.Node.{Node}

@@ -2,15 +2,15 @@
 use Prim.Native.Nat.{ℕ}
 use mathlib.Core.Path.{_≡_, sym, ap}
 use Rattle.records.specs.declared.Clock.{Clock}
-use Rattle.wheel.specs.declared.Timed.{Timed}
-use Rattle.wheel.specs.declared.Timed.the-variants.{Done, Refused as TimedRefused}
-use Rattle.wheel.specs.declared.Noted.the-variants.{Done as Set, Refused as NotedRefused}
-use Rattle.wheel.specs.declared.Scheduled as schedule
-use Rattle.wheel.specs.declared.Scheduled.the-variants as scheduled
-use Rattle.wheel.specs.declared.Rescheduled as reschedule
-use Rattle.wheel.specs.declared.Rescheduled.the-variants as rescheduled
-use Rattle.wheel.specs.declared.Pulled as pull
-use Rattle.wheel.specs.declared.Pulled.the-variants as pulled
+use Rattle.wheel_plain.specs.declared.Timed.{Timed}
+use Rattle.wheel_plain.specs.declared.Timed.the-variants.{Done, Refused as TimedRefused}
+use Rattle.wheel_plain.specs.declared.Noted.the-variants.{Done as Set, Refused as NotedRefused}
+use Rattle.wheel_plain.specs.declared.Scheduled as schedule
+use Rattle.wheel_plain.specs.declared.Scheduled.the-variants as scheduled
+use Rattle.wheel_plain.specs.declared.Rescheduled as reschedule
+use Rattle.wheel_plain.specs.declared.Rescheduled.the-variants as rescheduled
+use Rattle.wheel_plain.specs.declared.Pulled as pull
+use Rattle.wheel_plain.specs.declared.Pulled.the-variants as pulled
 use Rattle.wheel.specs.Answers as there
 use Rattle.face_work.specs.declared.Scheduled.the-variants.{Armed, Refused as ScheduledRefused}
 use Rattle.face_work.specs.declared.Rescheduled.the-variants.{Moved, Removed, Refused as RescheduledRefused}

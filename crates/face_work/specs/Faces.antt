@@ -7,9 +7,9 @@ use lib.ListN.{length}
 use Rattle.rules.specs.Wheel.{enable, setEntry, schedule, reschedule, deschedule, start, pull, abandon, armedCount, nextDue, ok}
 use Rattle.records.specs.Records.{Records}
 use Rattle.wheel_refuse.specs.Refuse.{enableRows, setRows, scheduleRows, handleRows, closedRows, openRows, countRows}
-use Rattle.wheel.specs.declared.Noted.{Noted}
-use Rattle.wheel.specs.declared.Counted.{Counted}
-use Rattle.wheel.specs.declared.Due.{Due}
+use Rattle.wheel_plain.specs.declared.Noted.{Noted}
+use Rattle.wheel_plain.specs.declared.Counted.{Counted}
+use Rattle.wheel_plain.specs.declared.Due.{Due}
 use Rattle.wheel.specs.Answers.{notedSays, countedSays, dueSays}
 use Rattle.wheel.specs.Work.{laidOut, entrySet, scheduled, handleOf, descheduled, rescheduled, rescheduleSays, opened, pulled, pullSays, left, armedSays, nextSays}
 use Rattle.wheel.specs.Calls.{Meets}

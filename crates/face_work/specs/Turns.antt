@@ -2,10 +2,10 @@
 -- Assumes nothing.
 use mathlib.Core.Path.{_≡_}
 use Rattle.records.specs.declared.Clock.{Clock}
-use Rattle.wheel.specs.declared.Timed.{Timed}
-use Rattle.wheel.specs.declared.Scheduled.{Scheduled}
-use Rattle.wheel.specs.declared.Rescheduled.{Rescheduled}
-use Rattle.wheel.specs.declared.Pulled.{Pulled}
+use Rattle.wheel_plain.specs.declared.Timed.{Timed}
+use Rattle.wheel_plain.specs.declared.Scheduled.{Scheduled}
+use Rattle.wheel_plain.specs.declared.Rescheduled.{Rescheduled}
+use Rattle.wheel_plain.specs.declared.Pulled.{Pulled}
 use Rattle.wheel.specs.Answers as there
 use Rattle.face_work.specs.declared.NotedTurn.{NotedTurn}
 use Rattle.face_work.specs.declared.answers.ScheduledTurn.{ScheduledTurn}

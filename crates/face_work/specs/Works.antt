@@ -9,9 +9,9 @@ use Rattle.records.specs.declared.Clock.{Clock}
 use Rattle.nodes.specs.declared.Node.{Node}
 use Rattle.nodes.specs.Shown.{shown}
 use Rattle.nodes.specs.Table.{Loads, kept}
-use Rattle.wheel.specs.declared.Noted.{Noted}
-use Rattle.wheel.specs.declared.Counted.{Counted}
-use Rattle.wheel.specs.declared.Due.{Due}
+use Rattle.wheel_plain.specs.declared.Noted.{Noted}
+use Rattle.wheel_plain.specs.declared.Counted.{Counted}
+use Rattle.wheel_plain.specs.declared.Due.{Due}
 use Rattle.face_work.specs.declared.NotedMade.{NotedMade}
 use Rattle.face_work.specs.declared.ScheduledMade.{ScheduledMade}
 use Rattle.face_work.specs.declared.RescheduledMade.{RescheduledMade}
