@@ -12,6 +12,7 @@ use face_work::advancing::start_work;
 use nodes::Node;
 use records::Clock;
 
+// Pull: 4 expired (entry, serial, deadline), 5 moved (entry, serial, place), 3 End. Refuses (1, 4, 6).
 pub fn pull_told(
     table: [Node; 4096],
     n: usize,
@@ -45,6 +46,7 @@ pub fn pull_told(
     }
 }
 
+// Start: 0. Refuses (1, 4, 5).
 pub fn start_told(
     table: [Node; 4096],
     n: usize,
@@ -76,6 +78,7 @@ pub fn start_told(
     }
 }
 
+// Abandon: 0. Refuses (1, 4, 6).
 pub fn abandon_told(
     table: [Node; 4096],
     n: usize,

@@ -9,6 +9,7 @@ use face_asks::counts::next_due_work;
 use nodes::Node;
 use records::Clock;
 
+// Armed count: 6, the count. Refuses (1, 4).
 pub fn armed_count_told(
     table: [Node; 4096],
     n: usize,
@@ -30,6 +31,7 @@ pub fn armed_count_told(
     write(words, answer)
 }
 
+// Next due: 7, the deadline; 8 none. Refuses (1, 4, 5).
 pub fn next_due_told(
     table: [Node; 4096],
     n: usize,

@@ -8,6 +8,7 @@ use face_turns::making::enable_work;
 use nodes::Node;
 use records::Clock;
 
+// Enable: 0. Refuses (2, 3).
 pub fn enable_told(
     table: [Node; 4096],
     n: usize,

@@ -7,6 +7,7 @@ use face_asks::settings::set_entry_work;
 use nodes::Node;
 use records::Clock;
 
+// Set entry: 0. Refuses (1, 4, 5, 7).
 pub fn set_entry_told(
     table: [Node; 4096],
     n: usize,

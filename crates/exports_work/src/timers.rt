@@ -12,6 +12,7 @@ use face_timers::timers::schedule_work;
 use nodes::Node;
 use records::Clock;
 
+// Schedule: 1, the slot and the serial. Refuses (1, 4, 5, 7 to 11).
 pub fn schedule_told(
     table: [Node; 4096],
     n: usize,
@@ -47,6 +48,7 @@ pub fn schedule_told(
     }
 }
 
+// Reschedule: 0 moved, 2 removed. Refuses (1, 4, 5, 12, 13).
 pub fn reschedule_told(
     table: [Node; 4096],
     n: usize,
@@ -95,6 +97,7 @@ pub fn reschedule_told(
     }
 }
 
+// Deschedule: 0. Refuses (1, 4, 5, 12, 13).
 pub fn deschedule_told(
     table: [Node; 4096],
     n: usize,
