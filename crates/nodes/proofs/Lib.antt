@@ -1,0 +1,5 @@
+-- What the proofs of this crate share. Assumes nothing.
+pub mod Counts
+pub mod Fills
+pub mod Arrays
+pub mod Using
