@@ -3,3 +3,4 @@ pub mod Counts
 pub mod Fills
 pub mod Arrays
 pub mod Using
+pub mod Passing

@@ -3,6 +3,7 @@ ghost use mathlib.Core.Path.{_≡_};
 ghost use Rattle.nodes.specs.Table.{blanksOf, usedOf, Loads, kept};
 
 // One slot: its links, its bucket (or none), and the timer armed there: entry, generation and serial.
+#[repr(C)]
 pub struct Node {
     pub next: usize,
     pub prev: usize,
