@@ -1,0 +1,6 @@
+-- Laws that several proofs cite. Assumes nothing.
+pub mod Fields
+pub mod Turning
+pub mod Loading
+pub mod Crowding
+pub mod Facing

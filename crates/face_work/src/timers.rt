@@ -1,0 +1,77 @@
+// The work of schedule, reschedule and deschedule. No `requires`.
+ghost use Rattle.face_work.specs.Works.{ScheduleFor};
+use crate::Scheduled;
+use crate::ScheduledMade;
+use crate::answers;
+use crate::columns::ROOM;
+use crate::columns::gather;
+use crate::columns::split;
+use crate::refusals::crowded;
+use nodes::Node;
+use records::Clock;
+
+// Schedule: a new node for the entry e, whose generation is h. Refuses (1, 4, 5, 7 to 11).
+pub fn schedule_work(
+    table: [Node; 4096],
+    n: usize,
+    clock: Clock,
+    heads: &mut [usize],
+    tails: &mut [usize],
+    dated: &[bool],
+    deadline: &[u64],
+    stamp: &[u32],
+    e: usize,
+    h: u32,
+) -> ScheduledMade
+    ensures { λ r. ⌜ ScheduleFor table n clock (now (heads .entry)) (now (tails .entry)) (now (heads .exit)) (now (tails .exit)) (now (dated .entry)) (now (deadline .entry)) (now (stamp .entry)) e h r ⌝ }
+{
+    if 4096 < n {
+        let no = crowded(clock);
+        return ScheduledMade {
+            table,
+            clock,
+            answer: Scheduled::Refused(no),
+        };
+    }
+    let mut next = [0usize; ROOM];
+    let mut prev = [0usize; ROOM];
+    let mut bucket = [0usize; ROOM];
+    let mut entry = [0usize; ROOM];
+    let mut generation = [0u32; ROOM];
+    let mut serial = [0u64; ROOM];
+    split(
+        table,
+        n,
+        &mut next,
+        &mut prev,
+        &mut bucket,
+        &mut entry,
+        &mut generation,
+        &mut serial,
+    );
+    let told = wheel::schedule(
+        heads,
+        tails,
+        &mut next[..n],
+        &mut prev[..n],
+        &mut bucket[..n],
+        &mut entry[..n],
+        &mut generation[..n],
+        &mut serial[..n],
+        dated,
+        deadline,
+        stamp,
+        clock,
+        e,
+        h,
+    );
+    let turn = answers::scheduled(clock, told);
+    let after = turn.clock;
+    let answer = turn.answer;
+    let nodes = gather(n, &next, &prev, &bucket, &entry, &generation, &serial);
+    ScheduledMade {
+        table: nodes,
+        clock: after,
+        answer,
+    }
+}
