@@ -79,20 +79,14 @@ class Function:
                     yield module, name
 
 
-def home(crate, name):
-    """The module path, in its crate, of a declared type."""
+def declared(fn, name):
+    """The crate and the module path of a type that fn's file uses or declares."""
+    used = re.search(r'use (\w+)(?:::\w+)*::%s;' % name, fn.text)
+    crate = fn.crate if not used or used.group(1) == 'crate' else used.group(1)
     for path, text in sources(crate):
         if re.search(r'pub (struct|enum) %s\b' % name, text):
             return crate, '.'.join(path + [name])
-    return None
-
-
-def declared(name, crates):
-    for crate in crates:
-        found = home(crate, name)
-        if found:
-            return found
-    sys.exit('thin.py: no type %s in %s' % (name, ' '.join(crates)))
+    sys.exit('thin.py: no type %s in crate %s' % (name, crate))
 
 
 # ---- the walk's context, by name: each step moves the entries as the rule of the logic does
@@ -146,10 +140,8 @@ def thin(crate, name):
     mut_nodes, mut_clock = kinds['nodes'] == '&mut [Node]', kinds['clock'] == '&mut Clock'
     made = mut_nodes or mut_clock
     tail = fn.params[2:]
-    if [p for p, _ in fn.params[:2]] != ['nodes', 'clock'] or [p for p, _ in work.params[3:]] != [p for p, _ in tail]:
+    if [p for p, _ in fn.params[:2]] != ['nodes', 'clock'] or [t for _, t in work.params[3:]] != [t for _, t in tail]:
         sys.exit('thin.py: the parameters of %s and its work differ' % name)
-    crates = [crate, work.crate, 'records', 'nodes']
-    local_of = lambda c: 'Rattle·%s·%%s.%%s' % c if c == crate else 'Rattle.%s.%%s' % c
     specs_of = lambda c: 'Rattle.%s.specs' % c if c == crate else 'Rattle.%s.specs' % c
     proofs_of = lambda c: 'Rattle.%s.proofs' % c if c == crate else 'Rattle.%s.proofs' % c
 
@@ -212,17 +204,18 @@ def thin(crate, name):
         """the clause at the walk's own names, in one pass"""
         def named(m):
             if m.group(3):
-                return entry[m.group(3)] if m.group(3) in numbers else m.group(3)
+                return entry.get(m.group(3), m.group(3))
             return (exit if m.group(2) == 'exit' else entry)[m.group(1)]
         return re.sub(r'\(now \((\w+) \.(entry|exit)\)\)|(?<![\w.′])([A-Za-z_]\w*)(?![\w′])', named, clause.strip())
 
-    numbers = {t['name'] for t in T if not t['slice']} | {'table', 'n', 'clock', 'r'}
     entry = {t['name']: '(%s .now)' % t['var'] if t['slice'] else t['var'] for t in T}
-    FOR = stated(work.clause, dict(entry, table='tb', n='n', clock='h', r='u'), last)
+    theirs = {p: t['name'] for (p, _), t in zip(work.params[3:], T)}
+    table, count, clock = [p for p, _ in work.params[:3]]
+    work_entry = dict({p: entry[mine] for p, mine in theirs.items()}, **{table: 'tb', count: 'n', clock: 'h', 'r': 'u'})
+    FOR = stated(work.clause, work_entry, {p: last[mine] for p, mine in theirs.items() if mine in last})
     face_entry = dict(entry, nodes='ys', clock='h', r='(u .answer)' if made else 'u')
     FACE = lambda nodes: stated(fn.clause, face_entry, dict(last, nodes=nodes, clock='(u .clock)'))
 
-    ans_kind = home(fn.answer, crates) if False else None
     number_answer = fn.answer in WIDTH
     fields = (['table'] if mut_nodes else []) + (['clock'] if mut_clock else []) + ['answer']
     owed = lambda f: ' .1' * fields.index(f) + ' .0'
@@ -398,11 +391,11 @@ def thin(crate, name):
     key = name.replace('_', '-')
     passes = 'λ κs y f vs fits. W .laws .⇛-intro _'
     subs = dict(locals())
-    subs['imports'] = imports(fn, work, crates, crate, specs_of, proofs_of, made, number_answer, mut_nodes, mut_clock)
+    subs['imports'] = imports(fn, work, crate, specs_of, proofs_of, made, number_answer, mut_nodes, mut_clock)
     return subs
 
 
-def imports(fn, work, crates, crate, specs_of, proofs_of, made, number_answer, mut_nodes, mut_clock):
+def imports(fn, work, crate, specs_of, proofs_of, made, number_answer, mut_nodes, mut_clock):
     cited = {}
     for module, name in list(work.ghosts()) + list(fn.ghosts()):
         cited.setdefault(module, [])
@@ -415,9 +408,9 @@ def imports(fn, work, crates, crate, specs_of, proofs_of, made, number_answer, m
     lines = []
     named = [('Node', 'nodes', 'Node', 'T'), ('Clock', 'records', 'Clock', 'K')]
     if not number_answer:
-        named.append((fn.answer,) + declared(fn.answer, crates) + ('E',))
+        named.append((fn.answer,) + declared(fn, fn.answer) + ('E',))
     if made:
-        named.append((work.answer,) + declared(work.answer, crates) + ('U',))
+        named.append((work.answer,) + declared(work, work.answer) + ('U',))
     for name, home_, path, _ in named:
         lines.append('use %s.declared.%s.{%s}' % (specs_of(home_), path, name))
     for module in sorted(cited):

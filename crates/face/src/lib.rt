@@ -1,0 +1,13 @@
+// The alarm wheel over lent records as 01 lends them: the node records as one array of structs, heads and tails of the buckets, and the entries beside them (dated,
+// deadline, and stamp, the generation). The clock is the caller's: lent where a call changes it.
+// Every call answers for every input: what is refused is refused by number, and then every lent record is as found. No `requires`.
+// Each function reads the nodes into a table by value, hands the table to its work (crate face_work), and stores table and clock back.
+pub mod advancing; // start
+pub mod timers; // schedule
+
+pub use advancing::start;
+pub use face_work::Scheduled;
+pub use nodes::Node;
+pub use records::Clock;
+pub use timers::schedule;
+pub use wheel::Noted;
