@@ -169,7 +169,7 @@ module _ {M : Type 1} (𝓤 : URA M) (H : Heap 𝓤) (A : Atoms 𝓤) (W : Given
       qed W (‵ (fsep (finally T.the-row γ zs) (feq ℕ (length zs) n)) ∷ ‵ (fobs γ₁ (K.the-row .coded .code (u .clock))) ∷ ‵ (fbor κ₁ (Body (mem K.the-row) b₁ o₁ γ₁)) ∷ ‵ (Rest-last tb ws) ∷ ‵ (flft κ₀ q₀) ∷ ‵ (flft κ₁ q₁) ∷ Tokens ∷ []) ∵
       suffices ! _ (ends-at 𝓤 H A thin.ended stayed (thin.clauses 𝓤 H A at-mem run) W (((κ₀, (κ₁, (κ₂, (κ₃, (κ₄, (κ₅, (κ₆, tt))))))), (q₀, (q₁, (q₂, (q₃, (q₄, (q₅, (q₆, tt))))))), tt, x, at), tt) (ans u) (u .answer) (zs, (u .clock, ws .1 .1 .1)) (tt, (tt, (tt, (tt, (tt, (tt, (tt, (tt, (tt, tt)))))))))) $
       says ! (subst (λ (l : List Node). FaceSchedule (shown (x₃ .now) (x₄ .now) ys (x₅ .now) (x₆ .now) (x₇ .now) h) (shown (ws .1 .1 .1 .0) (ws .1 .1 .1 .1 .0) l (x₅ .now) (x₆ .now) (x₇ .now) (u .clock)) m₈ m₉ (u .answer)) (sym e) (works-for .meets ys refl loaded)) $
-      move ! (5 ∷ 6 ∷ []) $ join ! $ move ! (5 ∷ 0 ∷ []) $ join ! $ frame ! $ move ! (1 ∷ 2 ∷ []) $ feqI ! (List Val) (vptr b₁ o₁ ∷ []) (vptr b₁ o₁ ∷ []) refl $ fjoin3 ! $ move ! (0 ∷ 2 ∷ []) $ fjoin ! $ move ! (1 ∷ 0 ∷ []) $ fjoin ! $ 
+      move ! (5 ∷ 6 ∷ []) $ join ! $ move ! (5 ∷ 0 ∷ []) $ join ! $ frame ! $ move ! (1 ∷ 2 ∷ []) $ feqI ! (List Val) (vptr b₁ o₁ ∷ []) (vptr b₁ o₁ ∷ []) refl $ fjoin3 ! $ move ! (0 ∷ 2 ∷ []) $ fjoin ! $ move ! (1 ∷ 0 ∷ []) $ fjoin ! $
       owned ! E.the-row (Is E.the-row) (EL.makes E.the-type E′.the-plain 𝓤 H A) (u .answer) _ g $ move ! (1 ∷ 0 ∷ []) $ done !
 
   -- ---- what each callee's triple binds outside, and that the caller has what it asks
