@@ -264,7 +264,7 @@ class Thin:
         self.answer_value = 'vint %s (u .answer)' % width if number else 'EL.val E.the-type E′.the-laws (u .answer)'
         self.made_type = self.work.answer if self.made else 'ℕ' if number else self.fn.answer
         self.made_row = 'U.the-row' if self.made else self.answer_row
-        self.types = [('T', 'Node', ('nodes', 'Node')), ('K', 'Clock', ('records', 'Clock'))]
+        self.types = [('T', 'Node', self.fn.declared('Node')), ('K', 'Clock', self.fn.declared('Clock'))]
         if not number:
             self.types.append(('E', self.fn.answer, self.fn.declared(self.fn.answer)))
         if self.made:
