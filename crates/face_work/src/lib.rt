@@ -4,6 +4,9 @@ pub mod columns; // a table of nodes, field by field; unchecked
 pub mod answers; // what the calls over columns answer, without the clock
 pub mod refusals; // the number where more nodes are lent than a wheel may have
 pub mod advancing; // start, pull, abandon
+pub mod counts; // armed count, next due
+pub mod making; // enable
+pub mod settings; // set entry
 pub mod timers; // schedule, reschedule, deschedule
 
 use nodes::Node;

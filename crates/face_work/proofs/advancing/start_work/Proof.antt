@@ -4,12 +4,6 @@ use Rattle.face_work.proofs.Facing.{start-crowded, start-done}
 use borrow.Author.Needs.{needs}
 use Rattle.face_work.proofs.advancing.start_work.Statement.{statement}
 use Rattle.face_work.proofs.advancing.start_work.Tie as tie
-use Rattle.face_work.proofs.advancing.start_work.Reads as reads
-use Rattle.face_work.proofs.advancing.start_work.Lts as lts
-use Rattle.face_work.proofs.answers.timed.Reads as timed-reads
-use Rattle.face_work.proofs.columns.split.Reads as split-reads
-use Rattle.face_work.proofs.refusals.crowded.Reads as crowded-reads
-use Rattle.wheel.proofs.start.Reads as start-reads
 
 crowded-requires : tie.Need-crowded-requires
 crowded-requires c κs = search needs
