@@ -1,4 +1,5 @@
--- A table of 4,096 nodes by value, which lent nodes are read into and stored back from. Lent nodes that are more than fit go neither way. Assumes nothing.
+-- A table of 4,096 nodes by value, which lent nodes are read into and stored back from: "The node records are lent as one array of 166 to 4,096 records". Lent nodes that
+-- are more than fit go neither way. Assumes nothing.
 use Prim.Native.Nat.{ℕ, _≤_}
 use mathlib.Core.Path.{_≡_}
 use mathlib.Core.Bool.{cond}
