@@ -64,6 +64,18 @@ def sources(crate):
                 yield ([] if name == 'lib.rt' else [name[:-3]]), file.read()
 
 
+def declared(crate, name):
+    """The crate and the module path in which a crate's type is declared: its own, or one that it names by `pub use`."""
+    passed_on = None
+    for path, text in sources(crate):
+        if re.search(r'^pub (struct|enum) %s\b' % name, text, re.M):
+            return crate, '.'.join(path + [name])
+        passed_on = passed_on or re.search(r'^pub use (\w+)(?:::\w+)*::%s;' % name, text, re.M)
+    if not passed_on:
+        sys.exit('thin.py: no type %s in crate %s' % (name, crate))
+    return declared(passed_on.group(1), name)
+
+
 class Function:
     """A function's signature and contract, as its source has them."""
 
@@ -82,16 +94,12 @@ class Function:
 
     def home(self, name):
         """The crate that the function's file takes a name from."""
-        used = re.search(r'use (\w+)(?:::\w+)*::%s;' % name, self.text)
+        used = re.search(r'^use (\w+)(?:::\w+)*::%s;' % name, self.text, re.M)
         return self.crate if not used or used.group(1) == 'crate' else used.group(1)
 
     def declared(self, name):
         """The crate and the module path of a type that the file uses or declares."""
-        crate = self.home(name)
-        for path, text in sources(crate):
-            if re.search(r'pub (struct|enum) %s\b' % name, text):
-                return crate, '.'.join(path + [name])
-        sys.exit('thin.py: no type %s in crate %s' % (name, crate))
+        return declared(self.home(name), name)
 
     def cited(self):
         """What the clause cites: (module, name), as another crate names it."""

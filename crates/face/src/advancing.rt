@@ -1,9 +1,9 @@
 // Start, pull and abandon over lent nodes. No `requires`. A refused call leaves every record as found.
 ghost use Rattle.nodes.specs.Shown.{shown};
 ghost use Rattle.face_work.specs.Faces.{FaceStart, FacePull, FaceAbandon};
+use face_turns::advancing::pull_work;
 use face_work::Pulled;
 use face_work::advancing::abandon_work;
-use face_work::advancing::pull_work;
 use face_work::advancing::start_work;
 use nodes::Node;
 use nodes::load;

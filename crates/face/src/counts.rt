@@ -1,8 +1,8 @@
 // Armed count and next due over lent nodes. They change nothing. No `requires`.
 ghost use Rattle.nodes.specs.Shown.{shown};
 ghost use Rattle.face_work.specs.Faces.{FaceArmedCount, FaceNextDue};
-use face_work::counts::armed_count_work;
-use face_work::counts::next_due_work;
+use face_asks::counts::armed_count_work;
+use face_asks::counts::next_due_work;
 use nodes::Node;
 use nodes::load;
 use records::Clock;

@@ -1,7 +1,7 @@
 // The alarm wheel over lent records as 01 lends them: the node records as one array of structs, heads and tails of the buckets, and the entries beside them (dated,
 // deadline, and stamp, the generation). The clock is the caller's: lent where a call changes it.
 // Every call answers for every input: what is refused is refused by number, and then every lent record is as found. No `requires`.
-// Each function reads the nodes into a table by value, hands the table to its work (crate face_work), and stores table and clock back.
+// Each function reads the nodes into a table by value, hands the table to its work (crates face_work, face_asks, face_timers, face_turns), and stores table and clock back.
 pub mod advancing; // start, pull, abandon
 pub mod counts; // armed count, next due
 pub mod making; // enable

@@ -1,7 +1,7 @@
 // Enable over lent nodes. No `requires`. A refused call leaves every record as found.
 ghost use Rattle.nodes.specs.Shown.{shown};
 ghost use Rattle.face_work.specs.Faces.{FaceEnable};
-use face_work::making::enable_work;
+use face_turns::making::enable_work;
 use nodes::Node;
 use nodes::load;
 use nodes::store;

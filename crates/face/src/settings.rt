@@ -1,7 +1,7 @@
 // Set entry over lent nodes. No `requires`. A refused call leaves every record as found.
 ghost use Rattle.nodes.specs.Shown.{shown};
 ghost use Rattle.face_work.specs.Faces.{FaceSetEntry};
-use face_work::settings::set_entry_work;
+use face_asks::settings::set_entry_work;
 use nodes::Node;
 use nodes::load;
 use records::Clock;

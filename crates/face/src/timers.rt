@@ -1,11 +1,11 @@
 // Schedule, reschedule and deschedule over lent nodes. No `requires`. A refused call leaves every record as found.
 ghost use Rattle.nodes.specs.Shown.{shown};
 ghost use Rattle.face_work.specs.Faces.{FaceSchedule, FaceReschedule, FaceDeschedule};
+use face_timers::timers::deschedule_work;
+use face_timers::timers::reschedule_work;
+use face_timers::timers::schedule_work;
 use face_work::Rescheduled;
 use face_work::Scheduled;
-use face_work::timers::deschedule_work;
-use face_work::timers::reschedule_work;
-use face_work::timers::schedule_work;
 use nodes::Node;
 use nodes::load;
 use nodes::store;

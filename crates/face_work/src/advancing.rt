@@ -1,12 +1,8 @@
-// The work of start, pull and abandon. No `requires`.
-ghost use Rattle.face_work.specs.Works.{StartFor, PullFor, AbandonFor};
+// The work of start and abandon. No `requires`.
+ghost use Rattle.face_work.specs.Works.{StartFor, AbandonFor};
 use crate::NotedTurn;
-use crate::Pulled;
-use crate::PulledMade;
-use crate::answers;
 use crate::answers::timed;
 use crate::columns::ROOM;
-use crate::columns::gather;
 use crate::columns::split;
 use crate::refusals::crowded;
 use nodes::Node;
@@ -66,68 +62,6 @@ pub fn start_work(
         q,
     );
     timed(clock, told)
-}
-
-// Pull: one event of the open advance, or End. Refuses (1, 4, 6).
-pub fn pull_work(
-    table: [Node; 4096],
-    n: usize,
-    clock: Clock,
-    heads: &mut [usize],
-    tails: &mut [usize],
-    dated: &[bool],
-    deadline: &[u64],
-    stamp: &[u32],
-) -> PulledMade
-    ensures { λ r. ⌜ PullFor table n clock (now (heads .entry)) (now (tails .entry)) (now (heads .exit)) (now (tails .exit)) (now (dated .entry)) (now (deadline .entry)) (now (stamp .entry)) r ⌝ }
-{
-    if 4096 < n {
-        let no = crowded(clock);
-        return PulledMade {
-            table,
-            clock,
-            answer: Pulled::Refused(no),
-        };
-    }
-    let mut next = [0usize; ROOM];
-    let mut prev = [0usize; ROOM];
-    let mut bucket = [0usize; ROOM];
-    let mut entry = [0usize; ROOM];
-    let mut generation = [0u32; ROOM];
-    let mut serial = [0u64; ROOM];
-    split(
-        table,
-        n,
-        &mut next,
-        &mut prev,
-        &mut bucket,
-        &mut entry,
-        &mut generation,
-        &mut serial,
-    );
-    let told = wheel::pull(
-        heads,
-        tails,
-        &mut next[..n],
-        &mut prev[..n],
-        &mut bucket[..n],
-        &mut entry[..n],
-        &mut generation[..n],
-        &mut serial[..n],
-        dated,
-        deadline,
-        stamp,
-        clock,
-    );
-    let turn = answers::pulled(clock, told);
-    let after = turn.clock;
-    let answer = turn.answer;
-    let nodes = gather(n, &next, &prev, &bucket, &entry, &generation, &serial);
-    PulledMade {
-        table: nodes,
-        clock: after,
-        answer,
-    }
 }
 
 // Abandon: closes the open advance and restores the reading that it started from. Refuses (1, 4, 6).

@@ -1,13 +1,10 @@
 // The work of the wheel's calls over lent nodes, behind the functions that lend them: the nodes come as a table of 4,096 by value, of which the first n are
 // lent. Where more than 4,096 are lent the table says nothing of them, and the call is refused. No `requires`, but in columns.
+// What every work stands on, and start and abandon; the others are in face_asks, face_timers and face_turns.
 pub mod columns; // a table of nodes, field by field; unchecked
 pub mod answers; // what the calls over columns answer, without the clock
 pub mod refusals; // the number where more nodes are lent than a wheel may have
-pub mod advancing; // start, pull, abandon
-pub mod counts; // armed count, next due
-pub mod making; // enable
-pub mod settings; // set entry
-pub mod timers; // schedule, reschedule, deschedule
+pub mod advancing; // start, abandon
 
 use nodes::Node;
 use records::Clock;

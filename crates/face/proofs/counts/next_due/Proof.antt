@@ -67,10 +67,10 @@ use Rattle.nodes.proofs.load as loads
 use Rattle.nodes.proofs.load.Symbol as load-def
 use Rattle.nodes.proofs.load.Symbol.{name as #load}
 use Rattle.nodes.proofs.load.Met as load-thm
-use Rattle.face_work.proofs.counts.next_due_work as works
-use Rattle.face_work.proofs.counts.next_due_work.Symbol as work-def
-use Rattle.face_work.proofs.counts.next_due_work.Symbol.{name as #work}
-use Rattle.face_work.proofs.counts.next_due_work.Met as work-thm
+use Rattle.face_asks.proofs.counts.next_due_work as works
+use Rattle.face_asks.proofs.counts.next_due_work.Symbol as work-def
+use Rattle.face_asks.proofs.counts.next_due_work.Symbol.{name as #work}
+use Rattle.face_asks.proofs.counts.next_due_work.Met as work-thm
 use Rattle.face.proofs.counts.next_due.Key.{name as #thin}
 use Rattle.face.proofs.counts.next_due as thin
 use Rattle.face.proofs.counts.next_due.Statement as stated
@@ -224,4 +224,4 @@ next-due-spec 𝓤 H 𝓜 𝓖 𝓡 =
     (tables 𝓤 H 𝓜 𝓡 code.env .C) (tables 𝓤 H 𝓜 𝓡 code.env .Λ) #thin code.function (code.unfolded 𝓤 H 𝓜 𝓡)
     (thin-meets 𝓤 H (𝓖 .A) (givenOf 𝓤 H 𝓜 𝓖) (𝓜 .mem) (𝓡 .run) (tablesOf 𝓤 H 𝓜 (tables 𝓤 H 𝓜 𝓡 code.env))
     (cited 𝓤 H (Load 𝓤 H (𝓖 .A) (𝓜 .mem) (𝓡 .run)) 𝓜 𝓡 code.env #load load-def.routine code.calls-nodes·load (load-thm.met 𝓤 H 𝓜 𝓖 𝓡))
-    (cited 𝓤 H (Work 𝓤 H (𝓖 .A) (𝓜 .mem) (𝓡 .run)) 𝓜 𝓡 code.env #work work-def.routine code.calls-face-work·counts·next-due-work (work-thm.met 𝓤 H 𝓜 𝓖 𝓡)))
+    (cited 𝓤 H (Work 𝓤 H (𝓖 .A) (𝓜 .mem) (𝓡 .run)) 𝓜 𝓡 code.env #work work-def.routine code.calls-face-asks·counts·next-due-work (work-thm.met 𝓤 H 𝓜 𝓖 𝓡)))

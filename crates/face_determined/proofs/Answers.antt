@@ -1,0 +1,76 @@
+-- What an answer says determines the answer. Assumes nothing.
+use Prim.Native.Nat.{ℕ}
+use native.Mathlib.Omega.{arith}
+use mathlib.Core.Path.{_≡_, refl}
+use Rattle.wheel.specs.declared.Noted.{Noted}
+use Rattle.wheel.specs.declared.Noted.the-variants.{Done, Refused as NotedRefused}
+use Rattle.wheel.specs.declared.Counted.{Counted}
+use Rattle.wheel.specs.declared.Counted.the-variants.{Armed as Count, Refused as CountedRefused}
+use Rattle.wheel.specs.declared.Due.{Due}
+use Rattle.wheel.specs.declared.Due.the-variants.{At, Never, Refused as DueRefused}
+use Rattle.wheel.specs.Answers.{notedSays, countedSays, dueSays}
+use Rattle.face_work.specs.declared.Scheduled.{Scheduled}
+use Rattle.face_work.specs.declared.Scheduled.the-variants.{Armed, Refused as ScheduledRefused}
+use Rattle.face_work.specs.declared.Rescheduled.{Rescheduled}
+use Rattle.face_work.specs.declared.Rescheduled.the-variants.{Moved, Removed, Refused as RescheduledRefused}
+use Rattle.face_work.specs.declared.Pulled.{Pulled}
+use Rattle.face_work.specs.declared.Pulled.the-variants.{Expired, Moved as Placed, End, Refused as PulledRefused}
+use Rattle.face_work.specs.Answers.{scheduledSays, rescheduledSays, pulledSays}
+
+pub noted : (r s : Noted) → notedSays r ≡ notedSays s → r ≡ s
+noted Done Done e = refl
+noted Done (NotedRefused y0) e = let z : _≡_ {A = ℕ} 0 1 = cc in absurd (omega arith)
+noted (NotedRefused x0) Done e = let z : _≡_ {A = ℕ} 0 1 = cc in absurd (omega arith)
+noted (NotedRefused x0) (NotedRefused y0) e = cc
+
+pub counted : (r s : Counted) → countedSays r ≡ countedSays s → r ≡ s
+counted (Count x0) (Count y0) e = cc
+counted (Count x0) (CountedRefused y0) e = let z : _≡_ {A = ℕ} 0 1 = cc in absurd (omega arith)
+counted (CountedRefused x0) (Count y0) e = let z : _≡_ {A = ℕ} 0 1 = cc in absurd (omega arith)
+counted (CountedRefused x0) (CountedRefused y0) e = cc
+
+pub dued : (r s : Due) → dueSays r ≡ dueSays s → r ≡ s
+dued (At x0) (At y0) e = cc
+dued (At x0) Never e = let z : _≡_ {A = ℕ} 0 1 = cc in absurd (omega arith)
+dued (At x0) (DueRefused y0) e = let z : _≡_ {A = ℕ} 0 1 = cc in absurd (omega arith)
+dued Never (At y0) e = let z : _≡_ {A = ℕ} 0 1 = cc in absurd (omega arith)
+dued Never Never e = refl
+dued Never (DueRefused y0) e = let z : _≡_ {A = ℕ} 0 1 = cc in absurd (omega arith)
+dued (DueRefused x0) (At y0) e = let z : _≡_ {A = ℕ} 0 1 = cc in absurd (omega arith)
+dued (DueRefused x0) Never e = let z : _≡_ {A = ℕ} 0 1 = cc in absurd (omega arith)
+dued (DueRefused x0) (DueRefused y0) e = cc
+
+pub scheduled : (r s : Scheduled) → scheduledSays r ≡ scheduledSays s → r ≡ s
+scheduled (Armed x0 x1) (Armed y0 y1) e = cc
+scheduled (Armed x0 x1) (ScheduledRefused y0) e = let z : _≡_ {A = ℕ} 0 1 = cc in absurd (omega arith)
+scheduled (ScheduledRefused x0) (Armed y0 y1) e = let z : _≡_ {A = ℕ} 0 1 = cc in absurd (omega arith)
+scheduled (ScheduledRefused x0) (ScheduledRefused y0) e = cc
+
+pub rescheduled : (r s : Rescheduled) → rescheduledSays r ≡ rescheduledSays s → r ≡ s
+rescheduled Moved Moved e = refl
+rescheduled Moved Removed e = let z : _≡_ {A = ℕ} 0 1 = cc in absurd (omega arith)
+rescheduled Moved (RescheduledRefused y0) e = let z : _≡_ {A = ℕ} 0 1 = cc in absurd (omega arith)
+rescheduled Removed Moved e = let z : _≡_ {A = ℕ} 0 1 = cc in absurd (omega arith)
+rescheduled Removed Removed e = refl
+rescheduled Removed (RescheduledRefused y0) e = let z : _≡_ {A = ℕ} 0 1 = cc in absurd (omega arith)
+rescheduled (RescheduledRefused x0) Moved e = let z : _≡_ {A = ℕ} 0 1 = cc in absurd (omega arith)
+rescheduled (RescheduledRefused x0) Removed e = let z : _≡_ {A = ℕ} 0 1 = cc in absurd (omega arith)
+rescheduled (RescheduledRefused x0) (RescheduledRefused y0) e = cc
+
+pub pulled : (r s : Pulled) → pulledSays r ≡ pulledSays s → r ≡ s
+pulled (Expired x0 x1 x2) (Expired y0 y1 y2) e = cc
+pulled (Expired x0 x1 x2) (Placed y0 y1 y2) e = let z : _≡_ {A = ℕ} 0 1 = cc in absurd (omega arith)
+pulled (Expired x0 x1 x2) End e = let z : _≡_ {A = ℕ} 0 1 = cc in absurd (omega arith)
+pulled (Expired x0 x1 x2) (PulledRefused y0) e = let z : _≡_ {A = ℕ} 0 1 = cc in absurd (omega arith)
+pulled (Placed x0 x1 x2) (Expired y0 y1 y2) e = let z : _≡_ {A = ℕ} 0 1 = cc in absurd (omega arith)
+pulled (Placed x0 x1 x2) (Placed y0 y1 y2) e = cc
+pulled (Placed x0 x1 x2) End e = let z : _≡_ {A = ℕ} 0 1 = cc in absurd (omega arith)
+pulled (Placed x0 x1 x2) (PulledRefused y0) e = let z : _≡_ {A = ℕ} 0 1 = cc in absurd (omega arith)
+pulled End (Expired y0 y1 y2) e = let z : _≡_ {A = ℕ} 0 1 = cc in absurd (omega arith)
+pulled End (Placed y0 y1 y2) e = let z : _≡_ {A = ℕ} 0 1 = cc in absurd (omega arith)
+pulled End End e = refl
+pulled End (PulledRefused y0) e = let z : _≡_ {A = ℕ} 0 1 = cc in absurd (omega arith)
+pulled (PulledRefused x0) (Expired y0 y1 y2) e = let z : _≡_ {A = ℕ} 0 1 = cc in absurd (omega arith)
+pulled (PulledRefused x0) (Placed y0 y1 y2) e = let z : _≡_ {A = ℕ} 0 1 = cc in absurd (omega arith)
+pulled (PulledRefused x0) End e = let z : _≡_ {A = ℕ} 0 1 = cc in absurd (omega arith)
+pulled (PulledRefused x0) (PulledRefused y0) e = cc

@@ -1,0 +1,3 @@
+-- What the promises of the calls over lent nodes determine. Assumes nothing.
+pub mod Answers
+pub mod Determined
