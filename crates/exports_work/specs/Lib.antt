@@ -1,0 +1,4 @@
+-- What the contracts of the calls that answer in numbers cite. Assumes nothing.
+pub mod Words
+pub mod Exports
+pub mod Works

@@ -1,0 +1,27 @@
+// The work of the wheel's calls over lent nodes that answer in numbers: the refusal's number, or 0, as the result, and the answer in five lent numbers.
+// Every call answers for every input; where fewer than five numbers are lent for the answer the result is 18, and nothing is done. No `requires`, but in words.
+pub mod words; // answers as numbers
+pub mod advancing; // pull, start, abandon
+pub mod counts; // armed count, next due
+pub mod making; // enable
+pub mod settings; // set entry
+pub mod timers; // schedule, reschedule, deschedule
+
+use nodes::Node;
+use records::Clock;
+
+// The result where fewer than five numbers are lent for the answer. No refusal has this number.
+pub const SHORT: u64 = 18;
+
+// What a call leaves: the nodes, the clock, and the refusal's number, or 0.
+pub struct ToldMade {
+    pub table: [Node; 4096],
+    pub clock: Clock,
+    pub answer: u64,
+}
+
+// Where it changes no node.
+pub struct ToldTurn {
+    pub clock: Clock,
+    pub answer: u64,
+}
