@@ -1,0 +1,100 @@
+// Start, pull and abandon, answered in numbers. No `requires`. A refused call leaves every record as found.
+ghost use Rattle.nodes.specs.Shown.{shown};
+ghost use Rattle.exports_work.specs.Exports.{ExportStart, ExportPull, ExportAbandon};
+use exports_work::advancing::abandon_told;
+use exports_work::advancing::pull_told;
+use exports_work::advancing::start_told;
+use nodes::Node;
+use nodes::load;
+use nodes::store;
+use records::Clock;
+
+// Opens an advance to q. Refuses (1, 4, 5).
+pub fn wheel_start(
+    nodes: &[Node],
+    clock: &mut Clock,
+    heads: &[usize],
+    tails: &[usize],
+    dated: &[bool],
+    deadline: &[u64],
+    stamp: &[u32],
+    q: u64,
+    answer: &mut [u64],
+) -> u64
+    ensures { λ r. ⌜ ExportStart (shown (now (heads .entry)) (now (tails .entry)) (now (nodes .entry)) (now (dated .entry)) (now (deadline .entry)) (now (stamp .entry)) (now (clock .entry))) (shown (now (heads .entry)) (now (tails .entry)) (now (nodes .entry)) (now (dated .entry)) (now (deadline .entry)) (now (stamp .entry)) (now (clock .exit))) (now (answer .entry)) (now (answer .exit)) q r ⌝ }
+{
+    let table = load(nodes);
+    let made = start_told(
+        table,
+        nodes.len(),
+        *clock,
+        heads,
+        tails,
+        dated,
+        deadline,
+        stamp,
+        q,
+        answer,
+    );
+    *clock = made.clock;
+    made.answer
+}
+
+// One event of the open advance, or End. Refuses (1, 4, 6).
+pub fn wheel_pull(
+    nodes: &mut [Node],
+    clock: &mut Clock,
+    heads: &mut [usize],
+    tails: &mut [usize],
+    dated: &[bool],
+    deadline: &[u64],
+    stamp: &[u32],
+    answer: &mut [u64],
+) -> u64
+    ensures { λ r. ⌜ ExportPull (shown (now (heads .entry)) (now (tails .entry)) (now (nodes .entry)) (now (dated .entry)) (now (deadline .entry)) (now (stamp .entry)) (now (clock .entry))) (shown (now (heads .exit)) (now (tails .exit)) (now (nodes .exit)) (now (dated .entry)) (now (deadline .entry)) (now (stamp .entry)) (now (clock .exit))) (now (answer .entry)) (now (answer .exit)) r ⌝ }
+{
+    let table = load(nodes);
+    let made = pull_told(
+        table,
+        nodes.len(),
+        *clock,
+        heads,
+        tails,
+        dated,
+        deadline,
+        stamp,
+        answer,
+    );
+    *clock = made.clock;
+    store(nodes, made.table);
+    made.answer
+}
+
+// Closes the open advance and restores the reading that it started from. Refuses (1, 4, 6).
+pub fn wheel_abandon(
+    nodes: &[Node],
+    clock: &mut Clock,
+    heads: &[usize],
+    tails: &[usize],
+    dated: &[bool],
+    deadline: &[u64],
+    stamp: &[u32],
+    answer: &mut [u64],
+) -> u64
+    ensures { λ r. ⌜ ExportAbandon (shown (now (heads .entry)) (now (tails .entry)) (now (nodes .entry)) (now (dated .entry)) (now (deadline .entry)) (now (stamp .entry)) (now (clock .entry))) (shown (now (heads .entry)) (now (tails .entry)) (now (nodes .entry)) (now (dated .entry)) (now (deadline .entry)) (now (stamp .entry)) (now (clock .exit))) (now (answer .entry)) (now (answer .exit)) r ⌝ }
+{
+    let table = load(nodes);
+    let made = abandon_told(
+        table,
+        nodes.len(),
+        *clock,
+        heads,
+        tails,
+        dated,
+        deadline,
+        stamp,
+        answer,
+    );
+    *clock = made.clock;
+    made.answer
+}

@@ -1,0 +1,62 @@
+// Armed count and next due, answered in numbers. They change no record. No `requires`.
+ghost use Rattle.nodes.specs.Shown.{shown};
+ghost use Rattle.exports_work.specs.Exports.{ExportArmedCount, ExportNextDue};
+use exports_work::counts::armed_count_told;
+use exports_work::counts::next_due_told;
+use nodes::Node;
+use nodes::load;
+use records::Clock;
+
+// How many slots are armed. It answers while an advance is open too. Refuses (1, 4).
+pub fn wheel_armed_count(
+    nodes: &[Node],
+    clock: Clock,
+    heads: &[usize],
+    tails: &[usize],
+    dated: &[bool],
+    deadline: &[u64],
+    stamp: &[u32],
+    answer: &mut [u64],
+) -> u64
+    ensures { λ r. ⌜ ExportArmedCount (shown (now (heads .entry)) (now (tails .entry)) (now (nodes .entry)) (now (dated .entry)) (now (deadline .entry)) (now (stamp .entry)) clock) (now (answer .entry)) (now (answer .exit)) r ⌝ }
+{
+    let table = load(nodes);
+    armed_count_told(
+        table,
+        nodes.len(),
+        clock,
+        heads,
+        tails,
+        dated,
+        deadline,
+        stamp,
+        answer,
+    )
+}
+
+// The least deadline of the armed timers, or none. Refuses (1, 4, 5).
+pub fn wheel_next_due(
+    nodes: &[Node],
+    clock: Clock,
+    heads: &[usize],
+    tails: &[usize],
+    dated: &[bool],
+    deadline: &[u64],
+    stamp: &[u32],
+    answer: &mut [u64],
+) -> u64
+    ensures { λ r. ⌜ ExportNextDue (shown (now (heads .entry)) (now (tails .entry)) (now (nodes .entry)) (now (dated .entry)) (now (deadline .entry)) (now (stamp .entry)) clock) (now (answer .entry)) (now (answer .exit)) r ⌝ }
+{
+    let table = load(nodes);
+    next_due_told(
+        table,
+        nodes.len(),
+        clock,
+        heads,
+        tails,
+        dated,
+        deadline,
+        stamp,
+        answer,
+    )
+}

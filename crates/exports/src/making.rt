@@ -1,0 +1,38 @@
+// Enable, answered in numbers. No `requires`. A refused call leaves every record as found.
+ghost use Rattle.nodes.specs.Shown.{shown};
+ghost use Rattle.exports_work.specs.Exports.{ExportEnable};
+use exports_work::making::enable_told;
+use nodes::Node;
+use nodes::load;
+use nodes::store;
+use records::Clock;
+
+// Lays the lent nodes and entries out as a wheel with no timer. Refuses (2, 3).
+pub fn wheel_enable(
+    nodes: &mut [Node],
+    clock: &mut Clock,
+    heads: &mut [usize],
+    tails: &mut [usize],
+    dated: &mut [bool],
+    deadline: &mut [u64],
+    stamp: &mut [u32],
+    answer: &mut [u64],
+) -> u64
+    ensures { λ r. ⌜ ExportEnable (shown (now (heads .entry)) (now (tails .entry)) (now (nodes .entry)) (now (dated .entry)) (now (deadline .entry)) (now (stamp .entry)) (now (clock .entry))) (shown (now (heads .exit)) (now (tails .exit)) (now (nodes .exit)) (now (dated .exit)) (now (deadline .exit)) (now (stamp .exit)) (now (clock .exit))) (now (answer .entry)) (now (answer .exit)) r ⌝ }
+{
+    let table = load(nodes);
+    let made = enable_told(
+        table,
+        nodes.len(),
+        *clock,
+        heads,
+        tails,
+        dated,
+        deadline,
+        stamp,
+        answer,
+    );
+    *clock = made.clock;
+    store(nodes, made.table);
+    made.answer
+}

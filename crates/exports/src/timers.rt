@@ -1,0 +1,116 @@
+// Schedule, reschedule and deschedule, answered in numbers. No `requires`. A refused call leaves every record as found.
+ghost use Rattle.nodes.specs.Shown.{shown};
+ghost use Rattle.exports_work.specs.Exports.{ExportSchedule, ExportReschedule, ExportDeschedule};
+use exports_work::timers::deschedule_told;
+use exports_work::timers::reschedule_told;
+use exports_work::timers::schedule_told;
+use nodes::Node;
+use nodes::load;
+use nodes::store;
+use records::Clock;
+
+// Arms a timer for the entry e, whose generation is h. Refuses (1, 4, 5, 7 to 11).
+pub fn wheel_schedule(
+    nodes: &mut [Node],
+    clock: &mut Clock,
+    heads: &mut [usize],
+    tails: &mut [usize],
+    dated: &[bool],
+    deadline: &[u64],
+    stamp: &[u32],
+    e: usize,
+    h: u32,
+    answer: &mut [u64],
+) -> u64
+    ensures { λ r. ⌜ ExportSchedule (shown (now (heads .entry)) (now (tails .entry)) (now (nodes .entry)) (now (dated .entry)) (now (deadline .entry)) (now (stamp .entry)) (now (clock .entry))) (shown (now (heads .exit)) (now (tails .exit)) (now (nodes .exit)) (now (dated .entry)) (now (deadline .entry)) (now (stamp .entry)) (now (clock .exit))) (now (answer .entry)) (now (answer .exit)) e h r ⌝ }
+{
+    let table = load(nodes);
+    let made = schedule_told(
+        table,
+        nodes.len(),
+        *clock,
+        heads,
+        tails,
+        dated,
+        deadline,
+        stamp,
+        e,
+        h,
+        answer,
+    );
+    *clock = made.clock;
+    store(nodes, made.table);
+    made.answer
+}
+
+// Moves the timer with the handle (slot, number), armed with the generation h, or removes it. Refuses (1, 4, 5, 12, 13).
+pub fn wheel_reschedule(
+    nodes: &mut [Node],
+    clock: &mut Clock,
+    heads: &mut [usize],
+    tails: &mut [usize],
+    dated: &[bool],
+    deadline: &[u64],
+    stamp: &[u32],
+    slot: usize,
+    number: u64,
+    h: u32,
+    answer: &mut [u64],
+) -> u64
+    ensures { λ r. ⌜ ExportReschedule (shown (now (heads .entry)) (now (tails .entry)) (now (nodes .entry)) (now (dated .entry)) (now (deadline .entry)) (now (stamp .entry)) (now (clock .entry))) (shown (now (heads .exit)) (now (tails .exit)) (now (nodes .exit)) (now (dated .entry)) (now (deadline .entry)) (now (stamp .entry)) (now (clock .exit))) (now (answer .entry)) (now (answer .exit)) slot number h r ⌝ }
+{
+    let table = load(nodes);
+    let made = reschedule_told(
+        table,
+        nodes.len(),
+        *clock,
+        heads,
+        tails,
+        dated,
+        deadline,
+        stamp,
+        slot,
+        number,
+        h,
+        answer,
+    );
+    *clock = made.clock;
+    store(nodes, made.table);
+    made.answer
+}
+
+// Removes the timer with the handle (slot, number), armed with the generation h. Refuses (1, 4, 5, 12, 13).
+pub fn wheel_deschedule(
+    nodes: &mut [Node],
+    clock: &mut Clock,
+    heads: &mut [usize],
+    tails: &mut [usize],
+    dated: &[bool],
+    deadline: &[u64],
+    stamp: &[u32],
+    slot: usize,
+    number: u64,
+    h: u32,
+    answer: &mut [u64],
+) -> u64
+    ensures { λ r. ⌜ ExportDeschedule (shown (now (heads .entry)) (now (tails .entry)) (now (nodes .entry)) (now (dated .entry)) (now (deadline .entry)) (now (stamp .entry)) (now (clock .entry))) (shown (now (heads .exit)) (now (tails .exit)) (now (nodes .exit)) (now (dated .entry)) (now (deadline .entry)) (now (stamp .entry)) (now (clock .exit))) (now (answer .entry)) (now (answer .exit)) slot number h r ⌝ }
+{
+    let table = load(nodes);
+    let made = deschedule_told(
+        table,
+        nodes.len(),
+        *clock,
+        heads,
+        tails,
+        dated,
+        deadline,
+        stamp,
+        slot,
+        number,
+        h,
+        answer,
+    );
+    *clock = made.clock;
+    store(nodes, made.table);
+    made.answer
+}

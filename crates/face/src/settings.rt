@@ -1,0 +1,41 @@
+// Set entry over lent nodes. No `requires`. A refused call leaves every record as found.
+ghost use Rattle.nodes.specs.Shown.{shown};
+ghost use Rattle.face_work.specs.Faces.{FaceSetEntry};
+use face_asks::settings::set_entry_work;
+use nodes::Node;
+use nodes::load;
+use records::Clock;
+use wheel::Noted;
+
+// Sets the entry e: whether it has a deadline, which, and its generation. Refuses (1, 4, 5, 7).
+pub fn set_entry(
+    nodes: &[Node],
+    clock: Clock,
+    heads: &[usize],
+    tails: &[usize],
+    dated: &mut [bool],
+    deadline: &mut [u64],
+    stamp: &mut [u32],
+    e: usize,
+    has: bool,
+    due: u64,
+    h: u32,
+) -> Noted
+    ensures { λ r. ⌜ FaceSetEntry (shown (now (heads .entry)) (now (tails .entry)) (now (nodes .entry)) (now (dated .entry)) (now (deadline .entry)) (now (stamp .entry)) clock) (shown (now (heads .entry)) (now (tails .entry)) (now (nodes .entry)) (now (dated .exit)) (now (deadline .exit)) (now (stamp .exit)) clock) e has due h r ⌝ }
+{
+    let table = load(nodes);
+    set_entry_work(
+        table,
+        nodes.len(),
+        clock,
+        heads,
+        tails,
+        dated,
+        deadline,
+        stamp,
+        e,
+        has,
+        due,
+        h,
+    )
+}

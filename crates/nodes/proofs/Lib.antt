@@ -1,0 +1,6 @@
+-- What the proofs of this crate share. Assumes nothing.
+pub mod Counts
+pub mod Fills
+pub mod Arrays
+pub mod Using
+pub mod Passing
