@@ -10,7 +10,8 @@ use nodes::store;
 use records::Clock;
 
 // Opens an advance to q. Refuses (1, 4, 5).
-pub fn wheel_start(
+#[no_mangle]
+pub extern "C" fn wheel_start(
     nodes: &[Node],
     clock: &mut Clock,
     heads: &[usize],
@@ -41,7 +42,8 @@ pub fn wheel_start(
 }
 
 // One event of the open advance, or End. Refuses (1, 4, 6).
-pub fn wheel_pull(
+#[no_mangle]
+pub extern "C" fn wheel_pull(
     nodes: &mut [Node],
     clock: &mut Clock,
     heads: &mut [usize],
@@ -71,7 +73,8 @@ pub fn wheel_pull(
 }
 
 // Closes the open advance and restores the reading that it started from. Refuses (1, 4, 6).
-pub fn wheel_abandon(
+#[no_mangle]
+pub extern "C" fn wheel_abandon(
     nodes: &[Node],
     clock: &mut Clock,
     heads: &[usize],

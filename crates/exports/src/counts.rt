@@ -8,7 +8,8 @@ use nodes::load;
 use records::Clock;
 
 // How many slots are armed. It answers while an advance is open too. Refuses (1, 4).
-pub fn wheel_armed_count(
+#[no_mangle]
+pub extern "C" fn wheel_armed_count(
     nodes: &[Node],
     clock: Clock,
     heads: &[usize],
@@ -35,7 +36,8 @@ pub fn wheel_armed_count(
 }
 
 // The least deadline of the armed timers, or none. Refuses (1, 4, 5).
-pub fn wheel_next_due(
+#[no_mangle]
+pub extern "C" fn wheel_next_due(
     nodes: &[Node],
     clock: Clock,
     heads: &[usize],

@@ -8,7 +8,8 @@ use nodes::store;
 use records::Clock;
 
 // Lays the lent nodes and entries out as a wheel with no timer. Refuses (2, 3).
-pub fn wheel_enable(
+#[no_mangle]
+pub extern "C" fn wheel_enable(
     nodes: &mut [Node],
     clock: &mut Clock,
     heads: &mut [usize],

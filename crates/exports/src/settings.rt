@@ -7,7 +7,8 @@ use nodes::load;
 use records::Clock;
 
 // Sets the entry e: whether it has a deadline, which, and its generation. Refuses (1, 4, 5, 7).
-pub fn wheel_set_entry(
+#[no_mangle]
+pub extern "C" fn wheel_set_entry(
     nodes: &[Node],
     clock: Clock,
     heads: &[usize],

@@ -10,7 +10,8 @@ use nodes::store;
 use records::Clock;
 
 // Arms a timer for the entry e, whose generation is h. Refuses (1, 4, 5, 7 to 11).
-pub fn wheel_schedule(
+#[no_mangle]
+pub extern "C" fn wheel_schedule(
     nodes: &mut [Node],
     clock: &mut Clock,
     heads: &mut [usize],
@@ -44,7 +45,8 @@ pub fn wheel_schedule(
 }
 
 // Moves the timer with the handle (slot, number), armed with the generation h, or removes it. Refuses (1, 4, 5, 12, 13).
-pub fn wheel_reschedule(
+#[no_mangle]
+pub extern "C" fn wheel_reschedule(
     nodes: &mut [Node],
     clock: &mut Clock,
     heads: &mut [usize],
@@ -80,7 +82,8 @@ pub fn wheel_reschedule(
 }
 
 // Removes the timer with the handle (slot, number), armed with the generation h. Refuses (1, 4, 5, 12, 13).
-pub fn wheel_deschedule(
+#[no_mangle]
+pub extern "C" fn wheel_deschedule(
     nodes: &mut [Node],
     clock: &mut Clock,
     heads: &mut [usize],

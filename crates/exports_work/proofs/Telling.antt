@@ -44,7 +44,7 @@ long-told P R R′ a a′ k x w f s v p =
           };
     }
 
-short-told : (P : Answer → Type 0) (R R′ : Records) (a : List ℕ) → length a < 5 → R′ ≡ R → Exported P R R′ a a 18
+short-told : (P : Answer → Type 0) (R R′ : Records) (a : List ℕ) → length a < 5 → R′ ≡ R → Exported P R R′ a a 255
 short-told P R R′ a f e = record { short = λ _. (refl, e, refl); long = λ h. absurd (omega (arith, f, h)) }
 
 -- nodes stored back from the table that they were read into
@@ -56,70 +56,70 @@ kept-same ns table l = go (leb (length ns) 4096) refl
     go false e = refl
 
 module _ {table : List Node} {n : ℕ} {c : Clock} {hs ts : List ℕ} {d : List Bool} {l m a : List ℕ} where
-  pub schedule-short : {e h : ℕ} → length a < 5 → ScheduleTold table n c hs ts hs ts d l m e h a a (record { table = table; clock = c; answer = 18 })
+  pub schedule-short : {e h : ℕ} → length a < 5 → ScheduleTold table n c hs ts hs ts d l m e h a a (record { table = table; clock = c; answer = 255 })
   schedule-short {e} {h} f = record { meets = λ ns e o. record { does = short-told _ _ _ a f (ap (λ (z : List Node). shown hs ts z d l m c) (kept-same ns table o)) } }
 
   pub schedule-long : {e h : ℕ} {hs′ ts′ : List ℕ} {a′ : List ℕ} {k : ℕ} {w : Words} {r : ScheduledMade} → 5 ≤ length a → ScheduleFor table n c hs ts hs′ ts′ d l m e h r → SaysScheduled (r .answer) w → Writes w a a′ k → ScheduleTold table n c hs ts hs′ ts′ d l m e h a a′ (record { table = r .table; clock = r .clock; answer = k })
   schedule-long {e} {h} {hs′} {ts′} {a′} {k} {w} {r} f p s v =
       record { meets = λ ns e o. record { does = long-told _ _ _ a a′ k (here.scheduledSays (r .answer)) w f (s .is) v (p .meets ns e o .meets) } }
 
-  pub reschedule-short : {x i h : ℕ} → length a < 5 → RescheduleTold table n c hs ts hs ts d l m x i h a a (record { table = table; clock = c; answer = 18 })
+  pub reschedule-short : {x i h : ℕ} → length a < 5 → RescheduleTold table n c hs ts hs ts d l m x i h a a (record { table = table; clock = c; answer = 255 })
   reschedule-short {x} {i} {h} f = record { meets = λ ns e o. record { does = short-told _ _ _ a f (ap (λ (z : List Node). shown hs ts z d l m c) (kept-same ns table o)) } }
 
   pub reschedule-long : {x i h : ℕ} {hs′ ts′ : List ℕ} {a′ : List ℕ} {k : ℕ} {w : Words} {r : RescheduledMade} → 5 ≤ length a → RescheduleFor table n c hs ts hs′ ts′ d l m x i h r → SaysRescheduled (r .answer) w → Writes w a a′ k → RescheduleTold table n c hs ts hs′ ts′ d l m x i h a a′ (record { table = r .table; clock = r .clock; answer = k })
   reschedule-long {x} {i} {h} {hs′} {ts′} {a′} {k} {w} {r} f p s v =
       record { meets = λ ns e o. record { does = long-told _ _ _ a a′ k (here.rescheduledSays (r .answer)) w f (s .is) v (p .meets ns e o .meets) } }
 
-  pub deschedule-short : {x i h : ℕ} → length a < 5 → DescheduleTold table n c hs ts hs ts d l m x i h a a (record { table = table; clock = c; answer = 18 })
+  pub deschedule-short : {x i h : ℕ} → length a < 5 → DescheduleTold table n c hs ts hs ts d l m x i h a a (record { table = table; clock = c; answer = 255 })
   deschedule-short {x} {i} {h} f = record { meets = λ ns e o. record { does = short-told _ _ _ a f (ap (λ (z : List Node). shown hs ts z d l m c) (kept-same ns table o)) } }
 
   pub deschedule-long : {x i h : ℕ} {hs′ ts′ : List ℕ} {a′ : List ℕ} {k : ℕ} {w : Words} {r : NotedMade} → 5 ≤ length a → DescheduleFor table n c hs ts hs′ ts′ d l m x i h r → SaysNoted (r .answer) w → Writes w a a′ k → DescheduleTold table n c hs ts hs′ ts′ d l m x i h a a′ (record { table = r .table; clock = r .clock; answer = k })
   deschedule-long {x} {i} {h} {hs′} {ts′} {a′} {k} {w} {r} f p s v =
       record { meets = λ ns e o. record { does = long-told _ _ _ a a′ k (there.notedSays (r .answer)) w f (s .is) v (p .meets ns e o .meets) } }
 
-  pub pull-short : length a < 5 → PullTold table n c hs ts hs ts d l m a a (record { table = table; clock = c; answer = 18 })
+  pub pull-short : length a < 5 → PullTold table n c hs ts hs ts d l m a a (record { table = table; clock = c; answer = 255 })
   pull-short f = record { meets = λ ns e o. record { does = short-told _ _ _ a f (ap (λ (z : List Node). shown hs ts z d l m c) (kept-same ns table o)) } }
 
   pub pull-long : {hs′ ts′ : List ℕ} {a′ : List ℕ} {k : ℕ} {w : Words} {r : PulledMade} → 5 ≤ length a → PullFor table n c hs ts hs′ ts′ d l m r → SaysPulled (r .answer) w → Writes w a a′ k → PullTold table n c hs ts hs′ ts′ d l m a a′ (record { table = r .table; clock = r .clock; answer = k })
   pull-long {hs′} {ts′} {a′} {k} {w} {r} f p s v =
       record { meets = λ ns e o. record { does = long-told _ _ _ a a′ k (here.pulledSays (r .answer)) w f (s .is) v (p .meets ns e o .meets) } }
 
-  pub enable-short : length a < 5 → EnableTold table n c hs ts hs ts d l m d l m a a (record { table = table; clock = c; answer = 18 })
+  pub enable-short : length a < 5 → EnableTold table n c hs ts hs ts d l m d l m a a (record { table = table; clock = c; answer = 255 })
   enable-short f = record { meets = λ ns e o. record { does = short-told _ _ _ a f (ap (λ (z : List Node). shown hs ts z d l m c) (kept-same ns table o)) } }
 
   pub enable-long : {hs′ ts′ : List ℕ} {d′ : List Bool} {l′ m′ : List ℕ} {a′ : List ℕ} {k : ℕ} {w : Words} {r : NotedMade} → 5 ≤ length a → EnableFor table n c hs ts hs′ ts′ d l m d′ l′ m′ r → SaysNoted (r .answer) w → Writes w a a′ k → EnableTold table n c hs ts hs′ ts′ d l m d′ l′ m′ a a′ (record { table = r .table; clock = r .clock; answer = k })
   enable-long {hs′} {ts′} {d′} {l′} {m′} {a′} {k} {w} {r} f p s v =
       record { meets = λ ns e o. record { does = long-told _ _ _ a a′ k (there.notedSays (r .answer)) w f (s .is) v (p .meets ns e o .meets) } }
 
-  pub start-short : {q : ℕ} → length a < 5 → StartTold table n c hs ts d l m q a a (record { clock = c; answer = 18 })
+  pub start-short : {q : ℕ} → length a < 5 → StartTold table n c hs ts d l m q a a (record { clock = c; answer = 255 })
   start-short {q} f = record { meets = λ ns e o. record { does = short-told _ _ _ a f (refl) } }
 
   pub start-long : {q : ℕ} {a′ : List ℕ} {k : ℕ} {w : Words} {r : NotedTurn} → 5 ≤ length a → StartFor table n c hs ts d l m q r → SaysNoted (r .answer) w → Writes w a a′ k → StartTold table n c hs ts d l m q a a′ (record { clock = r .clock; answer = k })
   start-long {q} {a′} {k} {w} {r} f p s v =
       record { meets = λ ns e o. record { does = long-told _ _ _ a a′ k (there.notedSays (r .answer)) w f (s .is) v (p .meets ns e o .meets) } }
 
-  pub abandon-short : length a < 5 → AbandonTold table n c hs ts d l m a a (record { clock = c; answer = 18 })
+  pub abandon-short : length a < 5 → AbandonTold table n c hs ts d l m a a (record { clock = c; answer = 255 })
   abandon-short f = record { meets = λ ns e o. record { does = short-told _ _ _ a f (refl) } }
 
   pub abandon-long : {a′ : List ℕ} {k : ℕ} {w : Words} {r : NotedTurn} → 5 ≤ length a → AbandonFor table n c hs ts d l m r → SaysNoted (r .answer) w → Writes w a a′ k → AbandonTold table n c hs ts d l m a a′ (record { clock = r .clock; answer = k })
   abandon-long {a′} {k} {w} {r} f p s v =
       record { meets = λ ns e o. record { does = long-told _ _ _ a a′ k (there.notedSays (r .answer)) w f (s .is) v (p .meets ns e o .meets) } }
 
-  pub set-entry-short : {e : ℕ} {has : Bool} {b h : ℕ} → length a < 5 → SetEntryTold table n c hs ts d l m d l m e has b h a a 18
+  pub set-entry-short : {e : ℕ} {has : Bool} {b h : ℕ} → length a < 5 → SetEntryTold table n c hs ts d l m d l m e has b h a a 255
   set-entry-short {e} {has} {b} {h} f = record { meets = λ ns e o. record { does = short-told _ _ _ a f (refl) } }
 
   pub set-entry-long : {e : ℕ} {has : Bool} {b h : ℕ} {d′ : List Bool} {l′ m′ : List ℕ} {a′ : List ℕ} {k : ℕ} {w : Words} {r : Noted} → 5 ≤ length a → SetEntryFor table n c hs ts d l m d′ l′ m′ e has b h r → SaysNoted (r) w → Writes w a a′ k → SetEntryTold table n c hs ts d l m d′ l′ m′ e has b h a a′ k
   set-entry-long {e} {has} {b} {h} {d′} {l′} {m′} {a′} {k} {w} {r} f p s v =
       record { meets = λ ns e o. record { does = long-told _ _ _ a a′ k (there.notedSays (r)) w f (s .is) v (p .meets ns e o .meets) } }
 
-  pub armed-count-short : length a < 5 → ArmedCountTold table n c hs ts d l m a a 18
+  pub armed-count-short : length a < 5 → ArmedCountTold table n c hs ts d l m a a 255
   armed-count-short f = record { meets = λ ns e o. record { does = short-told _ _ _ a f (refl) } }
 
   pub armed-count-long : {a′ : List ℕ} {k : ℕ} {w : Words} {r : Counted} → 5 ≤ length a → ArmedCountFor table n c hs ts d l m r → SaysCounted (r) w → Writes w a a′ k → ArmedCountTold table n c hs ts d l m a a′ k
   armed-count-long {a′} {k} {w} {r} f p s v =
       record { meets = λ ns e o. record { does = long-told _ _ _ a a′ k (there.countedSays (r)) w f (s .is) v (p .meets ns e o .meets) } }
 
-  pub next-due-short : length a < 5 → NextDueTold table n c hs ts d l m a a 18
+  pub next-due-short : length a < 5 → NextDueTold table n c hs ts d l m a a 255
   next-due-short f = record { meets = λ ns e o. record { does = short-told _ _ _ a f (refl) } }
 
   pub next-due-long : {a′ : List ℕ} {k : ℕ} {w : Words} {r : Due} → 5 ≤ length a → NextDueFor table n c hs ts d l m r → SaysDue (r) w → Writes w a a′ k → NextDueTold table n c hs ts d l m a a′ k

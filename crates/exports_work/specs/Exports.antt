@@ -20,9 +20,9 @@ pub record Tells (promise : Answer → Type 0) (a a′ : List ℕ) (r : ℕ) : T
   pub words : a′ ≡ wordsOf answer ++ drop 5 a
   pub number : r ≡ getD (wordsOf answer) 0 0
 
--- where fewer than five numbers are lent the result is 18, which no refusal of 01 has, and nothing is changed
+-- where fewer than five numbers are lent the result is 255, which is no refusal's number, and nothing is changed
 pub record Exported (promise : Answer → Type 0) (R R′ : Records) (a a′ : List ℕ) (r : ℕ) : Type 0 where
-  pub short : length a < 5 → (r ≡ 18) × (R′ ≡ R) × (a′ ≡ a)
+  pub short : length a < 5 → (r ≡ 255) × (R′ ≡ R) × (a′ ≡ a)
   pub long : 5 ≤ length a → Tells promise a a′ r
 
 pub record ExportEnable (R R′ : Records) (a a′ : List ℕ) (r : ℕ) : Type 0 where

@@ -1,5 +1,5 @@
 // The work of the wheel's calls over lent nodes that answer in numbers: the refusal's number, or 0, as the result, and the answer in five lent numbers.
-// Every call answers for every input; where fewer than five numbers are lent for the answer the result is 18, and nothing is done. No `requires`, but in words.
+// Every call answers for every input; where fewer than five numbers are lent for the answer the result is 255, which is no refusal's number, and nothing is done. No `requires`, but in words.
 pub mod words; // answers as numbers
 pub mod advancing; // pull, start, abandon
 pub mod counts; // armed count, next due
@@ -11,7 +11,7 @@ use nodes::Node;
 use records::Clock;
 
 // The result where fewer than five numbers are lent for the answer. No refusal has this number.
-pub const SHORT: u64 = 18;
+pub const SHORT: u64 = 255;
 
 // What a call leaves: the nodes, the clock, and the refusal's number, or 0.
 pub struct ToldMade {

@@ -14,6 +14,7 @@ pub use records::Clock;
 pub use settings::set_entry;
 
 // Create: the clock, and heads and tails with no slot in any bucket.
+#[repr(C)]
 pub struct Created {
     pub clock: Clock,
     pub heads: [usize; 165],
