@@ -1,6 +1,5 @@
 -- The records stay those of one deque: what each call of the workloads asks, and what it leaves. Assumes nothing.
-use Prim.Native.Nat.{ℕ, _≤_, _<_, _%_}
-use native.Mathlib.Nat.{mod-lt}
+use Prim.Native.Nat.{ℕ, _≤_, _<_}
 use native.Mathlib.Omega.{arith}
 use mathlib.Core.Path.{_≡_, refl, sym, ap, subst, _∙_}
 use mathlib.Core.Logic.{inl, ⊎-elim}
@@ -67,12 +66,12 @@ module _ (a : State) (free : ℕ) where
   pub retaken-full : (b : State) (e r : ℕ) → Lacks a free → Pushes a b free 0 e r → Full b r
   retaken-full b e r y p = record { v = _; shows = p .does (y .v) (y .shows); one = y .one; none-free = ap rest (y .last) }
 
-  -- a number modulo the number of nodes is a node
-  pub mod-below : (x n : ℕ) → Full a free → nodes a ≡ n → x % n < nodes a
-  mod-below x n y i = rw i (mod-lt x (omega (arith, i, y .shows .lent .nodes .some)))
+  -- there are nodes to choose from, and what is chosen is a node of the deque
+  pub ready-size : Ready a free → (0 < nodes a) × (nodes a ≤ 4096)
+  ready-size y = (omega (arith, y .shows .lent .nodes .some), omega (arith, y .shows .lent .nodes .small))
 
-  pub mod-node : (x n : ℕ) → Full a free → nodes a ≡ n → NodeReady a free 0 (x % n)
-  mod-node x n y i = node-asks (x % n) y (mod-below x n y i)
+  pub chosen-node : (s n : ℕ) → Full a free → nodes a ≡ n → s < n → NodeReady a free 0 s
+  chosen-node s n y i h = node-asks s y (rw i h)
 
   -- where the first free node is no node, none is free
   none-left : (xs : List ℕ) → first xs ≡ free → ((x : ℕ) → In x xs → x < nodes a) → nodes a ≤ free → xs ≡ []
@@ -109,7 +108,3 @@ module _ (a : State) (free : ℕ) where
   pub tested-ready : (good : Bool) → Tested a free good → not good ≡ false → Ready a free
   tested-ready true t i = t .ready refl
   tested-ready false t i = let z : _≡_ {A = ℕ} 0 1 = cc in absurd (omega (arith, z))
-
--- a number modulo the number of nodes is a node
-pub below-mod : (h t l c n p o e : List ℕ) (free x m : ℕ) → Full (state h t l c n p o e) free → length n ≡ m → x % m < length n
-below-mod h t l c n p o e free x m y i = mod-below (state h t l c n p o e) free x m y i

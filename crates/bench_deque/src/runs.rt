@@ -1,5 +1,5 @@
 // For proved code only, unchecked: runs of calls on one deque whose records are sound.
-ghost use Prim.Native.Nat.{_<_};
+ghost use Prim.Native.Nat.{_≤_, _<_};
 ghost use lib.ListN.{length};
 ghost use Rattle.deque_sound.specs.State.{state};
 ghost use Rattle.bench_deque.specs.Ready.{Ready, Full};
@@ -8,6 +8,8 @@ use crate::steps::push_pop;
 use crate::steps::replace;
 use crate::steps::step;
 use deque_work::unchecked;
+
+const HALF: u64 = 0x1_0000_0000;
 
 // What filling leaves: the first free node, and the generator's last number.
 pub struct Filled {
@@ -20,6 +22,14 @@ fn following(x: u64) -> u64 {
     let a = x ^ (x << 13);
     let b = a ^ (a >> 7);
     b ^ (b << 17)
+}
+
+// The node that the number x chooses out of so many: the upper half of x times the count, without its lower half.
+fn chosen(x: u64, nodes: u64) -> usize
+    requires { ⌜ (0 < nodes) × (nodes ≤ 4096) ⌝ }
+    ensures { λ r. ⌜ r < nodes ⌝ }
+{
+    ((x / HALF) * nodes / HALF) as usize
 }
 
 // Pushes so many numbers.
@@ -127,6 +137,7 @@ pub fn rotate(
     while left > 0 {
         left -= 1;
         x = following(x);
+        let s = chosen(x, nodes);
         unchecked::shift(
             heads,
             tails,
@@ -138,7 +149,7 @@ pub fn rotate(
             element,
             free,
             0,
-            (x % nodes) as usize,
+            s,
         );
     }
 }
@@ -169,6 +180,7 @@ pub fn drop_some(
     while left > 0 {
         left -= 1;
         x = following(x);
+        let s = chosen(x, nodes);
         spare = replace(
             heads,
             tails,
@@ -179,7 +191,7 @@ pub fn drop_some(
             home,
             element,
             spare,
-            (x % nodes) as usize,
+            s,
             x,
         );
     }

@@ -12,10 +12,15 @@ use deque::answer::Made;
 use deque::calls;
 
 pub const QUEUE: u64 = 0;
+
 pub const MOVE: u64 = 1;
+
 pub const UNLINK: u64 = 2;
+
 pub const WALK: u64 = 3;
+
 pub const CHECKED: u64 = 4;
+
 pub const NO_WORKLOAD: u64 = 5;
 
 // Runs the workload on one deque over so many nodes: its digest, or 0 where there are more than 4,096 nodes or no such workload.
@@ -46,22 +51,31 @@ pub extern "C" fn run_workload(workload: u64, nodes: u64, calls: u64, x: u64) ->
     )
 }
 
-// Runs the workload on the first n nodes.
+// Runs the workload on the first n nodes, 0 where there are not so many.
 fn run_lent(
-    heads: &mut [usize; 1],
-    tails: &mut [usize; 1],
-    lens: &mut [usize; 1],
-    cursors: &mut [usize; 1],
-    next: &mut [usize; 4096],
-    prev: &mut [usize; 4096],
-    home: &mut [usize; 4096],
-    element: &mut [u64; 4096],
+    heads: &mut [usize],
+    tails: &mut [usize],
+    lens: &mut [usize],
+    cursors: &mut [usize],
+    next: &mut [usize],
+    prev: &mut [usize],
+    home: &mut [usize],
+    element: &mut [u64],
     workload: u64,
     n: usize,
     calls: u64,
     x: u64,
 ) -> u64 {
-    if n > 4096 {
+    if next.len() < n {
+        return 0;
+    }
+    if prev.len() < n {
+        return 0;
+    }
+    if home.len() < n {
+        return 0;
+    }
+    if element.len() < n {
         return 0;
     }
     digest_of(

@@ -1,46 +1,50 @@
--- `run` is safe and ends. Nothing has to hold from turn to turn; the measure is the number of turns that are left. Assumes nothing.
+-- `bench_deque::run` is safe and ends. What is written keeps its length; the measure is the number of turns that are left. Assumes nothing.
 use borrow.Author.Needs.{needs}
+use native.Mathlib.Omega.{arith}
+use mathlib.Core.Path.{_≡_}
+use lib.ListN.{length}
 use Rattle.bench_deque.proofs.run.Statement.{statement}
 use Rattle.bench_deque.proofs.run.Tie as tie
 
 abbrev Inv-loop : tie.InvT-loop
-Inv-loop heads₀ tails₀ lens₀ cursors₀ next₀ prev₀ home₀ element₀ block₀ line₀ out₀ input₀ turns₀ heads tails lens cursors next prev home element block line out input turns = Unit {0}
+Inv-loop block₀ line₀ out₀ source₀ waiting₀ turns₀ block line out source waiting turns =
+    (length block ≡ length block₀) × (length line ≡ length line₀) × (length out ≡ length out₀)
 
 abbrev μ-loop : tie.MeasureT-loop
-μ-loop heads₀ tails₀ lens₀ cursors₀ next₀ prev₀ home₀ element₀ block₀ line₀ out₀ input₀ turns₀ heads tails lens cursors next prev home element block line out input turns = turns
+μ-loop block₀ line₀ out₀ source₀ waiting₀ turns₀ block line out source waiting turns = turns
 
-unread-requires : tie.Need-unread-requires Inv-loop μ-loop
-unread-requires c κs = search needs
+begin-requires : tie.Need-begin-requires Inv-loop μ-loop
+begin-requires c κs = search needs
 
 loop-holds : tie.Need-loop-holds Inv-loop μ-loop
 loop-holds c = search needs
 
-advance-requires : tie.Need-advance-requires Inv-loop μ-loop
-advance-requires c κs = search needs
+next-line-requires : tie.Need-next-line-requires Inv-loop μ-loop
+next-line-requires c κs = search needs
 
-left-after-requires : tie.Need-left-after-requires Inv-loop μ-loop
-left-after-requires c κs = search needs
+answer-line-requires : tie.Need-answer-line-requires Inv-loop μ-loop
+answer-line-requires c κs = search needs
 
-held-request-requires : tie.Need-held-request-requires Inv-loop μ-loop
-held-request-requires c κs = search needs
-
-answer-requires : tie.Need-answer-requires Inv-loop μ-loop
-answer-requires c κs = search needs
-
-say-requires : tie.Need-say-requires Inv-loop μ-loop
-say-requires c κs = search needs
-
-answered-requires : tie.Need-answered-requires Inv-loop μ-loop
-answered-requires c κs = search needs
+turns-left-requires : tie.Need-turns-left-requires Inv-loop μ-loop
+turns-left-requires c κs = search needs
 
 loop-less : tie.Need-loop-less Inv-loop μ-loop
-loop-less c = search needs
+loop-less c = c .turns-left .ensures .less (omega arith)
 
 loop-again : tie.Need-loop-again Inv-loop μ-loop
 loop-again c = search needs
 
 flush-requires : tie.Need-flush-requires Inv-loop μ-loop
 flush-requires c κs = search needs
+
+same-length : tie.Need-same-length Inv-loop μ-loop
+same-length c = search needs
+
+same-length-2 : tie.Need-same-length-2 Inv-loop μ-loop
+same-length-2 c = search needs
+
+same-length-3 : tie.Need-same-length-3 Inv-loop μ-loop
+same-length-3 c = search needs
 
 returns : tie.Need-returns Inv-loop μ-loop
 returns c = search needs
@@ -51,15 +55,15 @@ run-spec =
     (tie.spec
     Inv-loop
     μ-loop
-    unread-requires
+    begin-requires
     loop-holds
-    advance-requires
-    left-after-requires
-    held-request-requires
-    answer-requires
-    say-requires
-    answered-requires
+    next-line-requires
+    answer-line-requires
+    turns-left-requires
     loop-less
     loop-again
     flush-requires
+    same-length
+    same-length-2
+    same-length-3
     returns)

@@ -3,7 +3,8 @@ use mathlib.Core.Path.{_≡_}
 use lib.ListN.{length}
 use Rattle.deque_sound.specs.State.{state}
 use Rattle.bench_deque.specs.Ready.{Full}
-use Rattle.bench_deque.proofs.Standing.{full-asks, below-mod}
+use Rattle.bench_deque.proofs.Standing.{ready-size, full-asks}
+use native.Mathlib.Omega.{arith}
 use borrow.Author.Needs.{needs}
 use Rattle.bench_deque.proofs.runs.drop_some.Statement.{statement}
 use Rattle.bench_deque.proofs.runs.drop_some.Tie as tie
@@ -26,11 +27,11 @@ sub-left c = search needs
 following-requires : tie.Need-following-requires Inv-loop μ-loop
 following-requires c κs = search needs
 
-rem-replace : tie.Need-rem-replace Inv-loop μ-loop
-rem-replace c = search needs
+chosen-requires : tie.Need-chosen-requires Inv-loop μ-loop
+chosen-requires c κs = ready-size _ _ (c .before .before .before .before .before .before .before .before .before .before .before .before .pre)
 
 replace-requires : tie.Need-replace-requires Inv-loop μ-loop
-replace-requires c κs = (search needs, search below-mod)
+replace-requires c κs = (search needs, omega arith)
 
 loop-less : tie.Need-loop-less Inv-loop μ-loop
 loop-less c = search needs
@@ -75,7 +76,7 @@ drop-some-spec =
     loop-holds
     sub-left
     following-requires
-    rem-replace
+    chosen-requires
     replace-requires
     loop-less
     loop-again

@@ -3,16 +3,16 @@ use mathlib.Core.Path.{_≡_}
 use lib.ListN.{length}
 use Rattle.deque_sound.specs.State.{state}
 use Rattle.bench_deque.specs.Ready.{Full}
-use Rattle.bench_deque.proofs.Standing.{full-asks, mod-node, moved-full}
+use Rattle.bench_deque.proofs.Standing.{ready-size, full-asks, chosen-node, moved-full}
 use borrow.Author.Needs.{needs}
 use Rattle.bench_deque.proofs.runs.rotate.Statement.{statement}
 use Rattle.bench_deque.proofs.runs.rotate.Tie as tie
 
 abbrev Inv-loop : tie.InvT-loop
-Inv-loop heads₀ tails₀ lens cursors₀ next₀ prev₀ home₀ element free calls first nodes x₀ left₀ heads tails cursors next prev home x left = Full (state heads tails lens cursors next prev home element) free × ((length next ≡ nodes) × (length heads ≡ length heads₀) × (length tails ≡ length tails₀) × (length cursors ≡ length cursors₀) × (length next ≡ length next₀) × (length prev ≡ length prev₀) × (length home ≡ length home₀))
+Inv-loop heads₀ tails₀ lens cursors₀ next₀ prev₀ home element free calls first nodes x₀ left₀ heads tails cursors next prev x left = Full (state heads tails lens cursors next prev home element) free × ((length next ≡ nodes) × (length heads ≡ length heads₀) × (length tails ≡ length tails₀) × (length cursors ≡ length cursors₀) × (length next ≡ length next₀) × (length prev ≡ length prev₀))
 
 abbrev μ-loop : tie.MeasureT-loop
-μ-loop heads₀ tails₀ lens cursors₀ next₀ prev₀ home₀ element free calls first nodes x₀ left₀ heads tails cursors next prev home x left = left
+μ-loop heads₀ tails₀ lens cursors₀ next₀ prev₀ home element free calls first nodes x₀ left₀ heads tails cursors next prev x left = left
 
 returns : tie.Need-returns Inv-loop μ-loop
 returns c = search needs
@@ -26,11 +26,14 @@ sub-left c = search needs
 following-requires : tie.Need-following-requires Inv-loop μ-loop
 following-requires c κs = search needs
 
-rem-shift : tie.Need-rem-shift Inv-loop μ-loop
-rem-shift c = search needs
+chosen-requires : tie.Need-chosen-requires Inv-loop μ-loop
+chosen-requires c κs = ready-size _ _ (c .before .before .before .before .before .before .before .before .before .before .before .before .pre)
 
 shift-requires : tie.Need-shift-requires Inv-loop μ-loop
-shift-requires c κs = search mod-node
+shift-requires c κs =
+    let e = c .before .before .before .before .before in
+    let l = e .before .before .before .loop .inv in
+    chosen-node _ _ _ _ (l .0) (l .1 .0) (e .chosen .ensures)
 
 loop-less : tie.Need-loop-less Inv-loop μ-loop
 loop-less c = search needs
@@ -53,9 +56,6 @@ same-length-4 c = search needs
 same-length-5 : tie.Need-same-length-5 Inv-loop μ-loop
 same-length-5 c = search needs
 
-same-length-6 : tie.Need-same-length-6 Inv-loop μ-loop
-same-length-6 c = search needs
-
 returns-2 : tie.Need-returns-2 Inv-loop μ-loop
 returns-2 c = search needs
 
@@ -69,7 +69,7 @@ rotate-spec =
     loop-holds
     sub-left
     following-requires
-    rem-shift
+    chosen-requires
     shift-requires
     loop-less
     loop-again
@@ -78,5 +78,4 @@ rotate-spec =
     same-length-3
     same-length-4
     same-length-5
-    same-length-6
     returns-2)

@@ -1,10 +1,10 @@
--- `perform` lends parts that the records have. Assumes nothing.
+-- `run_lent` lends parts that the records have. Assumes nothing.
 use native.Mathlib.Omega.{arith}
 use mathlib.Core.Path.{sym}
 use lib.Seq.{length-take-le}
 use borrow.Author.Needs.{needs}
-use Rattle.bench_deque.proofs.perform.Statement.{statement}
-use Rattle.bench_deque.proofs.perform.Tie as tie
+use Rattle.bench_deque.proofs.work.run_lent.Statement.{statement}
+use Rattle.bench_deque.proofs.work.run_lent.Tie as tie
 
 returns : tie.Need-returns
 returns c = search needs
@@ -72,8 +72,8 @@ same-length-8 c = search needs
 returns-5 : tie.Need-returns-5
 returns-5 c = search needs
 
-pub perform-spec : {M : Type 1} → statement M
-perform-spec =
+pub run-lent-spec : {M : Type 1} → statement M
+run-lent-spec =
     tie.close
     (tie.spec
     returns
