@@ -6,6 +6,12 @@ use crate::lines::digest;
 use crate::Numbers;
 use std::ptr::NonNull;
 
+/// The slot that a number chooses out of so many: its upper half times their count, without its lower half. A remainder would
+/// take longer than the call that is measured.
+fn chosen(number: u64, nodes: u64) -> usize {
+    (((number >> 32) * nodes) >> 32) as usize
+}
+
 /// A deque and its nodes by slot; a slot is the number of its push.
 struct Filled {
     deque: Deque<u64>,
@@ -38,8 +44,8 @@ fn queue(nodes: u64, calls: u64, numbers: &mut Numbers) -> u64 {
 fn rotate(nodes: u64, calls: u64, numbers: &mut Numbers) -> u64 {
     let mut filled = Filled::new(nodes, numbers);
     for _ in 0..calls {
-        let slot = numbers.next() % nodes;
-        unsafe { filled.deque.move_to_back(filled.nodes[slot as usize]) };
+        let slot = chosen(numbers.next(), nodes);
+        unsafe { filled.deque.move_to_back(filled.nodes[slot]) };
     }
     filled.digest()
 }
@@ -48,7 +54,7 @@ fn unlink(nodes: u64, calls: u64, numbers: &mut Numbers) -> u64 {
     let mut filled = Filled::new(nodes, numbers);
     for _ in 0..calls {
         let x = numbers.next();
-        let slot = (x % nodes) as usize;
+        let slot = chosen(x, nodes);
         unsafe { filled.deque.unlink_and_drop(filled.nodes[slot]) };
         filled.nodes[slot] = filled.deque.push_back(Box::new(DeqNode::new(x)));
     }

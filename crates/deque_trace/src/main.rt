@@ -1,25 +1,21 @@
 // Speaks the trace format for the deque: calls on standard input, an answer for each on standard
 // output. Assumes nothing.
 mod answers;
-mod input;
 mod parse;
 mod records;
 mod state;
 mod work;
 
-ghost use Prim.Native.Nat.{_≤_, _<_};
-use input::Input;
-use input::advance;
-use input::answered;
-use input::unread;
+ghost use Prim.Native.Nat.{_≤_};
+use lines::Source;
 use parse::call_of;
 use state::State;
 use state::answer;
 use state::before_make;
 use state::say_reply;
 
-// What a turn leaves: the state, and how many bytes of answers wait.
-struct Step {
+// What goes from line to line: the state, and how many bytes of answers wait.
+struct Progress {
     state: State,
     waiting: usize,
 }
@@ -51,8 +47,7 @@ fn main() {
     );
 }
 
-// Reads and answers line by line to the end of the input. A proved loop has to end, so this one
-// counts its turns down from a number that no run uses up.
+// Answers line by line to the end of the input.
 fn run(
     heads: &mut [usize; 256],
     tails: &mut [usize; 256],
@@ -66,13 +61,12 @@ fn run(
     line: &mut [u8; 257],
     out: &mut [u8; 65536],
 ) {
-    let mut s = before_make();
-    let mut input = unread();
+    let mut source = lines::begin();
+    let mut p = at_start();
     let mut turns = u64::MAX;
     while turns > 0 {
-        input = advance(block, line, out, input);
-        turns = left_after(turns, input.open);
-        let step = respond(
+        source = lines::next_line(block, line, source);
+        p = respond(
             heads,
             tails,
             lens,
@@ -83,25 +77,22 @@ fn run(
             element,
             line,
             out,
-            s,
-            input,
+            p,
+            source,
         );
-        let after = step.state;
-        s = after;
-        input = answered(input, step.waiting);
+        turns = lines::turns_left(turns, source.more);
     }
-    lines::flush(out, input.waiting);
+    lines::flush(out, p.waiting);
 }
 
-// The turns that are left after one more: none at the end of the input.
-fn left_after(turns: u64, open: bool) -> u64
-    requires { ⌜ 0 < turns ⌝ }
-    ensures { λ r. ⌜ r < turns ⌝ }
+fn at_start() -> Progress
+    ensures { λ r. ⌜ (r .state .deques ≤ 256) × (r .state .nodes ≤ 4096) ⌝ }
 {
-    if open { turns - 1 } else { 0 }
+    let state = before_make();
+    Progress { state, waiting: 0 }
 }
 
-// Answers the line that is held, if it has ended.
+// Answers the line that was found, if there was one.
 fn respond(
     heads: &mut [usize; 256],
     tails: &mut [usize; 256],
@@ -113,19 +104,17 @@ fn respond(
     element: &mut [u64; 4096],
     line: &[u8; 257],
     out: &mut [u8; 65536],
-    s: State,
-    input: Input,
-) -> Step
-    requires { ⌜ (s .deques ≤ 256) × (s .nodes ≤ 4096) ⌝ }
+    p: Progress,
+    source: Source,
+) -> Progress
+    requires { ⌜ (p .state .deques ≤ 256) × (p .state .nodes ≤ 4096) ⌝ }
     ensures { λ r. ⌜ (r .state .deques ≤ 256) × (r .state .nodes ≤ 4096) ⌝ }
 {
-    if !input.ended {
-        return Step {
-            state: s,
-            waiting: input.waiting,
-        };
+    if !source.more {
+        return p;
     }
-    let call = call_of(lines::first(line, input.held));
+    let call = call_of(lines::first(line, source.held));
+    let s = p.state;
     let turn = answer(
         heads,
         tails,
@@ -140,9 +129,9 @@ fn respond(
     );
     let reply = turn.reply;
     let state = turn.state;
-    let waiting = say_reply(
+    let said = say_reply(
         out,
-        input.waiting,
+        p.waiting,
         heads,
         tails,
         lens,
@@ -154,5 +143,8 @@ fn respond(
         state,
         reply,
     );
-    Step { state, waiting }
+    Progress {
+        state,
+        waiting: lines::settle(out, said, source),
+    }
 }

@@ -12,7 +12,7 @@ use mir.Syntax.{w64}
 use mir.Val.{Fits}
 use Rattle.links.specs.Chain.{none, In}
 use Rattle.links.specs.Lists.{Links, Lists, links, homeOf, deq, Rep, taken}
-use Rattle.links.specs.Change.{cutOut, Linkable, Held, Movable, LinksBack, CutsOut, MovesBack}
+use Rattle.links.specs.Change.{cutOut, Linkable, Held, Ahead, LinksBack, CutsOut, MovesBack}
 use Rattle.links.specs.Free.{handBack, Takes, GivesBack}
 use Rattle.links.proofs.Slots.{same?}
 use Rattle.links.proofs.Freeing.{take-does}
@@ -81,8 +81,8 @@ module _ (h t l c n p o e : List ℕ) (free d : ℕ) where
     pub node-held : Held (links h t n p o) s
     node-held = record { v = y .v; loose = []; rep = y .shows .rep; slot = y .slot; homed = homed }
 
-    pub node-movable : Movable (links h t n p o) d s
-    node-movable = record { v = y .v; loose = []; rep = y .shows .rep; slot = y .slot; homed = homed; deque = y .deque }
+    pub node-ahead : (getD t d 0 ≡ s → ⊥) → Ahead (links h t n p o) d s
+    node-ahead i = record { held = record { v = y .v; loose = []; rep = y .shows .rep; slot = y .slot; deque = y .deque; homed = y .homed }; not-last = i }
 
     pub node-some : 1 ≤ getD l d 0
     node-some = length-some a free (y .v) (y .shows) d s (y .slot) (y .deque) (y .homed)

@@ -13,7 +13,7 @@ use crate::PAST_END;
 use crate::answer::Looked;
 use crate::answer::Popped;
 use links::change::link_back;
-use links::change::move_back;
+use links::change::send_back;
 use links::change::unlink;
 use links::free::give_back;
 use links::free::take;
@@ -155,20 +155,20 @@ pub fn shift(
     cursors: &mut [usize],
     next: &mut [usize],
     prev: &mut [usize],
-    home: &mut [usize],
+    home: &[usize],
     element: &[u64],
     free: usize,
     d: usize,
     s: usize,
 )
     requires { ⌜ NodeReady (state (now heads) (now tails) (now lens) (now cursors) (now next) (now prev) (now home) (now element)) free d s ⌝ }
-    ensures { λ _. ⌜ Moves (state (now (heads .entry)) (now (tails .entry)) (now (lens .entry)) (now (cursors .entry)) (now (next .entry)) (now (prev .entry)) (now (home .entry)) (now (element .entry))) (state (now (heads .exit)) (now (tails .exit)) (now (lens .entry)) (now (cursors .exit)) (now (next .exit)) (now (prev .exit)) (now (home .exit)) (now (element .entry))) free d s ⌝ }
+    ensures { λ _. ⌜ Moves (state (now (heads .entry)) (now (tails .entry)) (now (lens .entry)) (now (cursors .entry)) (now (next .entry)) (now (prev .entry)) (now (home .entry)) (now (element .entry))) (state (now (heads .exit)) (now (tails .exit)) (now (lens .entry)) (now (cursors .exit)) (now (next .exit)) (now (prev .exit)) (now (home .entry)) (now (element .entry))) free d s ⌝ }
 {
     if tails[d] == s {
         return;
     }
     step_off(cursors, next, d, s);
-    move_back(heads, tails, next, prev, home, d, s);
+    send_back(heads, tails, next, prev, home, d, s);
 }
 
 // The front of the deque d, if there is one.

@@ -1,11 +1,21 @@
-// Enable, answered in numbers. No `requires`. A refused call leaves every record as found.
+// Create, and enable answered in numbers. No `requires`. A refused call leaves every record as found.
 ghost use Rattle.nodes.specs.Shown.{shown};
 ghost use Rattle.exports_work.specs.Exports.{ExportEnable};
+ghost use Rattle.wheel.specs.Calls.{Create};
 use exports_work::making::enable_told;
 use nodes::Node;
 use nodes::load;
 use nodes::store;
 use records::Clock;
+use wheel::Created;
+
+// Begins a wheel with this first serial: clock, heads and tails by value. Never refused.
+#[no_mangle]
+pub extern "C" fn wheel_create(first: u64) -> Created
+    ensures { λ r. ⌜ Create first (r .clock) (r .heads) (r .tails) ⌝ }
+{
+    wheel::create(first)
+}
 
 // Lays the lent nodes and entries out as a wheel with no timer. Refuses (2, 3).
 #[no_mangle]

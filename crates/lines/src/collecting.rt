@@ -111,7 +111,7 @@ fn read_more(block: &mut [u8], line: &mut [u8], held: usize) -> Reads {
 
 // Reads some of standard input into block and answers how many bytes it has now: 0 at the end of
 // the input, or where it cannot be read.
-pub fn read_block(block: &mut [u8]) -> usize
+fn read_block(block: &mut [u8]) -> usize
     ensures { λ r. ⌜ Counts r (now (block .exit)) ⌝ }
 {
     let got = libc::read(STDIN_FILENO, block);
@@ -120,7 +120,7 @@ pub fn read_block(block: &mut [u8]) -> usize
 
 // Takes block's bytes from `from` on into line, which holds `kept` bytes of the same line already,
 // up to the line's end or the end of the block. Bytes that line has no room for are passed over.
-pub fn collect(block: &[u8], from: usize, line: &mut [u8], kept: usize) -> Collected
+fn collect(block: &[u8], from: usize, line: &mut [u8], kept: usize) -> Collected
     ensures { λ r. ⌜ Collects (now (block .entry)) from (now (line .entry)) kept (now (line .exit)) r ⌝ }
 {
     let mut i = from;

@@ -86,6 +86,11 @@ pub record HeldBy (a : Links) (d s : ℕ) : Type 0 where
   pub deque : d < v .count
   pub homed : homeOf a s ≡ d
 
+-- s is in the deque d, and not its last
+pub record Ahead (a : Links) (d s : ℕ) : Type 0 where
+  pub held : HeldBy a d s
+  pub not-last : getD (a .tails) d 0 ≡ s → ⊥
+
 -- ---- what the functions do
 pub record LinksBack (a b : Links) (d s : ℕ) : Type 0 where
   pub is : b ≡ linkBack a d s

@@ -1,6 +1,6 @@
-// For proved code only, unchecked: link at the back, unlink, turn until a member is last. Each takes constant time.
+// For proved code only, unchecked: link at the back, unlink, move to the back, turn until a member is last. Each takes constant time.
 ghost use Rattle.links.specs.Lists.{links};
-ghost use Rattle.links.specs.Change.{CanPut, Puts, Linkable, LinksBack, Held, CutsOut, Movable, MovesBack, HeldBy, Turns};
+ghost use Rattle.links.specs.Change.{CanPut, Puts, Linkable, LinksBack, Held, CutsOut, Movable, MovesBack, HeldBy, Ahead, Turns};
 use crate::NONE;
 
 // The slot after p in the deque d is q from now on: the head, where p is NONE. With tails and prev: the slot before p.
@@ -71,6 +71,30 @@ pub fn move_back(
 {
     unlink(heads, tails, next, prev, home, s);
     link_back(heads, tails, next, prev, home, d, s);
+}
+
+// Moves the slot s, which is not last, to the back of its own deque d: what `move_back` writes, with no home read or written and no choice but at the front.
+pub fn send_back(
+    heads: &mut [usize],
+    tails: &mut [usize],
+    next: &mut [usize],
+    prev: &mut [usize],
+    home: &[usize],
+    d: usize,
+    s: usize,
+)
+    requires { ⌜ Ahead (links (now heads) (now tails) (now next) (now prev) (now home)) d s ⌝ }
+    ensures { λ _. ⌜ MovesBack (links (now (heads .entry)) (now (tails .entry)) (now (next .entry)) (now (prev .entry)) (now (home .entry))) (links (now (heads .exit)) (now (tails .exit)) (now (next .exit)) (now (prev .exit)) (now (home .entry))) d s ⌝ }
+{
+    let p = prev[s];
+    let q = next[s];
+    let t = tails[d];
+    prev[q] = p;
+    put(heads, next, d, p, q);
+    next[s] = NONE;
+    next[t] = s;
+    prev[s] = t;
+    tails[d] = s;
 }
 
 // Turns the deque d until its member s is last: what stood after s, what stood before it, s. The records are those of moving nodes from front to back

@@ -1,40 +1,38 @@
 -- `run` ends, and keeps the lent counts within the records. The measure is the number of turns that are left. Assumes nothing.
 use Prim.Native.Nat.{_≤_}
+use native.Mathlib.Omega.{arith}
 use borrow.Author.Needs.{needs}
 use Rattle.deque_trace.proofs.run.Statement.{statement}
 use Rattle.deque_trace.proofs.run.Tie as tie
 
 abbrev Inv-loop : tie.InvT-loop
-Inv-loop heads₀ tails₀ lens₀ cursors₀ next₀ prev₀ home₀ element₀ block₀ line₀ out₀ s₀ input₀ turns₀ heads tails lens cursors next prev home element block line out s input turns =
-    (s .deques ≤ 256) × (s .nodes ≤ 4096)
+Inv-loop heads₀ tails₀ lens₀ cursors₀ next₀ prev₀ home₀ element₀ block₀ line₀ out₀ source₀ p₀ turns₀ heads tails lens cursors next prev home element block line out source p turns =
+    (p .state .deques ≤ 256) × (p .state .nodes ≤ 4096)
 
 abbrev μ-loop : tie.MeasureT-loop
-μ-loop heads₀ tails₀ lens₀ cursors₀ next₀ prev₀ home₀ element₀ block₀ line₀ out₀ s₀ input₀ turns₀ heads tails lens cursors next prev home element block line out s input turns =
+μ-loop heads₀ tails₀ lens₀ cursors₀ next₀ prev₀ home₀ element₀ block₀ line₀ out₀ source₀ p₀ turns₀ heads tails lens cursors next prev home element block line out source p turns =
     turns
 
-before-make-requires : tie.Need-before-make-requires Inv-loop μ-loop
-before-make-requires c κs = search needs
+begin-requires : tie.Need-begin-requires Inv-loop μ-loop
+begin-requires c κs = search needs
 
-unread-requires : tie.Need-unread-requires Inv-loop μ-loop
-unread-requires c κs = search needs
+at-start-requires : tie.Need-at-start-requires Inv-loop μ-loop
+at-start-requires c κs = search needs
 
 loop-holds : tie.Need-loop-holds Inv-loop μ-loop
 loop-holds c = search needs
 
-advance-requires : tie.Need-advance-requires Inv-loop μ-loop
-advance-requires c κs = search needs
-
-left-after-requires : tie.Need-left-after-requires Inv-loop μ-loop
-left-after-requires c κs = search needs
+next-line-requires : tie.Need-next-line-requires Inv-loop μ-loop
+next-line-requires c κs = search needs
 
 respond-requires : tie.Need-respond-requires Inv-loop μ-loop
 respond-requires c κs = search needs
 
-answered-requires : tie.Need-answered-requires Inv-loop μ-loop
-answered-requires c κs = search needs
+turns-left-requires : tie.Need-turns-left-requires Inv-loop μ-loop
+turns-left-requires c κs = search needs
 
 loop-less : tie.Need-loop-less Inv-loop μ-loop
-loop-less c = search needs
+loop-less c = c .turns-left .ensures .less (omega arith)
 
 loop-again : tie.Need-loop-again Inv-loop μ-loop
 loop-again c = search needs
@@ -51,13 +49,12 @@ run-spec =
     (tie.spec
     Inv-loop
     μ-loop
-    before-make-requires
-    unread-requires
+    begin-requires
+    at-start-requires
     loop-holds
-    advance-requires
-    left-after-requires
+    next-line-requires
     respond-requires
-    answered-requires
+    turns-left-requires
     loop-less
     loop-again
     flush-requires

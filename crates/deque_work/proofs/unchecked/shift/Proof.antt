@@ -1,5 +1,5 @@
 -- `shift` meets its contract. Assumes nothing.
-use Rattle.deque_work.proofs.Working.{shift-stays, node-movable, shift-does}
+use Rattle.deque_work.proofs.Working.{shift-stays, node-ahead, shift-does}
 use borrow.Author.Needs.{needs}
 use Rattle.deque_work.proofs.unchecked.shift.Statement.{statement}
 use Rattle.deque_work.proofs.unchecked.shift.Tie as tie
@@ -16,8 +16,8 @@ returns c = search shift-stays
 step-off-requires : tie.Need-step-off-requires
 step-off-requires c κs = search needs
 
-move-back-requires : tie.Need-move-back-requires
-move-back-requires c κs = search node-movable
+send-back-requires : tie.Need-send-back-requires
+send-back-requires c κs = search node-ahead
 
 same-length : tie.Need-same-length
 same-length c = search needs
@@ -34,9 +34,6 @@ same-length-4 c = search needs
 same-length-5 : tie.Need-same-length-5
 same-length-5 c = search needs
 
-same-length-6 : tie.Need-same-length-6
-same-length-6 c = search needs
-
 returns-2 : tie.Need-returns-2
 returns-2 c = search shift-does
 
@@ -48,11 +45,10 @@ shift-spec =
     slice-read-if1
     returns
     step-off-requires
-    move-back-requires
+    send-back-requires
     same-length
     same-length-2
     same-length-3
     same-length-4
     same-length-5
-    same-length-6
     returns-2)

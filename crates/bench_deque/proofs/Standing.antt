@@ -1,0 +1,110 @@
+-- The records stay those of one deque: what each call of the workloads asks, and what it leaves. Assumes nothing.
+use Prim.Native.Nat.{ℕ, _≤_, _<_}
+use native.Mathlib.Omega.{arith}
+use mathlib.Core.Path.{_≡_, refl, sym, ap, subst, _∙_}
+use mathlib.Core.Logic.{inl, ⊎-elim}
+use mathlib.Core.Bool.{Bool, true, false, not}
+use mathlib.Core.List.{List, [], _∷_}
+use lib.ListN.{length}
+use Rattle.links.specs.Chain.{none, In, first, rest}
+use Rattle.links.specs.Lists.{homeOf}
+use Rattle.deque_sound.specs.State.{State, state, nodes}
+use Rattle.deque_sound.specs.Sound.{Judged}
+use Rattle.deque_work.specs.Step.{frontOf}
+use Rattle.deque_sound.specs.Ready.{DequeReady, PushReady, NodeReady}
+use Rattle.deque_work.specs.Work.{Pushes, Drops, Moves, Steps}
+use Rattle.deque_work.proofs.Keeping.{stepped-shows, front-in}
+use Rattle.deque_sound.proofs.Sounding.{sound-shows}
+use Rattle.deque_work.specs.declared.answer.Looked.{Looked}
+use Rattle.bench_deque.specs.Ready.{Ready, Leaves, Full, Lacks, Tested}
+
+module _ (a : State) (free : ℕ) where
+  pub not-tested : Tested a free false
+  not-tested = record { ready = λ t. let z : _≡_ {A = ℕ} 0 1 = cc in absurd (omega (arith, z)) }
+
+  pub tested : (r : Bool) → Judged a free r → length (a .links .heads) ≡ 1 → Tested a free r
+  tested r j o =
+      record {
+        ready = λ t.
+            let s = sound-shows a free (j .sound t) in
+            record { v = _; shows = s; one = sym (s .rep .heads-len) ∙ o };
+      }
+
+  pub push-asks : Ready a free → free < nodes a → PushReady a free 0
+  push-asks y h = record { v = y .v; shows = y .shows; slot = rw (y .shows .rep .next-len) at h; deque = omega (arith, y .one) }
+
+  pub pushed-ready : (b : State) (e r : ℕ) → Ready a free → Pushes a b free 0 e r → Ready b r
+  pushed-ready b e r y p = record { v = _; shows = p .does (y .v) (y .shows); one = y .one }
+
+  pub deque-asks : Ready a free → DequeReady a free 0
+  deque-asks y = record { v = y .v; shows = y .shows; deque = omega (arith, y .one) }
+
+  pub stepped-ready : (b : State) (r : Looked) → Ready a free → Steps a b 0 r → Ready b free
+  stepped-ready b r y s =
+      subst (λ (x : State). Ready x free) (sym (s .is))
+      (record { v = y .v; shows = stepped-shows a free (y .v) (y .shows) 0 (omega (arith, y .one)); one = y .one })
+
+  -- every node is in the deque
+  pub node-asks : (s : ℕ) → Full a free → s < nodes a → NodeReady a free 0 s
+  node-asks s y h =
+      let r = y .shows .rep in
+      let l : s < y .v .slots = rw (r .next-len) at h in
+      let no : homeOf (a .links) s ≡ none → ⊥ = λ k. ⊎-elim (λ (i : In s (y .v .free)). subst (λ (xs : List ℕ). In s xs) (y .none-free) i) (λ (i : In s []). i) (r .covered s l k) in
+      record { v = y .v; shows = y .shows; slot = l; deque = omega (arith, y .one); homed = omega (arith, r .homed s l no .0, y .one) }
+
+  pub moved-full : (b : State) (s : ℕ) → Full a free → Moves a b free 0 s → Full b free
+  moved-full b s y m = record { v = _; shows = m .does (y .v) (y .shows); one = y .one; none-free = y .none-free }
+
+  -- the node that left is the one that is taken again
+  pub dropped-lacks : (b : State) (s r : ℕ) → Full a free → s < nodes a → Drops a b free 0 s r → Lacks b s
+  dropped-lacks b s r y h d =
+      record { v = _; shows = d .does (y .v) (y .shows); one = y .one; slot = rw (y .shows .rep .next-len) at h; last = ap (λ (xs : List ℕ). s ∷ xs) (y .none-free) }
+
+  pub retake-asks : Lacks a free → PushReady a free 0
+  retake-asks y = record { v = y .v; shows = y .shows; slot = y .slot; deque = omega (arith, y .one) }
+
+  pub retaken-full : (b : State) (e r : ℕ) → Lacks a free → Pushes a b free 0 e r → Full b r
+  retaken-full b e r y p = record { v = _; shows = p .does (y .v) (y .shows); one = y .one; none-free = ap rest (y .last) }
+
+  -- there are nodes to choose from, and what is chosen is a node of the deque
+  pub ready-size : Ready a free → (0 < nodes a) × (nodes a ≤ 4096)
+  ready-size y = (omega (arith, y .shows .lent .nodes .some), omega (arith, y .shows .lent .nodes .small))
+
+  pub chosen-node : (s n : ℕ) → Full a free → nodes a ≡ n → s < n → NodeReady a free 0 s
+  chosen-node s n y i h = node-asks s y (rw i h)
+
+  -- where the first free node is no node, none is free
+  none-left : (xs : List ℕ) → first xs ≡ free → ((x : ℕ) → In x xs → x < nodes a) → nodes a ≤ free → xs ≡ []
+  none-left [] e k h = refl
+  none-left (x ∷ xs) e k h = absurd (omega (arith, e, h, k x (inl refl)))
+
+  pub full-asks : Ready a free → nodes a ≤ free → Full a free
+  full-asks y h =
+      record {
+        v = y .v;
+        shows = y .shows;
+        one = y .one;
+        none-free = none-left (y .v .free) (y .shows .free-is) (λ x i. rw (y .shows .rep .next-len) (y .shows .rep .spare x i .0)) h;
+      }
+
+  -- ---- the front leaves
+  pub front-asks : Ready a free → frontOf a 0 < nodes a → NodeReady a free 0 (frontOf a 0)
+  front-asks y h =
+      let one : 0 < y .v .count = omega (arith, y .one) in
+      let some : frontOf a 0 ≡ none → ⊥ = λ k. omega (arith, h, k, y .shows .rep .next-len, y .shows .rep .small) in
+      let m = y .shows .rep .member 0 (frontOf a 0) one (front-in a free (y .v) (y .shows) 0 one some) in
+      record { v = y .v; shows = y .shows; slot = m .0; deque = one; homed = m .1 }
+
+  pub front-leaves : Ready a free → frontOf a 0 < nodes a → Leaves a free (frontOf a 0)
+  front-leaves y h = record { ready = y; node = front-asks y h }
+
+  pub left-ready : (b : State) (s r : ℕ) → Leaves a free s → Drops a b free 0 s r → Ready b s
+  left-ready b s r y d = record { v = _; shows = d .does (y .ready .v) (y .ready .shows); one = y .ready .one }
+
+  pub leaves-node : (s : ℕ) → Leaves a free s → NodeReady a free 0 s
+  leaves-node s y = y .node
+
+  -- ---- the test
+  pub tested-ready : (good : Bool) → Tested a free good → not good ≡ false → Ready a free
+  tested-ready true t i = t .ready refl
+  tested-ready false t i = let z : _≡_ {A = ℕ} 0 1 = cc in absurd (omega (arith, z))

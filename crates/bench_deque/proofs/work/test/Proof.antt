@@ -1,0 +1,17 @@
+-- `test` answers whether the records are those of one deque. Assumes nothing.
+use borrow.Author.Needs.{needs}
+use Rattle.bench_deque.proofs.Standing.{not-tested, tested}
+use Rattle.bench_deque.proofs.work.test.Statement.{statement}
+use Rattle.bench_deque.proofs.work.test.Tie as tie
+
+returns : tie.Need-returns
+returns c = search not-tested
+
+sound-requires : tie.Need-sound-requires
+sound-requires c κs = search needs
+
+returns-2 : tie.Need-returns-2
+returns-2 c = search tested
+
+pub test-spec : {M : Type 1} → statement M
+test-spec = tie.close (tie.spec returns sound-requires returns-2)

@@ -1,0 +1,2 @@
+-- What the contracts of `bench_deque` cite. Assumes nothing.
+pub mod Ready
