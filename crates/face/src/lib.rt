@@ -24,5 +24,7 @@ pub use timers::deschedule;
 pub use timers::reschedule;
 pub use timers::schedule;
 pub use wheel::Counted;
+pub use wheel::Created;
 pub use wheel::Due;
 pub use wheel::Noted;
+pub use wheel::create;
