@@ -1,5 +1,4 @@
-// Answers as five numbers, and their writing.
-// Unchecked: write asks for five lent numbers. The others have no `requires`.
+// Answers as five numbers, and their writing, unchecked: `write` asks for five lent numbers. The others have no `requires`.
 ghost use Prim.Native.Nat.{_≤_};
 ghost use lib.ListN.{length};
 ghost use Rattle.exports_work.specs.Words.{SaysNoted, SaysScheduled, SaysRescheduled, SaysPulled, SaysCounted, SaysDue, Writes};

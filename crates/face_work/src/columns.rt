@@ -1,4 +1,4 @@
-// A table of nodes taken apart into six arrays, a field in each, and put together again. Unchecked: for proved code only, which hands over columns that are long enough.
+// A table of nodes taken apart into six arrays, a field in each, and put together again. For proved code only, unchecked: it hands over columns that are long enough.
 ghost use Prim.Native.Nat.{_≤_};
 ghost use lib.ListN.{take};
 ghost use Rattle.face_work.specs.Columns.{Columns, Holds};
