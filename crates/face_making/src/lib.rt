@@ -1,0 +1,5 @@
+// Enable over lent node structs and a lent clock: it reads the nodes into a table by value, hands the table to its work (crate face_turns), and stores table and clock
+// back. The crate `face` has all public calls under one name. No `requires`.
+pub mod making; // enable
+
+pub use making::enable;
