@@ -123,19 +123,19 @@ module _ (c : Clock) where
   pulledAnswer (PulledRefused x) (End l) e f = let z : _≡_ {A = ℕ} 0 1 = cc in absurd (omega arith)
   pulledAnswer (PulledRefused x) (PulledRefused y) e f = cc
 
-noted : (r s : Noted) → notedSays r ≡ notedSays s → r ≡ s
+pub noted : (r s : Noted) → notedSays r ≡ notedSays s → r ≡ s
 noted Set Set e = refl
 noted Set (NotedRefused y) e = let z : _≡_ {A = ℕ} 0 1 = cc in absurd (omega arith)
 noted (NotedRefused x) Set e = let z : _≡_ {A = ℕ} 0 1 = cc in absurd (omega arith)
 noted (NotedRefused x) (NotedRefused y) e = cc
 
-counted : (r s : Counted) → countedSays r ≡ countedSays s → r ≡ s
+pub counted : (r s : Counted) → countedSays r ≡ countedSays s → r ≡ s
 counted (Count x) (Count y) e = cc
 counted (Count x) (CountedRefused y) e = let z : _≡_ {A = ℕ} 0 1 = cc in absurd (omega arith)
 counted (CountedRefused x) (Count y) e = let z : _≡_ {A = ℕ} 0 1 = cc in absurd (omega arith)
 counted (CountedRefused x) (CountedRefused y) e = cc
 
-dued : (r s : Due) → dueSays r ≡ dueSays s → r ≡ s
+pub dued : (r s : Due) → dueSays r ≡ dueSays s → r ≡ s
 dued (At x) (At y) e = cc
 dued (At x) Never e = let z : _≡_ {A = ℕ} 0 1 = cc in absurd (omega arith)
 dued (At x) (DueRefused y) e = let z : _≡_ {A = ℕ} 0 1 = cc in absurd (omega arith)
