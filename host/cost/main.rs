@@ -4,7 +4,7 @@
 mod slices;
 
 use juopmorin::{Entry, Wheel, BUCKETS};
-use slices::Slices;
+use slices::{pass, Slices};
 use std::hint::black_box;
 use std::time::Instant;
 
@@ -134,5 +134,12 @@ fn main() {
         println!("{:22} {:9.2} {:9.2} {:9.2}", "  over slices", costs[0][1], costs[1][1], costs[2][1]);
         let ratios = costs.map(|[nodes, slices]| nodes / slices);
         println!("{:22} {:9.2} {:9.2} {:9.2}", "  ratio", ratios[0], ratios[1], ratios[2]);
+    }
+    for (name, back) in [("nodes into columns", false), ("and back", true)] {
+        let costs = SIZES.map(|size| {
+            let mut nodes = wheel(size).nodes;
+            best(400_000 / size, 1, || pass(black_box(&mut nodes), back))
+        });
+        println!("{name:22} {:9.2} {:9.2} {:9.2}", costs[0], costs[1], costs[2]);
     }
 }

@@ -1,6 +1,8 @@
-//! The same wheel over parallel slices, a column for each field of the nodes, and the calls of the library `bench_slices` on them.
+//! The same wheel over parallel slices, a column for each field of the nodes, and the calls of the library `bench_slices` on them; and what it costs by itself to read
+//! nodes into such columns, and to write them back.
 
-use juopmorin::{Clock, Wheel, BUCKETS};
+use juopmorin::{Clock, Node, Wheel, BUCKETS};
+use std::hint::black_box;
 
 pub struct Slices {
     clock: Clock,
@@ -115,5 +117,40 @@ impl Slices {
     pub fn pull_to_end(&mut self) {
         self.clock = call!(self, slices_pull, as_mut_ptr);
         assert!(!self.clock.open);
+    }
+}
+
+/// As long as the columns behind a public call.
+const ROOM: usize = 4_168;
+
+/// Six columns on the stack, as a call that goes over columns has them.
+struct Columns {
+    next: [usize; ROOM],
+    prev: [usize; ROOM],
+    bucket: [usize; ROOM],
+    entry: [usize; ROOM],
+    generation: [u32; ROOM],
+    serial: [u64; ROOM],
+}
+
+/// New columns with the nodes in them, and where `back` says so, the nodes written from them again: no call between. The nodes are at most 4,096.
+#[inline(never)]
+pub fn pass(nodes: &mut [Node], back: bool) {
+    let (next, prev, bucket, entry) = ([0; ROOM], [0; ROOM], [0; ROOM], [0; ROOM]);
+    let mut columns = Columns { next, prev, bucket, entry, generation: [0; ROOM], serial: [0; ROOM] };
+    let c = black_box(&mut columns);
+    for (i, v) in nodes.iter().enumerate().take(ROOM) {
+        c.next[i] = v.next;
+        c.prev[i] = v.prev;
+        c.bucket[i] = v.bucket;
+        c.entry[i] = v.entry;
+        c.generation[i] = v.generation;
+        c.serial[i] = v.serial;
+    }
+    let c = black_box(c);
+    if back {
+        for (i, v) in nodes.iter_mut().enumerate().take(ROOM) {
+            *v = Node { next: c.next[i], prev: c.prev[i], bucket: c.bucket[i], entry: c.entry[i], generation: c.generation[i], serial: c.serial[i] };
+        }
     }
 }
