@@ -1,7 +1,10 @@
-//! What a public call through the host costs: microseconds a call at 166, 512 and 4,096 records with all timers armed but one, best of several rounds, and the
-//! smallest thread stack, in KiB, that a call at 4,096 records runs in.
+//! What a public call through the host costs beside the same call over parallel slices: microseconds a call at 166, 512 and 4,096 records with all timers armed but
+//! one, best of several rounds, and the smallest thread stack, in KiB, that a call at 4,096 records runs in.
 
-use juopmorin::{Entry, Wheel};
+mod slices;
+
+use juopmorin::{Entry, Wheel, BUCKETS};
+use slices::{pass, Slices};
 use std::hint::black_box;
 use std::time::Instant;
 
@@ -10,7 +13,7 @@ const ROUNDS: usize = 9;
 
 /// All slots armed but one, with deadlines spread over the levels.
 fn wheel(records: usize) -> Wheel {
-    let timers = records - 165;
+    let timers = records - BUCKETS;
     let mut wheel = Wheel::new(records, timers, 0);
     wheel.enable().expect("in range");
     for entry in 0..timers {
@@ -23,44 +26,73 @@ fn wheel(records: usize) -> Wheel {
     wheel
 }
 
-fn count(wheel: &mut Wheel) {
-    black_box(wheel.armed_count()).expect("sound");
+/// Name, the calls through the host over nodes, the same calls over slices, and how many they are.
+struct Work {
+    name: &'static str,
+    nodes: fn(&mut Wheel),
+    slices: fn(&mut Slices, usize),
+    calls: u32,
 }
-
-fn start_and_abandon(wheel: &mut Wheel) {
-    wheel.start(black_box(1)).expect("closed");
-    wheel.abandon().expect("open");
-}
-
-fn arm_and_cancel(wheel: &mut Wheel) {
-    let timer = wheel.schedule(wheel.dated.len() - 1, 0).expect("room");
-    wheel.deschedule(timer, 0).expect("armed");
-}
-
-fn start_pull_abandon(wheel: &mut Wheel) {
-    wheel.start(1).expect("closed");
-    black_box(wheel.pull()).expect("open");
-}
-
-/// Name, the calls, and how many they are.
-type Work = (&'static str, fn(&mut Wheel), u32);
 
 const WORKS: [Work; 4] = [
-    ("armed count", count, 1),
-    ("start, abandon", start_and_abandon, 2),
-    ("schedule, deschedule", arm_and_cancel, 2),
-    ("start, pull (End)", start_pull_abandon, 2),
+    Work {
+        name: "armed count",
+        nodes: |wheel| assert_eq!(wheel.armed_count(), Ok(wheel.dated.len() - 1)),
+        slices: |slices, timers| assert_eq!(slices.armed_count(), timers - 1),
+        calls: 1,
+    },
+    Work {
+        name: "start, abandon",
+        nodes: |wheel| {
+            wheel.start(black_box(1)).expect("closed");
+            wheel.abandon().expect("open");
+        },
+        slices: |slices, _| {
+            slices.start(black_box(1));
+            slices.abandon();
+        },
+        calls: 2,
+    },
+    Work {
+        name: "schedule, deschedule",
+        nodes: |wheel| {
+            let timer = wheel.schedule(wheel.dated.len() - 1, 0).expect("room");
+            wheel.deschedule(timer, 0).expect("armed");
+        },
+        slices: |slices, timers| slices.schedule_and_deschedule(timers - 1),
+        calls: 2,
+    },
+    Work {
+        name: "start, pull (End)",
+        nodes: |wheel| {
+            wheel.start(black_box(1)).expect("closed");
+            assert_eq!(wheel.pull(), Ok(None));
+        },
+        slices: |slices, _| {
+            slices.start(black_box(1));
+            slices.pull_to_end();
+        },
+        calls: 2,
+    },
 ];
 
 /// Microseconds a call, the best round.
-fn cost(wheel: &mut Wheel, work: fn(&mut Wheel), calls: u32) -> f64 {
-    let turns = 4_000_000 / wheel.nodes.len();
-    let best = (0..ROUNDS).map(|_| {
+fn best(turns: usize, calls: u32, mut work: impl FnMut()) -> f64 {
+    let round = |_| {
         let begun = Instant::now();
-        (0..turns / 10).for_each(|_| work(wheel));
-        begun.elapsed().as_secs_f64() / ((turns / 10) as f64 * f64::from(calls))
-    });
-    best.fold(f64::INFINITY, f64::min) * 1e6
+        (0..turns).for_each(|_| work());
+        begun.elapsed().as_secs_f64() / (turns as f64 * f64::from(calls))
+    };
+    (0..ROUNDS).map(round).fold(f64::INFINITY, f64::min) * 1e6
+}
+
+/// What the calls cost over nodes and over slices, in turn on one wheel of so many records.
+fn costs(work: &Work, records: usize) -> [f64; 2] {
+    let mut wheel = wheel(records);
+    let mut slices = Slices::of(&wheel);
+    let (turns, timers) = (400_000 / records, records - BUCKETS);
+    let over_nodes = best(turns, work.calls, || (work.nodes)(&mut wheel));
+    [over_nodes, best(turns, work.calls, || (work.slices)(&mut slices, timers))]
 }
 
 /// Whether the work runs in a thread with a stack of so many KiB: tried in a child process, since an overflow ends it.
@@ -85,7 +117,7 @@ fn least_stack(work: usize) -> usize {
 
 fn run_in_thread(work: usize, kib: usize) {
     let mut wheel = wheel(4_096);
-    let thread = std::thread::Builder::new().stack_size(kib << 10).spawn(move || WORKS[work].1(&mut wheel));
+    let thread = std::thread::Builder::new().stack_size(kib << 10).spawn(move || (WORKS[work].nodes)(&mut wheel));
     thread.expect("a thread").join().expect("no panic");
 }
 
@@ -96,8 +128,18 @@ fn main() {
         return run_in_thread(work.parse().expect("a number"), kib.parse().expect("a number"));
     }
     println!("{:22} {:>9} {:>9} {:>9}   {:>9}", "us a call", SIZES[0], SIZES[1], SIZES[2], "stack KiB");
-    for (at, (name, work, calls)) in WORKS.into_iter().enumerate() {
-        let costs = SIZES.map(|size| cost(&mut wheel(size), work, calls));
-        println!("{name:22} {:9.2} {:9.2} {:9.2}   {:9}", costs[0], costs[1], costs[2], least_stack(at));
+    for (at, work) in WORKS.iter().enumerate() {
+        let costs = SIZES.map(|size| costs(work, size));
+        println!("{:22} {:9.2} {:9.2} {:9.2}   {:9}", work.name, costs[0][0], costs[1][0], costs[2][0], least_stack(at));
+        println!("{:22} {:9.2} {:9.2} {:9.2}", "  over slices", costs[0][1], costs[1][1], costs[2][1]);
+        let ratios = costs.map(|[nodes, slices]| nodes / slices);
+        println!("{:22} {:9.2} {:9.2} {:9.2}", "  ratio", ratios[0], ratios[1], ratios[2]);
+    }
+    for (name, back) in [("nodes into columns", false), ("and back", true)] {
+        let costs = SIZES.map(|size| {
+            let mut nodes = wheel(size).nodes;
+            best(400_000 / size, 1, || pass(black_box(&mut nodes), back))
+        });
+        println!("{name:22} {:9.2} {:9.2} {:9.2}", costs[0], costs[1], costs[2]);
     }
 }

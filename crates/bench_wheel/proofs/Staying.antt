@@ -1,51 +1,25 @@
 -- A wheel stays sound where one timer is armed or disarmed, and in every other call of the workloads. Assumes nothing.
-use Prim.Native.Nat.{ℕ, suc, _≤_, _<_}
-use native.Mathlib.Omega.{arith}
-use mathlib.Core.Path.{_≡_, refl, ap, _∙_}
+use Prim.Native.Nat.{ℕ, _<_}
+use mathlib.Core.Path.{_≡_, refl, ap}
 use mathlib.Core.Bool.{Bool, true, cond}
 use mathlib.Core.Option.{Option, none, some}
 use mathlib.Core.List.{List, [], _∷_}
 use borrow.Author.Tests.{eq-eqb}
-use Rattle.rules.specs.Geometry.{Geometry, buckets}
-use Rattle.rules.specs.Place.{bucketOf}
-use Rattle.rules.specs.Lists.{Lists, newNode, claim, unlink}
+use Rattle.rules.specs.Geometry.{Geometry}
 use Rattle.rules.specs.Wheel.{Entry, Wheel, setEntry, schedule, deschedule, start, pull}
 use Rattle.rules.specs.Calls.{armed, act}
 use Rattle.rules.specs.Sound.{Sound}
-use Rattle.rules.proofs.Placing.{bucketOf-in}
-use Rattle.rules.proofs.Standing.{claim-link, unlink-own, unlink-release}
-use Rattle.rules.proofs.SoundLists.{at-of, first-free, free-nowhere, sound-placed, sound-freed}
-use Rattle.rules.proofs.SoundCalls.{pulled-sound, pulled-at}
+use Rattle.rules.proofs.SoundCalls.{arms, drops, pulled-sound, pulled-at}
 
 module _ (g : Geometry) (w : Wheel) (s : Sound g w) where
-  pub arming : (e h : ℕ) (o : Option ℕ) (fs : List ℕ) → w .lists .free ≡ fs → e < w .entries → Sound g (armed g w e h o fs .1)
-  arming e h none fs f i = s
-  arming e h (some d) [] f i = s
-  arming e h (some d) (y ∷ fs) f i =
-      let L : Lists = w .lists in
-      let b : ℕ = bucketOf g (w .reading) d in
-      let v = first-free (buckets g) (w .nodes) (w .entries) (w .next) y L (s .lists) fs f in
-      record {
-        lists = sound-placed (buckets g) (w .nodes) (w .entries) (w .next) y L (s .lists) (suc (w .next)) (omega arith) (claim fs L) (L .node y) b (newNode b e h (w .next)) refl refl
-            (free-nowhere (buckets g) (w .nodes) (w .entries) (w .next) y L (s .lists) fs f) (claim-link y L fs f b (newNode b e h (w .next))) (v .0, v .1)
-            (bucketOf-in g (w .reading) d) i (omega arith) (λ z ne l k. omega (arith, s .lists .below z l));
-        advance = s .advance;
-      }
-
   pub set-stays : (e : ℕ) (o : Option ℕ) (h : ℕ) → Sound g (act g w (setEntry e o h) .1)
   set-stays e o h = record { lists = s .lists; advance = s .advance }
 
   pub schedule-stays : (e h : ℕ) → e < w .entries → Sound g (act g w (schedule e h) .1)
-  schedule-stays e h i = arming e h (w .entry e .deadline) (w .lists .free) refl i
+  schedule-stays e h i = arms g w s e h (w .entry e .deadline) (w .lists .free) refl i
 
   pub deschedule-stays : (y n h : ℕ) → w .lists .node y .armed ≡ true → Sound g (act g w (deschedule y n h) .1)
-  deschedule-stays y n h l =
-      record {
-        lists = sound-freed (buckets g) (w .nodes) (w .entries) (w .next) y (w .lists) (s .lists) (unlink y (w .lists)) (w .lists .node y)
-            (unlink-own y (w .lists .node y) (w .lists) (w .lists .node y .bucket) refl (at-of (buckets g) (w .nodes) (w .entries) (w .next) y (w .lists) (s .lists) l))
-            (unlink-release y (w .lists)) l;
-        advance = s .advance;
-      }
+  deschedule-stays y n h l = record { lists = drops g w s y l; advance = s .advance }
 
   pub start-stays : (q : ℕ) → Sound g (act g w (start q) .1)
   start-stays q = record { lists = s .lists; advance = refl }

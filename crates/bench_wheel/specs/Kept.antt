@@ -6,12 +6,8 @@ use mathlib.Core.List.{List}
 use lib.ListN.{length, getD}
 use Rattle.rules.specs.Geometry.{wheel01}
 use Rattle.records.specs.declared.Clock.{Clock}
-use Rattle.records.specs.Records.{Records, nodes, entries, records}
+use Rattle.records.specs.Records.{Records}
 use Rattle.records.specs.Timers.{Ready}
-
--- the lent slices and the clock, in the order in which every call takes them
-abbrev pub lent : List ℕ → List ℕ → List ℕ → List ℕ → List ℕ → List ℕ → List ℕ → List ℕ → List Bool → List ℕ → List ℕ → Clock → Records
-lent h t n p b e g s d l m c = records (nodes h t n p b e g s) (entries d l m) c
 
 -- the records show a sound wheel
 abbrev pub Works : Records → Type 0

@@ -1,5 +1,6 @@
 // For proved code only, unchecked: an advance read to its end, on records that show a sound wheel.
-ghost use Rattle.bench_wheel.specs.Kept.{lent, Works, Kept, Fewer};
+ghost use Rattle.wheel_refuse.specs.Lent.{lent};
+ghost use Rattle.bench_wheel.specs.Kept.{Works, Kept, Fewer};
 use crate::steps::note;
 use advance::pull::pull;
 use advance::turns::Pulled;

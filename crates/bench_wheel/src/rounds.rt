@@ -1,5 +1,6 @@
 // For proved code only, unchecked: timers armed in turn, cancelled at random, and rounds of advances, on records that show a sound wheel.
-ghost use Rattle.bench_wheel.specs.Kept.{lent, Works, Kept};
+ghost use Rattle.wheel_refuse.specs.Lent.{lent};
+ghost use Rattle.bench_wheel.specs.Kept.{Works, Kept};
 use crate::advancing::advance_to;
 use crate::generator::Workload;
 use crate::generator::below;

@@ -1,5 +1,6 @@
 // For proved code only, unchecked: an entry armed, and a timer armed or cancelled, on records that show a sound wheel.
-ghost use Rattle.bench_wheel.specs.Kept.{lent, Works, Kept, MayArm, IsArmed};
+ghost use Rattle.wheel_refuse.specs.Lent.{lent};
+ghost use Rattle.bench_wheel.specs.Kept.{Works, Kept, MayArm, IsArmed};
 use links::NONE;
 use records::Clock;
 use records::settings::set_entry;

@@ -1,6 +1,7 @@
 // The workloads: records are made, tested once, and worked on. Assumes nothing.
 ghost use Prim.Native.Nat.{_<_, _≤_};
-ghost use Rattle.bench_wheel.specs.Kept.{lent, Works, Tested};
+ghost use Rattle.wheel_refuse.specs.Lent.{lent};
+ghost use Rattle.bench_wheel.specs.Kept.{Works, Tested};
 use crate::generator::Workload;
 use crate::rounds::arm_listed;
 use crate::rounds::cancel;

@@ -2,12 +2,13 @@
 use Prim.Native.Nat.{ℕ}
 use native.Mathlib.Omega.{arith}
 use mathlib.Core.Path.{_≡_, refl, sym, ap, _∙_}
-use mathlib.Core.Logic.{_⊎_, inl, inr, ⊎-elim}
+use mathlib.Core.Logic.{⊎-elim}
 use mathlib.Core.List.{List, [], _∷_}
 use Rattle.links.proofs.Slots.{same?}
+use Rattle.links.proofs.Rows.{Single, none-left, row}
 use Rattle.deque_sound.specs.State.{State}
 use Rattle.deque_work.specs.Answer.{Told, refused, nothing, values, madeTold, pushedTold, poppedTold, lookedTold, droppedTold, countedTold, doneTold}
-use Rattle.deque_sound.specs.Refuse.{unless, answered, makeRows, dequeRows, pushRows, nodeRows}
+use Rattle.deque_sound.specs.Refuse.{answered, makeRows, dequeRows, pushRows, nodeRows}
 use Rattle.deque.specs.Calls.{Meets, Make, PushBack, PopFront, LookFront, LookBack, MoveToBack, UnlinkAndDrop, LengthIs, NextByCursor, ResetCursor}
 use Rattle.deque_work.specs.declared.answer.Made.{Made}
 use Rattle.deque_work.specs.declared.answer.Made.the-variants.{First, Refused as MadeRefused}
@@ -25,29 +26,17 @@ use Rattle.deque_work.specs.declared.answer.Done.{Done}
 use Rattle.deque_work.specs.declared.answer.Done.the-variants.{Done as Did, Refused as DoneRefused}
 
 -- ---- rows give one number
-abbrev Single : (ℕ → Type 0) → Type 0
-Single rows = (j k : ℕ) → rows j → rows k → j ≡ k
-
-none-left : Single answered
-none-left j k p q = p ∙ sym q
-
-unless-single : (A : Type 0) (n : ℕ) (more : ℕ → Type 0) → Single more → Single (unless A n more)
-unless-single A n more s j k (inl p) (inl q) = p .1 ∙ sym (q .1)
-unless-single A n more s j k (inl p) (inr q) = absurd (p .0 (q .0))
-unless-single A n more s j k (inr p) (inl q) = absurd (q .0 (p .0))
-unless-single A n more s j k (inr p) (inr q) = s j k (p .1) (q .1)
-
 make-single : (a : State) → Single (makeRows a)
-make-single a = unless-single _ 3 answered none-left
+make-single a = row _ 3 answered none-left
 
 deque-single : (a : State) (free d : ℕ) → Single (dequeRows a free d)
-deque-single a free d = unless-single _ 4 _ (unless-single _ 16 answered none-left)
+deque-single a free d = row _ 4 _ (row _ 16 answered none-left)
 
 push-single : (a : State) (free d : ℕ) → Single (pushRows a free d)
-push-single a free d = unless-single _ 4 _ (unless-single _ 10 _ (unless-single _ 16 answered none-left))
+push-single a free d = row _ 4 _ (row _ 10 _ (row _ 16 answered none-left))
 
 node-single : (a : State) (free d s : ℕ) → Single (nodeRows a free d s)
-node-single a free d s = unless-single _ 4 _ (unless-single _ 16 _ (unless-single _ 17 answered none-left))
+node-single a free d s = row _ 4 _ (row _ 16 _ (row _ 17 answered none-left))
 
 -- ---- a promise determines what is told and the records
 met : (rows : ℕ → Type 0) (a b c after : State) (t u then : Told) → Single rows → Meets rows a b t after then → Meets rows a c u after then → (t ≡ u) × (b ≡ c)

@@ -1,20 +1,12 @@
 -- When each refusal number of 01 is given: ordered rows, the lowest number first. Assumes nothing.
 use Prim.Native.Nat.{ℕ, _≤_, _<_}
 use mathlib.Core.Path.{_≡_}
-use mathlib.Core.Logic.{_⊎_}
 use lib.ListN.{length}
 use Rattle.links.specs.Chain.{none}
 use Rattle.links.specs.Lists.{homeOf}
+pub use Rattle.links.specs.Rows.{unless, answered}
 use Rattle.deque_sound.specs.State.{State, deques, nodes, Lent}
 use Rattle.deque_sound.specs.Sound.{Sound}
-
--- a row: unless this holds the number is k, and where it holds the rows after it decide
-abbrev pub unless : Type 0 → ℕ → (ℕ → Type 0) → ℕ → Type 0
-unless holds k more r = ((holds → ⊥) × (r ≡ k)) ⊎ (holds × more r)
-
--- no row is left: not refused
-abbrev pub answered : ℕ → Type 0
-answered r = r ≡ 0
 
 -- 3: counts outside the range
 abbrev pub makeRows : State → ℕ → Type 0

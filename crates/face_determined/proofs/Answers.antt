@@ -1,14 +1,7 @@
--- What an answer says determines the answer. Assumes nothing.
+-- What an answer of the face says determines the answer (of those that it has from the wheel: wheel_history, proofs/Coincide.antt). Assumes nothing.
 use Prim.Native.Nat.{ℕ}
 use native.Mathlib.Omega.{arith}
 use mathlib.Core.Path.{_≡_, refl}
-use Rattle.wheel_plain.specs.declared.Noted.{Noted}
-use Rattle.wheel_plain.specs.declared.Noted.the-variants.{Done, Refused as NotedRefused}
-use Rattle.wheel_plain.specs.declared.Counted.{Counted}
-use Rattle.wheel_plain.specs.declared.Counted.the-variants.{Armed as Count, Refused as CountedRefused}
-use Rattle.wheel_plain.specs.declared.Due.{Due}
-use Rattle.wheel_plain.specs.declared.Due.the-variants.{At, Never, Refused as DueRefused}
-use Rattle.wheel.specs.Answers.{notedSays, countedSays, dueSays}
 use Rattle.face_work.specs.declared.Scheduled.{Scheduled}
 use Rattle.face_work.specs.declared.Scheduled.the-variants.{Armed, Refused as ScheduledRefused}
 use Rattle.face_work.specs.declared.Rescheduled.{Rescheduled}
@@ -16,29 +9,6 @@ use Rattle.face_work.specs.declared.Rescheduled.the-variants.{Moved, Removed, R
 use Rattle.face_work.specs.declared.Pulled.{Pulled}
 use Rattle.face_work.specs.declared.Pulled.the-variants.{Expired, Moved as Placed, End, Refused as PulledRefused}
 use Rattle.face_work.specs.Answers.{scheduledSays, rescheduledSays, pulledSays}
-
-pub noted : (r s : Noted) → notedSays r ≡ notedSays s → r ≡ s
-noted Done Done e = refl
-noted Done (NotedRefused y0) e = let z : _≡_ {A = ℕ} 0 1 = cc in absurd (omega arith)
-noted (NotedRefused x0) Done e = let z : _≡_ {A = ℕ} 0 1 = cc in absurd (omega arith)
-noted (NotedRefused x0) (NotedRefused y0) e = cc
-
-pub counted : (r s : Counted) → countedSays r ≡ countedSays s → r ≡ s
-counted (Count x0) (Count y0) e = cc
-counted (Count x0) (CountedRefused y0) e = let z : _≡_ {A = ℕ} 0 1 = cc in absurd (omega arith)
-counted (CountedRefused x0) (Count y0) e = let z : _≡_ {A = ℕ} 0 1 = cc in absurd (omega arith)
-counted (CountedRefused x0) (CountedRefused y0) e = cc
-
-pub dued : (r s : Due) → dueSays r ≡ dueSays s → r ≡ s
-dued (At x0) (At y0) e = cc
-dued (At x0) Never e = let z : _≡_ {A = ℕ} 0 1 = cc in absurd (omega arith)
-dued (At x0) (DueRefused y0) e = let z : _≡_ {A = ℕ} 0 1 = cc in absurd (omega arith)
-dued Never (At y0) e = let z : _≡_ {A = ℕ} 0 1 = cc in absurd (omega arith)
-dued Never Never e = refl
-dued Never (DueRefused y0) e = let z : _≡_ {A = ℕ} 0 1 = cc in absurd (omega arith)
-dued (DueRefused x0) (At y0) e = let z : _≡_ {A = ℕ} 0 1 = cc in absurd (omega arith)
-dued (DueRefused x0) Never e = let z : _≡_ {A = ℕ} 0 1 = cc in absurd (omega arith)
-dued (DueRefused x0) (DueRefused y0) e = cc
 
 pub scheduled : (r s : Scheduled) → scheduledSays r ≡ scheduledSays s → r ≡ s
 scheduled (Armed x0 x1) (Armed y0 y1) e = cc

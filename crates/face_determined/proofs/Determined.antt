@@ -10,14 +10,14 @@ use Rattle.records.specs.Records.{Records}
 use Rattle.wheel_plain.specs.declared.Noted.{Noted}
 use Rattle.wheel_plain.specs.declared.Counted.{Counted}
 use Rattle.wheel_plain.specs.declared.Due.{Due}
-use Rattle.wheel_history.proofs.Coincide.{met, enable-single, set-single, schedule-single, handle-single, closed-single, open-single, count-single}
+use Rattle.wheel_history.proofs.Coincide.{met, enable-single, set-single, schedule-single, handle-single, closed-single, open-single, count-single, noted, counted, dued}
 use Rattle.nodes.specs.declared.Node.{Node}
 use Rattle.nodes.specs.Shown.{nexts, prevs, buckets, entryNumbers, generations, serials, shown}
 use Rattle.face_work.specs.declared.Scheduled.{Scheduled}
 use Rattle.face_work.specs.declared.Rescheduled.{Rescheduled}
 use Rattle.face_work.specs.declared.Pulled.{Pulled}
 use Rattle.face_work.specs.Faces.{FaceEnable, FaceSetEntry, FaceSchedule, FaceReschedule, FaceDeschedule, FaceStart, FacePull, FaceAbandon, FaceArmedCount, FaceNextDue}
-use Rattle.face_determined.proofs.Answers.{noted, counted, dued, scheduled, rescheduled, pulled}
+use Rattle.face_determined.proofs.Answers.{scheduled, rescheduled, pulled}
 
 -- ---- equal fields, equal nodes
 nodes-one : (ns ms : List Node) → nexts ns ≡ nexts ms → prevs ns ≡ prevs ms → buckets ns ≡ buckets ms → entryNumbers ns ≡ entryNumbers ms

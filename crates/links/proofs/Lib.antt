@@ -1,4 +1,4 @@
--- The laws of links. A layer above cites Members, Unique, Counting, Reading, TurnRule, the -rep laws of Linking, Cutting, Turning, Freeing and Laying, and for a test of its own Judging.
+-- The laws of links. A layer above cites Members, Unique, Counting, Reading, TurnRule, the -rep laws of Linking, Cutting, Turning, Freeing and Laying, for a test of its own Judging, and for its refusals Rows.
 pub mod Slots
 pub mod Chains
 pub mod Arrays
@@ -18,3 +18,4 @@ pub mod Verdicts
 pub mod Unique
 pub mod Members
 pub mod TurnRule
+pub mod Rows

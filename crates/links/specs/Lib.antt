@@ -8,3 +8,4 @@ pub mod Layout
 pub mod Sound
 pub mod Turn
 pub mod Listed
+pub mod Rows

@@ -113,7 +113,7 @@ module _ (g : Geometry) (w : Wheel) (s : Sound g w) where
   abbrev D : ℕ
   D = buckets g
 
-  arms : (e h : ℕ) (o : Option ℕ) (fs : List ℕ) → w .lists .free ≡ fs → e < w .entries → Sound g (armed g w e h o fs .1)
+  pub arms : (e h : ℕ) (o : Option ℕ) (fs : List ℕ) → w .lists .free ≡ fs → e < w .entries → Sound g (armed g w e h o fs .1)
   arms e h none fs f i = s
   arms e h (some d) [] f i = s
   arms e h (some d) (y ∷ fs) f i =
@@ -133,7 +133,7 @@ module _ (g : Geometry) (w : Wheel) (s : Sound g w) where
         unlink-own y (w .lists .node y) (w .lists) (w .lists .node y .bucket) refl
         (at-of (buckets g) (w .nodes) (w .entries) (w .next) y (w .lists) (s .lists) l)
 
-    drops : SoundLists (buckets g) (w .nodes) (w .entries) (w .next) (release y (unlink y (w .lists)))
+    pub drops : SoundLists (buckets g) (w .nodes) (w .entries) (w .next) (release y (unlink y (w .lists)))
     drops = sound-freed (buckets g) (w .nodes) (w .entries) (w .next) y (w .lists) (s .lists) (unlink y (w .lists)) (w .lists .node y) out (unlink-release y (w .lists)) l
 
     rearms : (o : Option ℕ) → Sound g (rearmed g w y o .1)

@@ -2,12 +2,13 @@
 use Prim.Native.Nat.{ℕ}
 use native.Mathlib.Omega.{arith}
 use mathlib.Core.Path.{_≡_, refl, sym, ap, _∙_}
-use mathlib.Core.Logic.{_⊎_, inl, inr, ⊎-elim}
+use mathlib.Core.Logic.{⊎-elim}
 use mathlib.Core.Bool.{Bool}
 use mathlib.Core.Option.{Option, none, some}
 use mathlib.Core.List.{List}
 use Rattle.rules.specs.Wheel.{Call, Answer, refused, ok, handle, removed, end, expired, rescheduled as moved, number, due}
 use Rattle.rules.proofs.Cases.{same?}
+use Rattle.links.proofs.Rows.{Single, none-left, row}
 use Rattle.records.specs.declared.Clock.{Clock}
 use Rattle.records.specs.Records.{Nodes, Entries, Records, records}
 use Rattle.wheel_plain.specs.declared.Timed.{Timed}
@@ -25,22 +26,10 @@ use Rattle.wheel_plain.specs.declared.Counted.the-variants.{Armed as Count, Ref
 use Rattle.wheel_plain.specs.declared.Due.{Due}
 use Rattle.wheel_plain.specs.declared.Due.the-variants.{At, Never, Refused as DueRefused}
 use Rattle.wheel.specs.Answers.{timedSays, notedSays, scheduledSays, rescheduledSays, pulledSays, countedSays, dueSays, timedClock, scheduledClock, rescheduledClock, pulledClock}
-use Rattle.wheel_refuse.specs.Refuse.{unless, answered, enableRows, setRows, scheduleRows, handleRows, closedRows, openRows, countRows}
+use Rattle.wheel_refuse.specs.Refuse.{enableRows, setRows, scheduleRows, handleRows, closedRows, openRows, countRows}
 use Rattle.wheel.specs.Calls.{Meets, Create, Enable, SetEntry, Schedule, Reschedule, Deschedule, Start, Pull, Abandon, ArmedCount, NextDue}
 
 -- ---- rows give one number
-abbrev pub Single : (ℕ → Type 0) → Type 0
-Single rows = (j k : ℕ) → rows j → rows k → j ≡ k
-
-none-left : Single answered
-none-left j k p q = p ∙ sym q
-
-row : (A : Type 0) (n : ℕ) (more : ℕ → Type 0) → Single more → Single (unless A n more)
-row A n more s j k (inl p) (inl q) = p .1 ∙ sym (q .1)
-row A n more s j k (inl p) (inr q) = absurd (p .0 (q .0))
-row A n more s j k (inr p) (inl q) = absurd (q .0 (p .0))
-row A n more s j k (inr p) (inr q) = s j k (p .1) (q .1)
-
 module _ (R : Records) where
   pub enable-single : Single (enableRows R)
   enable-single = row _ 2 _ (row _ 3 _ none-left)
@@ -123,19 +112,19 @@ module _ (c : Clock) where
   pulledAnswer (PulledRefused x) (End l) e f = let z : _≡_ {A = ℕ} 0 1 = cc in absurd (omega arith)
   pulledAnswer (PulledRefused x) (PulledRefused y) e f = cc
 
-noted : (r s : Noted) → notedSays r ≡ notedSays s → r ≡ s
+pub noted : (r s : Noted) → notedSays r ≡ notedSays s → r ≡ s
 noted Set Set e = refl
 noted Set (NotedRefused y) e = let z : _≡_ {A = ℕ} 0 1 = cc in absurd (omega arith)
 noted (NotedRefused x) Set e = let z : _≡_ {A = ℕ} 0 1 = cc in absurd (omega arith)
 noted (NotedRefused x) (NotedRefused y) e = cc
 
-counted : (r s : Counted) → countedSays r ≡ countedSays s → r ≡ s
+pub counted : (r s : Counted) → countedSays r ≡ countedSays s → r ≡ s
 counted (Count x) (Count y) e = cc
 counted (Count x) (CountedRefused y) e = let z : _≡_ {A = ℕ} 0 1 = cc in absurd (omega arith)
 counted (CountedRefused x) (Count y) e = let z : _≡_ {A = ℕ} 0 1 = cc in absurd (omega arith)
 counted (CountedRefused x) (CountedRefused y) e = cc
 
-dued : (r s : Due) → dueSays r ≡ dueSays s → r ≡ s
+pub dued : (r s : Due) → dueSays r ≡ dueSays s → r ≡ s
 dued (At x) (At y) e = cc
 dued (At x) Never e = let z : _≡_ {A = ℕ} 0 1 = cc in absurd (omega arith)
 dued (At x) (DueRefused y) e = let z : _≡_ {A = ℕ} 0 1 = cc in absurd (omega arith)

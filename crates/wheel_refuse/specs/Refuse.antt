@@ -2,23 +2,15 @@
 -- A stage is one or more rows and says once when its numbers are given; a call's rows are stages one after the other.
 use Prim.Native.Nat.{ℕ, _-_, _^_, _≤_, _<_}
 use mathlib.Core.Path.{_≡_}
-use mathlib.Core.Logic.{_⊎_}
 use mathlib.Core.Bool.{Bool, true, false}
 use lib.ListN.{length, getD}
 use Rattle.links.specs.Chain.{none}
 use Rattle.links.specs.Lists.{homeOf}
+pub use Rattle.links.specs.Rows.{unless, answered}
 use Rattle.rules.specs.Geometry.{wheel01, buckets}
 use Rattle.records.specs.Records.{Records}
 use Rattle.wheel_sound.specs.Clauses.{Ranges, EndsLengths, NodesLengths, EntriesLengths}
 use Rattle.wheel_sound.specs.Sound.{SoundRecords}
-
--- a row: unless this holds the number is k, and where it holds the rows after it decide
-abbrev pub unless : Type 0 → ℕ → (ℕ → Type 0) → ℕ → Type 0
-unless holds k more r = ((holds → ⊥) × (r ≡ k)) ⊎ (holds × more r)
-
--- no row is left: not refused
-abbrev pub answered : ℕ → Type 0
-answered r = r ≡ 0
 
 -- ---- the stages
 -- 1 "wheel not enabled"; 4 "not sound"

@@ -3,7 +3,7 @@ use borrow.Author.Needs.{needs}
 use native.Mathlib.Omega.{arith}
 use mathlib.Core.Path.{_≡_, refl, _∙_}
 use lib.ListN.{length}
-use Rattle.bench_wheel.specs.Kept.{lent}
+use Rattle.wheel_refuse.specs.Lent.{lent}
 use Rattle.bench_wheel.proofs.Keeping.{Going, begins, goes, kept}
 use Prim.Native.Nat.{_-_}
 use Rattle.bench_wheel.proofs.rounds.arm_listed.Statement.{statement}

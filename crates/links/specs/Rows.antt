@@ -1,0 +1,12 @@
+-- Rows of refusals, which every layer over these records orders by the lowest number first. Assumes nothing.
+use Prim.Native.Nat.{ℕ}
+use mathlib.Core.Path.{_≡_}
+use mathlib.Core.Logic.{_⊎_}
+
+-- a row: unless this holds the number is k, and where it holds the rows after it decide
+abbrev pub unless : Type 0 → ℕ → (ℕ → Type 0) → ℕ → Type 0
+unless holds k more r = ((holds → ⊥) × (r ≡ k)) ⊎ (holds × more r)
+
+-- no row is left: not refused
+abbrev pub answered : ℕ → Type 0
+answered r = r ≡ 0

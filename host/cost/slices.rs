@@ -1,0 +1,156 @@
+//! The same wheel over parallel slices, a column for each field of the nodes, and the calls of the library `bench_slices` on them; and what it costs by itself to read
+//! nodes into such columns, and to write them back.
+
+use juopmorin::{Clock, Node, Wheel, BUCKETS};
+use std::hint::black_box;
+
+pub struct Slices {
+    clock: Clock,
+    heads: [usize; BUCKETS],
+    tails: [usize; BUCKETS],
+    next: Vec<usize>,
+    prev: Vec<usize>,
+    bucket: Vec<usize>,
+    entry: Vec<usize>,
+    generation: Vec<u32>,
+    serial: Vec<u64>,
+    dated: Vec<bool>,
+    deadline: Vec<u64>,
+    stamp: Vec<u32>,
+}
+
+// A slice of the Rattle side is two parameters here, its address and its length.
+#[link(name = "bench_slices", kind = "static")]
+extern "C" {
+    fn slices_armed_count(
+        heads: *const usize, h: usize, tails: *const usize, t: usize, next: *const usize, n: usize, prev: *const usize, p: usize,
+        bucket: *const usize, b: usize, entry: *const usize, e: usize, generation: *const u32, g: usize, serial: *const u64, s: usize,
+        dated: *const bool, d: usize, deadline: *const u64, l: usize, stamp: *const u32, m: usize, clock: Clock,
+    ) -> usize;
+    fn slices_start(
+        heads: *const usize, h: usize, tails: *const usize, t: usize, next: *const usize, n: usize, prev: *const usize, p: usize,
+        bucket: *const usize, b: usize, entry: *const usize, e: usize, generation: *const u32, g: usize, serial: *const u64, s: usize,
+        dated: *const bool, d: usize, deadline: *const u64, l: usize, stamp: *const u32, m: usize, clock: Clock, reading: u64,
+    ) -> Clock;
+    fn slices_abandon(
+        heads: *const usize, h: usize, tails: *const usize, t: usize, next: *const usize, n: usize, prev: *const usize, p: usize,
+        bucket: *const usize, b: usize, entry: *const usize, e: usize, generation: *const u32, g: usize, serial: *const u64, s: usize,
+        dated: *const bool, d: usize, deadline: *const u64, l: usize, stamp: *const u32, m: usize, clock: Clock,
+    ) -> Clock;
+    fn slices_schedule(
+        heads: *mut usize, h: usize, tails: *mut usize, t: usize, next: *mut usize, n: usize, prev: *mut usize, p: usize,
+        bucket: *mut usize, b: usize, entry: *mut usize, e: usize, generation: *mut u32, g: usize, serial: *mut u64, s: usize,
+        dated: *const bool, d: usize, deadline: *const u64, l: usize, stamp: *const u32, m: usize, clock: Clock, of: usize, stamped: u32,
+    ) -> Clock;
+    fn slices_deschedule(
+        heads: *mut usize, h: usize, tails: *mut usize, t: usize, next: *mut usize, n: usize, prev: *mut usize, p: usize,
+        bucket: *mut usize, b: usize, entry: *mut usize, e: usize, generation: *mut u32, g: usize, serial: *mut u64, s: usize,
+        dated: *const bool, d: usize, deadline: *const u64, l: usize, stamp: *const u32, m: usize, clock: Clock, slot: usize, number: u64, stamped: u32,
+    ) -> Clock;
+    fn slices_pull(
+        heads: *mut usize, h: usize, tails: *mut usize, t: usize, next: *mut usize, n: usize, prev: *mut usize, p: usize,
+        bucket: *mut usize, b: usize, entry: *mut usize, e: usize, generation: *mut u32, g: usize, serial: *mut u64, s: usize,
+        dated: *const bool, d: usize, deadline: *const u64, l: usize, stamp: *const u32, m: usize, clock: Clock,
+    ) -> Clock;
+}
+
+/// Calls `$name` with every record lent by `$lend`, the clock, then the further arguments.
+macro_rules! call {
+    ($of:ident, $name:ident, $lend:ident $(, $more:expr)*) => {
+        // SAFETY: each pair is the address and the length of an array that `self` owns; they do not overlap, mutable ones come from `&mut self`, and the
+        // proved function reads and writes them only, for any contents and any lengths.
+        unsafe {
+            $name(
+                $of.heads.$lend(), BUCKETS, $of.tails.$lend(), BUCKETS, $of.next.$lend(), $of.next.len(), $of.prev.$lend(), $of.prev.len(),
+                $of.bucket.$lend(), $of.bucket.len(), $of.entry.$lend(), $of.entry.len(), $of.generation.$lend(), $of.generation.len(),
+                $of.serial.$lend(), $of.serial.len(), $of.dated.as_ptr(), $of.dated.len(), $of.deadline.as_ptr(), $of.deadline.len(),
+                $of.stamp.as_ptr(), $of.stamp.len(), $of.clock $(, $more)*
+            )
+        }
+    };
+}
+
+impl Slices {
+    /// The same records, field by field.
+    pub fn of(wheel: &Wheel) -> Self {
+        let nodes = &wheel.nodes;
+        Self {
+            clock: wheel.clock,
+            heads: wheel.heads,
+            tails: wheel.tails,
+            next: nodes.iter().map(|v| v.next).collect(),
+            prev: nodes.iter().map(|v| v.prev).collect(),
+            bucket: nodes.iter().map(|v| v.bucket).collect(),
+            entry: nodes.iter().map(|v| v.entry).collect(),
+            generation: nodes.iter().map(|v| v.generation).collect(),
+            serial: nodes.iter().map(|v| v.serial).collect(),
+            dated: wheel.dated.clone(),
+            deadline: wheel.deadline.clone(),
+            stamp: wheel.stamp.clone(),
+        }
+    }
+
+    pub fn armed_count(&self) -> usize {
+        call!(self, slices_armed_count, as_ptr)
+    }
+
+    pub fn start(&mut self, reading: u64) {
+        self.clock = call!(self, slices_start, as_ptr, reading);
+        assert!(self.clock.open);
+    }
+
+    pub fn abandon(&mut self) {
+        self.clock = call!(self, slices_abandon, as_ptr);
+        assert!(!self.clock.open);
+    }
+
+    /// Arms the entry, and cancels the timer again: its slot is the first free one, its serial the next.
+    pub fn schedule_and_deschedule(&mut self, entry: usize) {
+        let before = self.clock;
+        self.clock = call!(self, slices_schedule, as_mut_ptr, entry, 0);
+        assert_eq!(self.clock.serial, before.serial + 1);
+        self.clock = call!(self, slices_deschedule, as_mut_ptr, before.free, before.serial, 0);
+        assert_eq!(self.clock.free, before.free);
+    }
+
+    /// A pull that ends the advance.
+    pub fn pull_to_end(&mut self) {
+        self.clock = call!(self, slices_pull, as_mut_ptr);
+        assert!(!self.clock.open);
+    }
+}
+
+/// As long as the columns behind a public call.
+const ROOM: usize = 4_168;
+
+/// Six columns on the stack, as a call that goes over columns has them.
+struct Columns {
+    next: [usize; ROOM],
+    prev: [usize; ROOM],
+    bucket: [usize; ROOM],
+    entry: [usize; ROOM],
+    generation: [u32; ROOM],
+    serial: [u64; ROOM],
+}
+
+/// New columns with the nodes in them, and where `back` says so, the nodes written from them again: no call between. The nodes are at most 4,096.
+#[inline(never)]
+pub fn pass(nodes: &mut [Node], back: bool) {
+    let (next, prev, bucket, entry) = ([0; ROOM], [0; ROOM], [0; ROOM], [0; ROOM]);
+    let mut columns = Columns { next, prev, bucket, entry, generation: [0; ROOM], serial: [0; ROOM] };
+    let c = black_box(&mut columns);
+    for (i, v) in nodes.iter().enumerate().take(ROOM) {
+        c.next[i] = v.next;
+        c.prev[i] = v.prev;
+        c.bucket[i] = v.bucket;
+        c.entry[i] = v.entry;
+        c.generation[i] = v.generation;
+        c.serial[i] = v.serial;
+    }
+    let c = black_box(c);
+    if back {
+        for (i, v) in nodes.iter_mut().enumerate().take(ROOM) {
+            *v = Node { next: c.next[i], prev: c.prev[i], bucket: c.bucket[i], entry: c.entry[i], generation: c.generation[i], serial: c.serial[i] };
+        }
+    }
+}
