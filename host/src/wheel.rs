@@ -139,18 +139,36 @@ mod kind {
 }
 
 // A slice of the Rattle side is two parameters here, its address and its length. A parameter of a mutable slice is `*mut`.
-#[link(name = "exports", kind = "static")]
+#[link(name = "exports_making", kind = "static")]
 extern "C" {
     fn wheel_create(first: u64) -> Created;
     fn wheel_enable(
         nodes: *mut Node, n: usize, clock: *mut Clock, heads: *mut usize, h: usize, tails: *mut usize, t: usize,
         dated: *mut bool, d: usize, deadline: *mut u64, l: usize, stamp: *mut u32, s: usize, answer: *mut u64, a: usize,
     ) -> u64;
+}
+
+#[link(name = "exports_asking", kind = "static")]
+extern "C" {
     fn wheel_set_entry(
         nodes: *const Node, n: usize, clock: Clock, heads: *const usize, h: usize, tails: *const usize, t: usize,
         dated: *mut bool, d: usize, deadline: *mut u64, l: usize, stamp: *mut u32, s: usize, entry: usize, has: bool,
         due: u64, generation: u32, answer: *mut u64, a: usize,
     ) -> u64;
+    fn wheel_armed_count(
+        nodes: *const Node, n: usize, clock: Clock, heads: *const usize, h: usize, tails: *const usize, t: usize,
+        dated: *const bool, d: usize, deadline: *const u64, l: usize, stamp: *const u32, s: usize, answer: *mut u64,
+        a: usize,
+    ) -> u64;
+    fn wheel_next_due(
+        nodes: *const Node, n: usize, clock: Clock, heads: *const usize, h: usize, tails: *const usize, t: usize,
+        dated: *const bool, d: usize, deadline: *const u64, l: usize, stamp: *const u32, s: usize, answer: *mut u64,
+        a: usize,
+    ) -> u64;
+}
+
+#[link(name = "exports_arming", kind = "static")]
+extern "C" {
     fn wheel_schedule(
         nodes: *mut Node, n: usize, clock: *mut Clock, heads: *mut usize, h: usize, tails: *mut usize, t: usize,
         dated: *const bool, d: usize, deadline: *const u64, l: usize, stamp: *const u32, s: usize, entry: usize,
@@ -166,6 +184,10 @@ extern "C" {
         dated: *const bool, d: usize, deadline: *const u64, l: usize, stamp: *const u32, s: usize, slot: usize,
         serial: u64, generation: u32, answer: *mut u64, a: usize,
     ) -> u64;
+}
+
+#[link(name = "exports_advancing", kind = "static")]
+extern "C" {
     fn wheel_start(
         nodes: *const Node, n: usize, clock: *mut Clock, heads: *const usize, h: usize, tails: *const usize, t: usize,
         dated: *const bool, d: usize, deadline: *const u64, l: usize, stamp: *const u32, s: usize, reading: u64,
@@ -178,16 +200,6 @@ extern "C" {
     ) -> u64;
     fn wheel_abandon(
         nodes: *const Node, n: usize, clock: *mut Clock, heads: *const usize, h: usize, tails: *const usize, t: usize,
-        dated: *const bool, d: usize, deadline: *const u64, l: usize, stamp: *const u32, s: usize, answer: *mut u64,
-        a: usize,
-    ) -> u64;
-    fn wheel_armed_count(
-        nodes: *const Node, n: usize, clock: Clock, heads: *const usize, h: usize, tails: *const usize, t: usize,
-        dated: *const bool, d: usize, deadline: *const u64, l: usize, stamp: *const u32, s: usize, answer: *mut u64,
-        a: usize,
-    ) -> u64;
-    fn wheel_next_due(
-        nodes: *const Node, n: usize, clock: Clock, heads: *const usize, h: usize, tails: *const usize, t: usize,
         dated: *const bool, d: usize, deadline: *const u64, l: usize, stamp: *const u32, s: usize, answer: *mut u64,
         a: usize,
     ) -> u64;

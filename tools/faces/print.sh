@@ -1,9 +1,9 @@
 #!/bin/sh
-# print.sh [--check]: prints the proof of each thin function of the crates below by thin.py. With --check it writes nothing, and fails where a proof is not what is
-# printed.
+# print.sh [--check]: prints the proof of each thin function of the crates listed here by thin.py. With --check it writes nothing, and fails where a proof is
+# not what is printed.
 set -eu
 faces='face_making face_asking face_advancing face_arming'
-exports='exports'
+exports='exports_making exports_asking exports_advancing exports_arming'
 here=$(cd "$(dirname "$0")" && pwd)
 crates=$(dirname "$(dirname "$here")")/crates
 printed=$(mktemp)
