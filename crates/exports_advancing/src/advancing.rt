@@ -1,9 +1,9 @@
 // Start, pull and abandon, answered in numbers. No `requires`. A refused call leaves every record as found.
 ghost use Rattle.nodes.specs.Shown.{shown};
 ghost use Rattle.exports_work.specs.Exports.{ExportStart, ExportPull, ExportAbandon};
-use exports_work::advancing::abandon_told;
-use exports_work::advancing::pull_told;
-use exports_work::advancing::start_told;
+use exports_turns::advancing::abandon_told;
+use exports_turns::advancing::pull_told;
+use exports_turns::advancing::start_told;
 use nodes::Node;
 use nodes::load;
 use nodes::store;

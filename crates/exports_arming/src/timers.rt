@@ -1,9 +1,9 @@
 // Schedule, reschedule and deschedule, answered in numbers. No `requires`. A refused call leaves every record as found.
 ghost use Rattle.nodes.specs.Shown.{shown};
 ghost use Rattle.exports_work.specs.Exports.{ExportSchedule, ExportReschedule, ExportDeschedule};
-use exports_work::timers::deschedule_told;
-use exports_work::timers::reschedule_told;
-use exports_work::timers::schedule_told;
+use exports_timers::timers::deschedule_told;
+use exports_timers::timers::reschedule_told;
+use exports_timers::timers::schedule_told;
 use nodes::Node;
 use nodes::load;
 use nodes::store;

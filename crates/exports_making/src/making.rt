@@ -2,7 +2,7 @@
 ghost use Rattle.nodes.specs.Shown.{shown};
 ghost use Rattle.exports_work.specs.Exports.{ExportEnable};
 ghost use Rattle.wheel.specs.Calls.{Create};
-use exports_work::making::enable_told;
+use exports_turns::making::enable_told;
 use nodes::Node;
 use nodes::load;
 use nodes::store;

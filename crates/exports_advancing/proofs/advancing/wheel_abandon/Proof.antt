@@ -67,10 +67,10 @@ use Rattle.nodes.proofs.load as loads
 use Rattle.nodes.proofs.load.Symbol as load-def
 use Rattle.nodes.proofs.load.Symbol.{name as #load}
 use Rattle.nodes.proofs.load.Met as load-thm
-use Rattle.exports_work.proofs.advancing.abandon_told as works
-use Rattle.exports_work.proofs.advancing.abandon_told.Symbol as work-def
-use Rattle.exports_work.proofs.advancing.abandon_told.Symbol.{name as #work}
-use Rattle.exports_work.proofs.advancing.abandon_told.Met as work-thm
+use Rattle.exports_turns.proofs.advancing.abandon_told as works
+use Rattle.exports_turns.proofs.advancing.abandon_told.Symbol as work-def
+use Rattle.exports_turns.proofs.advancing.abandon_told.Symbol.{name as #work}
+use Rattle.exports_turns.proofs.advancing.abandon_told.Met as work-thm
 use Rattle.exports_advancing.proofs.advancing.wheel_abandon.Key.{name as #thin}
 use Rattle.exports_advancing.proofs.advancing.wheel_abandon as thin
 use Rattle.exports_advancing.proofs.advancing.wheel_abandon.Statement as stated
@@ -242,4 +242,4 @@ wheel-abandon-spec 𝓤 H 𝓜 𝓖 𝓡 =
     (tables 𝓤 H 𝓜 𝓡 code.env .C) (tables 𝓤 H 𝓜 𝓡 code.env .Λ) #thin code.function (code.unfolded 𝓤 H 𝓜 𝓡)
     (thin-meets 𝓤 H (𝓖 .A) (givenOf 𝓤 H 𝓜 𝓖) (𝓜 .mem) (𝓡 .run) (tablesOf 𝓤 H 𝓜 (tables 𝓤 H 𝓜 𝓡 code.env))
     (cited 𝓤 H (Load 𝓤 H (𝓖 .A) (𝓜 .mem) (𝓡 .run)) 𝓜 𝓡 code.env #load load-def.routine code.calls-nodes·load (load-thm.met 𝓤 H 𝓜 𝓖 𝓡))
-    (cited 𝓤 H (Work 𝓤 H (𝓖 .A) (𝓜 .mem) (𝓡 .run)) 𝓜 𝓡 code.env #work work-def.routine code.calls-exports-work·advancing·abandon-told (work-thm.met 𝓤 H 𝓜 𝓖 𝓡)))
+    (cited 𝓤 H (Work 𝓤 H (𝓖 .A) (𝓜 .mem) (𝓡 .run)) 𝓜 𝓡 code.env #work work-def.routine code.calls-exports-turns·advancing·abandon-told (work-thm.met 𝓤 H 𝓜 𝓖 𝓡)))

@@ -68,10 +68,10 @@ use Rattle.nodes.proofs.load as loads
 use Rattle.nodes.proofs.load.Symbol as load-def
 use Rattle.nodes.proofs.load.Symbol.{name as #load}
 use Rattle.nodes.proofs.load.Met as load-thm
-use Rattle.exports_work.proofs.timers.schedule_told as works
-use Rattle.exports_work.proofs.timers.schedule_told.Symbol as work-def
-use Rattle.exports_work.proofs.timers.schedule_told.Symbol.{name as #work}
-use Rattle.exports_work.proofs.timers.schedule_told.Met as work-thm
+use Rattle.exports_timers.proofs.timers.schedule_told as works
+use Rattle.exports_timers.proofs.timers.schedule_told.Symbol as work-def
+use Rattle.exports_timers.proofs.timers.schedule_told.Symbol.{name as #work}
+use Rattle.exports_timers.proofs.timers.schedule_told.Met as work-thm
 use Rattle.nodes.proofs.store as stores
 use Rattle.nodes.proofs.store.Symbol as store-def
 use Rattle.nodes.proofs.store.Symbol.{name as #store}
@@ -285,5 +285,5 @@ wheel-schedule-spec 𝓤 H 𝓜 𝓖 𝓡 =
     (tables 𝓤 H 𝓜 𝓡 code.env .C) (tables 𝓤 H 𝓜 𝓡 code.env .Λ) #thin code.function (code.unfolded 𝓤 H 𝓜 𝓡)
     (thin-meets 𝓤 H (𝓖 .A) (givenOf 𝓤 H 𝓜 𝓖) (𝓜 .mem) (𝓡 .run) (tablesOf 𝓤 H 𝓜 (tables 𝓤 H 𝓜 𝓡 code.env))
     (cited 𝓤 H (Load 𝓤 H (𝓖 .A) (𝓜 .mem) (𝓡 .run)) 𝓜 𝓡 code.env #load load-def.routine code.calls-nodes·load (load-thm.met 𝓤 H 𝓜 𝓖 𝓡))
-    (cited 𝓤 H (Work 𝓤 H (𝓖 .A) (𝓜 .mem) (𝓡 .run)) 𝓜 𝓡 code.env #work work-def.routine code.calls-exports-work·timers·schedule-told (work-thm.met 𝓤 H 𝓜 𝓖 𝓡))
+    (cited 𝓤 H (Work 𝓤 H (𝓖 .A) (𝓜 .mem) (𝓡 .run)) 𝓜 𝓡 code.env #work work-def.routine code.calls-exports-timers·timers·schedule-told (work-thm.met 𝓤 H 𝓜 𝓖 𝓡))
     (cited 𝓤 H (Store 𝓤 H (𝓖 .A) (𝓜 .mem) (𝓡 .run)) 𝓜 𝓡 code.env #store store-def.routine code.calls-nodes·store (store-thm.met 𝓤 H 𝓜 𝓖 𝓡)))

@@ -1,8 +1,8 @@
 -- `abandon_told` meets its promise. Assumes nothing.
 use Rattle.exports_work.proofs.Telling.{abandon-short, abandon-long}
 use borrow.Author.Needs.{needs}
-use Rattle.exports_work.proofs.advancing.abandon_told.Statement.{statement}
-use Rattle.exports_work.proofs.advancing.abandon_told.Tie as tie
+use Rattle.exports_turns.proofs.advancing.abandon_told.Statement.{statement}
+use Rattle.exports_turns.proofs.advancing.abandon_told.Tie as tie
 
 returns : tie.Need-returns
 returns c = abandon-short (c .if1 .taken)

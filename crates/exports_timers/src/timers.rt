@@ -1,11 +1,11 @@
 // The work of schedule, reschedule and deschedule, answered in numbers. No `requires`.
 ghost use Rattle.exports_work.specs.Works.{ScheduleTold, RescheduleTold, DescheduleTold};
-use crate::SHORT;
-use crate::ToldMade;
-use crate::words::of_noted;
-use crate::words::of_rescheduled;
-use crate::words::of_scheduled;
-use crate::words::write;
+use exports_work::SHORT;
+use exports_work::ToldMade;
+use exports_work::words::of_noted;
+use exports_work::words::of_rescheduled;
+use exports_work::words::of_scheduled;
+use exports_work::words::write;
 use face_timers::timers::deschedule_work;
 use face_timers::timers::reschedule_work;
 use face_timers::timers::schedule_work;

@@ -1,8 +1,8 @@
 -- `reschedule_told` meets its promise. Assumes nothing.
 use Rattle.exports_work.proofs.Telling.{reschedule-short, reschedule-long}
 use borrow.Author.Needs.{needs}
-use Rattle.exports_work.proofs.timers.reschedule_told.Statement.{statement}
-use Rattle.exports_work.proofs.timers.reschedule_told.Tie as tie
+use Rattle.exports_timers.proofs.timers.reschedule_told.Statement.{statement}
+use Rattle.exports_timers.proofs.timers.reschedule_told.Tie as tie
 
 returns : tie.Need-returns
 returns c = reschedule-short (c .if1 .taken)

@@ -1,11 +1,11 @@
 // The work of pull, start and abandon, answered in numbers. No `requires`.
 ghost use Rattle.exports_work.specs.Works.{PullTold, StartTold, AbandonTold};
-use crate::SHORT;
-use crate::ToldMade;
-use crate::ToldTurn;
-use crate::words::of_noted;
-use crate::words::of_pulled;
-use crate::words::write;
+use exports_work::SHORT;
+use exports_work::ToldMade;
+use exports_work::ToldTurn;
+use exports_work::words::of_noted;
+use exports_work::words::of_pulled;
+use exports_work::words::write;
 use face_turns::advancing::pull_work;
 use face_work::advancing::abandon_work;
 use face_work::advancing::start_work;

@@ -1,9 +1,9 @@
 // The work of enable, answered in numbers. No `requires`.
 ghost use Rattle.exports_work.specs.Works.{EnableTold};
-use crate::SHORT;
-use crate::ToldMade;
-use crate::words::of_noted;
-use crate::words::write;
+use exports_work::SHORT;
+use exports_work::ToldMade;
+use exports_work::words::of_noted;
+use exports_work::words::write;
 use face_turns::making::enable_work;
 use nodes::Node;
 use records::Clock;

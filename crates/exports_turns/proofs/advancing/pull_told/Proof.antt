@@ -1,8 +1,8 @@
 -- `pull_told` meets its promise. Assumes nothing.
 use Rattle.exports_work.proofs.Telling.{pull-short, pull-long}
 use borrow.Author.Needs.{needs}
-use Rattle.exports_work.proofs.advancing.pull_told.Statement.{statement}
-use Rattle.exports_work.proofs.advancing.pull_told.Tie as tie
+use Rattle.exports_turns.proofs.advancing.pull_told.Statement.{statement}
+use Rattle.exports_turns.proofs.advancing.pull_told.Tie as tie
 
 returns : tie.Need-returns
 returns c = pull-short (c .if1 .taken)

@@ -1,8 +1,8 @@
 -- `start_told` meets its promise. Assumes nothing.
 use Rattle.exports_work.proofs.Telling.{start-short, start-long}
 use borrow.Author.Needs.{needs}
-use Rattle.exports_work.proofs.advancing.start_told.Statement.{statement}
-use Rattle.exports_work.proofs.advancing.start_told.Tie as tie
+use Rattle.exports_turns.proofs.advancing.start_told.Statement.{statement}
+use Rattle.exports_turns.proofs.advancing.start_told.Tie as tie
 
 returns : tie.Need-returns
 returns c = start-short (c .if1 .taken)

@@ -1,8 +1,8 @@
 -- `schedule_told` meets its promise. Assumes nothing.
 use Rattle.exports_work.proofs.Telling.{schedule-short, schedule-long}
 use borrow.Author.Needs.{needs}
-use Rattle.exports_work.proofs.timers.schedule_told.Statement.{statement}
-use Rattle.exports_work.proofs.timers.schedule_told.Tie as tie
+use Rattle.exports_timers.proofs.timers.schedule_told.Statement.{statement}
+use Rattle.exports_timers.proofs.timers.schedule_told.Tie as tie
 
 returns : tie.Need-returns
 returns c = schedule-short (c .if1 .taken)

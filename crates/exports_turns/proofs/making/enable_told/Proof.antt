@@ -1,8 +1,8 @@
 -- `enable_told` meets its promise. Assumes nothing.
 use Rattle.exports_work.proofs.Telling.{enable-short, enable-long}
 use borrow.Author.Needs.{needs}
-use Rattle.exports_work.proofs.making.enable_told.Statement.{statement}
-use Rattle.exports_work.proofs.making.enable_told.Tie as tie
+use Rattle.exports_turns.proofs.making.enable_told.Statement.{statement}
+use Rattle.exports_turns.proofs.making.enable_told.Tie as tie
 
 returns : tie.Need-returns
 returns c = enable-short (c .if1 .taken)

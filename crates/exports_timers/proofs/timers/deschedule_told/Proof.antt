@@ -1,8 +1,8 @@
 -- `deschedule_told` meets its promise. Assumes nothing.
 use Rattle.exports_work.proofs.Telling.{deschedule-short, deschedule-long}
 use borrow.Author.Needs.{needs}
-use Rattle.exports_work.proofs.timers.deschedule_told.Statement.{statement}
-use Rattle.exports_work.proofs.timers.deschedule_told.Tie as tie
+use Rattle.exports_timers.proofs.timers.deschedule_told.Statement.{statement}
+use Rattle.exports_timers.proofs.timers.deschedule_told.Tie as tie
 
 returns : tie.Need-returns
 returns c = deschedule-short (c .if1 .taken)
