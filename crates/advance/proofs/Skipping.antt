@@ -1,5 +1,5 @@
 -- A bucket that holds its sentinel alone is passed over: that is a turn which changes no record. Assumes nothing.
-use Prim.Native.Nat.{ℕ, suc, _+_, _-_, _≤_, _<_}
+use Prim.Native.Nat.{ℕ, _+_, _-_, _≤_, _<_}
 use native.Mathlib.Omega.{arith}
 use mathlib.Core.Path.{_≡_, refl, sym, ap, subst, _∙_}
 use mathlib.Core.Bool.{Bool, true, false, cond}
@@ -10,7 +10,7 @@ use borrow.Author.Tests.{eqb-true, leb-true, eq-eqb, ne-eqb}
 use Rattle.links.specs.Lists.{Links}
 use Rattle.links.specs.Read.{Front, Follows}
 use Rattle.links.proofs.Turning.{turn-stays}
-use Rattle.rules.specs.Geometry.{Geometry, wheel01}
+use Rattle.rules.specs.Geometry.{Geometry, wheel01, buckets}
 use Rattle.rules.specs.Visits.{visitedAt, bucketAt}
 use Rattle.rules.proofs.Cases.{not-both}
 use Rattle.records.specs.declared.Clock.{Clock}
@@ -21,7 +21,7 @@ use Rattle.advance.specs.declared.turns.Turn.{Turn}
 use Rattle.advance.specs.Position.{at, onward}
 use Rattle.advance.specs.Turns.{goes, standsIn, waitingAt, left, TurnReady, OnReady, Waits, Turned}
 use Rattle.advance.specs.Skips.{aloneIn, comesNext, oneOn, Lent, PassReady, IdleReady, TellsAlone, Passable, Passes, stays, over}
-use Rattle.advance.proofs.Positions.{bucketAt-in, onward-here}
+use Rattle.advance.proofs.Positions.{onward-here}
 use Rattle.advance.proofs.Waiting.{wait-none}
 use Rattle.advance.proofs.Going.{on-goes, enter-asks}
 use Rattle.advance.proofs.Taking.{turn-on, on-turned}
@@ -68,12 +68,10 @@ pub record Passing (h n : List ℕ) (c : Clock) (j : ℕ) : Type 0 where
 pub passing-begins : (h n : List ℕ) (c : Clock) → IdleReady wheel01 h n c → Passing h n c (c .step)
 passing-begins h n c z = record { passes = stays; idle = z .idle }
 
-module _ (h n : List ℕ) (c : Clock) (z : IdleReady wheel01 h n c) (j b : ℕ) (eb : b ≡ bucketAt wheel01 (c .previous) (c .level) j) where
-  pub bucket-lent : Lent h n b
-  bucket-lent =
-      let i = bucketAt-in wheel01 (c .previous) (c .level) j in
-      record { head = omega (arith, i, eb, z .lent .total); slot = omega (arith, i, eb, z .lent .room) }
+pub bucket-lent : (h n : List ℕ) → PassReady wheel01 h n → (b m : ℕ) → b ≡ m → m < buckets wheel01 → Lent h n b
+bucket-lent h n z b m e i = record { head = omega (arith, i, e, z .total); slot = omega (arith, i, e, z .room) }
 
+module _ (h n : List ℕ) (c : Clock) (z : IdleReady wheel01 h n c) (j b : ℕ) (eb : b ≡ bucketAt wheel01 (c .previous) (c .level) j) where
   pub passing-on : Passing h n c j → (m : ℕ) → m ≡ visitedAt wheel01 (c .previous) (c .reading) (c .level) → j < m → (r : Bool) → TellsAlone h n b r → r ≡ true → Passing h n c (j + 1)
   passing-on p m em l r t e =
       let a : aloneIn h n (comesNext wheel01 (standing (c .level) j c)) ≡ true = ap (aloneIn h n) (sym eb) ∙ sym (t .is) ∙ e in

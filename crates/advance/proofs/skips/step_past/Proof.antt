@@ -1,8 +1,8 @@
 -- `step_past` meets its contract. Assumes nothing.
 use Prim.Native.Nat.{_-_}
-use native.Mathlib.Omega.{arith}
 use borrow.Author.Needs.{needs}
 use borrow.Author.Tests.{not-false}
+use Rattle.advance.proofs.Positions.{bucketAt-in}
 use Rattle.advance.proofs.Skipping.{Passing, passing-begins, bucket-lent, passing-on}
 use Rattle.advance.proofs.skips.step_past.Statement.{statement}
 use Rattle.advance.proofs.skips.step_past.Tie as tie
@@ -23,7 +23,7 @@ bucket-at-requires : tie.Need-bucket-at-requires Inv-loop μ-loop
 bucket-at-requires c κs = search needs
 
 alone-requires : tie.Need-alone-requires Inv-loop μ-loop
-alone-requires c κs = bucket-lent _ _ _ (c .before .before .before .before .before .before .pre) _ _ (c .bucket-at .ensures)
+alone-requires c κs = bucket-lent _ _ (c .before .before .before .before .before .before .pre .lent) _ _ (c .bucket-at .ensures) (search bucketAt-in)
 
 returns : tie.Need-returns Inv-loop μ-loop
 returns c = c .before .before .before .before .loop .inv .passes
