@@ -7,3 +7,4 @@ pub mod Fewer
 pub mod Popping
 pub mod Taking
 pub mod Pulling
+pub mod Skipping

@@ -3,6 +3,7 @@ ghost use Rattle.rules.specs.Geometry.{wheel01};
 ghost use Rattle.records.specs.Records.{nodes};
 ghost use Rattle.advance.specs.Turns.{TurnReady};
 ghost use Rattle.advance.specs.Pull.{Pulls};
+use crate::skips::pass_over;
 use crate::turns::Pulled;
 use crate::turns::take_turn;
 use records::Clock;
@@ -53,6 +54,6 @@ pub fn pull(
                 event,
             };
         }
-        c = after;
+        c = pass_over(heads, next, after);
     }
 }

@@ -36,7 +36,7 @@ pub struct Turn {
 }
 
 // The first node before the sentinel of the bucket that the advance stands in, or NONE where there is none.
-fn waiting(heads: &[usize], clock: Clock) -> usize
+pub fn waiting(heads: &[usize], clock: Clock) -> usize
     requires { ⌜ WaitReady wheel01 (now heads) ⌝ }
     ensures { λ r. ⌜ Waits wheel01 (now (heads .entry)) clock r ⌝ }
 {

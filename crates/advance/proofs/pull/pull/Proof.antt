@@ -3,7 +3,8 @@ use borrow.Author.Tests.{not-true, not-false}
 use Rattle.rules.specs.Geometry.{wheel01}
 use Rattle.records.specs.Records.{nodes}
 use Rattle.advance.specs.Turns.{left}
-use Rattle.advance.proofs.Pulling.{Pulling, pull-begins, pull-asks, pull-less, pull-again, pull-ends, pull-kept}
+use Rattle.advance.proofs.Pulling.{Pulling, pull-begins, pull-asks, pull-ends, pull-kept}
+use Rattle.advance.proofs.Skipping.{skip-asks, skip-less, skip-again}
 use native.Mathlib.Omega.{arith}
 use Rattle.advance.proofs.pull.pull.Statement.{statement}
 use Rattle.advance.proofs.pull.pull.Tie as tie
@@ -48,11 +49,14 @@ same-length-8 c = omega (arith, pull-kept _ _ _ _ (c .before .before .before .be
 returns : tie.Need-returns Inv-loop μ-loop
 returns c = pull-ends _ _ _ _ (c .before .before .before .before .before .before .before .before .before .before .before .before .before .before .before .before .before .before .before .before .before .before .before .before .before .before .before .before .before .before .before .before .before .before .before .before .before .before .before .pre) _ _ (c .before .before .before .before .before .before .before .before .before .before .before .before .before .before .before .before .before .before .before .before .before .before .before .before .before .before .before .before .loop .inv) _ _ (c .before .before .before .before .before .before .before .before .before .before .before .before .before .before .before .before .before .before .before .take-turn .ensures) (not-true _ (c .if1 .taken))
 
+pass-over-requires : tie.Need-pass-over-requires Inv-loop μ-loop
+pass-over-requires c κs = skip-asks _ _ _ _ (c .before .before .before .before .before .before .before .before .before .before .before .before .before .before .before .before .before .before .before .before .before .before .before .before .before .before .before .before .before .before .before .before .before .before .before .before .before .before .before .before .before .pre) _ _ (c .before .before .before .before .before .before .before .before .before .before .before .before .before .before .before .before .before .before .before .before .before .before .before .before .before .before .before .before .before .before .loop .inv) _ _ (c .before .before .before .before .before .before .before .before .before .before .before .before .before .before .before .before .before .before .before .before .before .take-turn .ensures) (not-false _ (c .before .before .if1 .left))
+
 loop-less : tie.Need-loop-less Inv-loop μ-loop
-loop-less c = pull-less _ _ _ _ (c .before .before .before .before .before .before .before .before .before .before .before .before .before .before .before .before .before .before .before .before .before .before .before .before .before .before .before .before .before .before .before .before .before .before .before .before .before .before .before .pre) _ _ (c .before .before .before .before .before .before .before .before .before .before .before .before .before .before .before .before .before .before .before .before .before .before .before .before .before .before .before .before .loop .inv) _ _ (c .before .before .before .before .before .before .before .before .before .before .before .before .before .before .before .before .before .before .before .take-turn .ensures) (not-false _ (c .if1 .left))
+loop-less c = skip-less _ _ _ _ (c .before .before .before .before .before .before .before .before .before .before .before .before .before .before .before .before .before .before .before .before .before .before .before .before .before .before .before .before .before .before .before .before .before .before .before .before .before .before .before .before .before .before .pre) _ _ (c .before .before .before .before .before .before .before .before .before .before .before .before .before .before .before .before .before .before .before .before .before .before .before .before .before .before .before .before .before .before .before .loop .inv) _ _ (c .before .before .before .before .before .before .before .before .before .before .before .before .before .before .before .before .before .before .before .before .before .before .take-turn .ensures) (not-false _ (c .before .before .before .if1 .left)) _ (c .pass-over .ensures)
 
 loop-again : tie.Need-loop-again Inv-loop μ-loop
-loop-again c = pull-again _ _ _ _ (c .before .before .before .before .before .before .before .before .before .before .before .before .before .before .before .before .before .before .before .before .before .before .before .before .before .before .before .before .before .before .before .before .before .before .before .before .before .before .before .pre) _ _ (c .before .before .before .before .before .before .before .before .before .before .before .before .before .before .before .before .before .before .before .before .before .before .before .before .before .before .before .before .loop .inv) _ _ (c .before .before .before .before .before .before .before .before .before .before .before .before .before .before .before .before .before .before .before .take-turn .ensures) (not-false _ (c .if1 .left))
+loop-again c = skip-again _ _ _ _ (c .before .before .before .before .before .before .before .before .before .before .before .before .before .before .before .before .before .before .before .before .before .before .before .before .before .before .before .before .before .before .before .before .before .before .before .before .before .before .before .before .before .before .pre) _ _ (c .before .before .before .before .before .before .before .before .before .before .before .before .before .before .before .before .before .before .before .before .before .before .before .before .before .before .before .before .before .before .before .loop .inv) _ _ (c .before .before .before .before .before .before .before .before .before .before .before .before .before .before .before .before .before .before .before .before .before .before .take-turn .ensures) (not-false _ (c .before .before .before .if1 .left)) _ (c .pass-over .ensures)
 
 pub pull-spec : {M : Type 1} → statement M
 pull-spec =
@@ -71,5 +75,6 @@ pull-spec =
     same-length-7
     same-length-8
     returns
+    pass-over-requires
     loop-less
     loop-again)
