@@ -1,5 +1,4 @@
 -- What the contracts of the work behind the calls over lent nodes cite. Assumes nothing.
-pub mod Columns
 pub mod Answers
 pub mod Faces
 pub mod Turns

@@ -1,3 +1,3 @@
 -- What the contracts over lent node structs cite. Assumes nothing.
 pub mod Shown
-pub mod Table
+pub mod Columns
