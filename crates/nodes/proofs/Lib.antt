@@ -4,3 +4,5 @@ pub mod Fills
 pub mod Arrays
 pub mod Using
 pub mod Passing
+pub mod Lending
+pub mod Six
