@@ -7,18 +7,20 @@ It reads the function and the work that it calls from the crates' src/ folders; 
     pub fn FN(nodes: &mut [Node], clock: &mut Clock, PARAMETERS) -> ANSWER        // or nodes: &[Node]; or, with that, clock: Clock
         ensures { λ r. ⌜ FACE of the records at entry and at exit, of the numbers and of r ⌝ }
     {
-        let table = load(nodes);
-        let made = WORK(table, nodes.len(), *clock, PARAMETERS);
-        *clock = made.clock;                  // where clock is lent
-        store(nodes, made.table);             // where nodes are lent as &mut
-        made.answer
+        let mut next = [0usize; ROOM];        // and prev, bucket, entry, generation: u32, serial: u64
+        load(nodes, &mut next, ..);
+        let turn = WORK(&mut next, .., nodes.len(), *clock, PARAMETERS);      // & where nodes are lent as &
+        *clock = turn.clock;                  // where clock is lent
+        store(nodes, &next, ..);              // where nodes are lent as &mut
+        turn.answer
     }
 
 PARAMETERS are slices (& or &mut) and numbers, of usize, u64, u32 and bool, each passed on to WORK in the same order. Where clock
-comes by value, WORK returns the answer itself and is the last expression: `WORK(table, nodes.len(), clock, PARAMETERS)`.
-WORK is covered, has no `requires` and one clause, ensures { λ r. ⌜ FOR .. r ⌝ }, with FOR a record that has a field
-    meets : (ns : List Node) → length ns ≡ n → Loads ns table → FACE with ns for the nodes at entry and `kept ns (r .table)` for those at exit
-It returns a struct of table, clock and answer (those of them that there are, in this order). ANSWER is an enum or u64.
+comes by value, WORK returns the answer itself and is the last expression.
+WORK is covered, requires Holds 4096 of the six columns, and has one clause, ensures { λ r. ⌜ FOR .. r ⌝ }, with FOR a record that has a field
+    meets : (ns ns′ : List Node) → length ns ≡ n → Loads ns c → Stores ns c′ ns′ → FACE with ns for the nodes at entry and ns′ for those at exit
+c being the columns at entry and c′ those at exit; where nodes are lent as & there is no c′ and no ns′. It returns a struct of clock and
+answer where clock is lent. ANSWER is an enum.
 What FACE and FOR are called, and what they cite, is taken from the `ghost use` lines of the two files."""
 import os
 import re
@@ -28,6 +30,9 @@ HERE = os.path.dirname(os.path.abspath(__file__))
 CRATES = os.path.join(os.path.dirname(os.path.dirname(HERE)), 'crates')
 WIDTH = {'usize': 'w64', 'u64': 'w64', 'u32': 'w32'}
 BITS = {'w64': 64, 'w32': 32}
+COLUMNS = ['next', 'prev', 'bucket', 'entry', 'generation', 'serial']
+ROOM = 4168
+A6 = 'a₁ a₂ a₃ a₄ a₅ a₆'
 
 
 # ---- text
@@ -80,7 +85,7 @@ class Function:
     """A function's signature and contract, as its source has them."""
 
     def __init__(self, crate, name):
-        form = r'fn %s\s*\((.*?)\)\s*->\s*(\w+)\s*ensures \{ λ r\. ⌜(.*?)⌝ \}\s*\{(.*?)\n\}' % name
+        form = r'fn %s\s*\((.*?)\)\s*->\s*(\w+)\s*(?:requires \{[^{}]*\}\s*)?ensures \{ λ r\. ⌜(.*?)⌝ \}\s*\{(.*?)\n\}' % name
         found = [(path, text, re.search(form, text, re.S)) for path, text in sources(crate)]
         found = [x for x in found if x[2]]
         if len(found) != 1:
@@ -136,7 +141,7 @@ class Passed:
             self.as_number('m' + low(j), WIDTH[self.elem])
         self.binder = '(%s : %s)' % (self.var, self.type)
         self.entry = '(%s .now)' % self.var if self.slice else self.var
-        self.last = '(ws%s)' % down(j)
+        self.last = '(ws%s)' % down(len(COLUMNS) + 2 + j - 3)
 
     def as_slice(self, x, item, live):
         kind = 'mut' if self.mut else 'shr'
@@ -220,16 +225,16 @@ class Walk:
 class Thin:
     def __init__(self, crate, name):
         self.crate, self.fn = crate, Function(crate, name)
-        called = re.search(r'(\w+)\(\s*table,\s*nodes\.len\(\)', self.fn.body)
+        called = re.search(r'(\w+_work)\(', self.fn.body)
         kinds = [t for _, t in self.fn.params[:2]]
         if not called or kinds not in [['&mut [Node]', '&mut Clock'], ['&[Node]', '&mut Clock'], ['&[Node]', 'Clock']]:
             sys.exit('thin.py: %s is not of the form' % name)
         self.work = Function(self.fn.home(called.group(1)), called.group(1))
-        if [t for _, t in self.work.params[3:]] != [t for _, t in self.fn.params[2:]]:
+        if [t for _, t in self.work.params[8:]] != [t for _, t in self.fn.params[2:]]:
             sys.exit('thin.py: %s and its work take other parameters' % name)
         self.mut_nodes, self.mut_clock = kinds[0] == '&mut [Node]', kinds[1] == '&mut Clock'
         self.made = self.mut_clock
-        self.fields = (['table'] if self.mut_nodes else []) + (['clock'] if self.mut_clock else []) + ['answer']
+        self.fields = ['clock', 'answer']
         self.read_passed()
         self.read_locals()
         self.read_answer()
@@ -248,44 +253,43 @@ class Thin:
     def read_locals(self):
         """The locals are numbered as the MIR numbers them."""
         self.count = 3 + len(self.passed)
-        self.table, self.result = self.local(), self.local() if self.made else 0
+        self.arrays = [self.local() for _ in COLUMNS]
+        self.result, self.unit = self.local() if self.made else 0, self.local()
         if self.mut_nodes:
             self.ref, self.lent = self.local(), self.local()
+        self.to_load, self.to_work = self.pairs(), self.pairs()
         self.length = self.local()
         self.clock = self.local() if self.mut_clock else 2
         for p in self.passed:
             p.ref, p.pair = (self.local(), self.local()) if p.mut else (None, p.local)
         if self.mut_nodes:
-            self.unit, self.ref2, self.lent2 = self.local(), self.local(), self.local()
+            self.ref2, self.lent2 = self.local(), self.local()
+            self.to_store = self.pairs()
+        self.spots = ' '.join('l' + low(a) for a in self.arrays)
 
     def local(self):
         self.count += 1
         return self.count - 1
 
+    def pairs(self):
+        """For each column, the locals of a reference to it and of the slice that this makes."""
+        return [(self.local(), self.local()) for _ in COLUMNS]
+
     def read_answer(self):
-        number = self.fn.answer in WIDTH
-        width = WIDTH.get(self.fn.answer)
         self.answer = '(u .answer)' if self.made else 'u'
-        self.answer_row = self.fn.answer if number else 'E.the-row'
-        self.answer_makes = 'uint-makes 𝓤 H A W ' + width if number else 'EL.makes E.the-type E′.the-plain 𝓤 H A'
-        self.answer_lawful = 'uint-lawful 𝓤 H A W ' + width if number else 'EL.lawful E.the-type E′.the-laws 𝓤 H A W tt'
-        self.answer_value = 'vint %s (u .answer)' % width if number else 'EL.val E.the-type E′.the-laws (u .answer)'
-        self.made_type = self.work.answer if self.made else 'ℕ' if number else self.fn.answer
-        self.made_row = 'U.the-row' if self.made else self.answer_row
-        self.types = [('T', 'Node', self.fn.declared('Node')), ('K', 'Clock', self.fn.declared('Clock'))]
-        if not number:
-            self.types.append(('E', self.fn.answer, self.fn.declared(self.fn.answer)))
+        self.made_type = self.work.answer if self.made else self.fn.answer
+        self.made_row = 'U.the-row' if self.made else 'E.the-row'
+        self.types = [('T', 'Node', self.fn.declared('Node')), ('K', 'Clock', self.fn.declared('Clock')), ('E', self.fn.answer, self.fn.declared(self.fn.answer))]
         if self.made:
             self.types.append(('U', self.work.answer, self.work.declared(self.work.answer)))
 
     def read_clauses(self):
-        entry, last = {p.name: p.entry for p in self.passed}, {p.name: p.last for p in self.passed}
-        table, count, clock = [p for p, _ in self.work.params[:3]]
-        theirs = [p for p, _ in self.work.params[3:]]
-        work_entry = dict({q: p.entry for q, p in zip(theirs, self.passed)}, **{table: 'tb', count: 'n', clock: 'h', 'r': 'u'})
-        self.promise = self.work.stated(work_entry, {q: p.last for q, p in zip(theirs, self.passed)})
-        shown = self.fn.stated(dict(entry, nodes='ys', clock='h', r=self.answer), dict(last, nodes='l', clock='(u .clock)'))
-        self.says = 'subst (λ (l : List Node). %s) (sym e) (works-for .meets ys refl loaded)' % shown if self.mut_nodes else 'works-for .meets ys refl loaded'
+        theirs = [p for p, _ in self.work.params]
+        columns, (count, clock), rest = theirs[:6], theirs[6:8], theirs[8:]
+        entry = dict({q: '(c .%s)' % f for q, f in zip(columns, COLUMNS)}, **{q: p.entry for q, p in zip(rest, self.passed)})
+        last = dict({q: '(ws%s)' % down(i) for i, q in enumerate(columns)}, **{q: p.last for q, p in zip(rest, self.passed)})
+        self.promise = self.work.stated(dict(entry, **{count: 'n', clock: 'h', 'r': 'u'}), last)
+        self.says = 'works-for .meets ys zs refl loaded stored' if self.mut_nodes else 'works-for .meets ys refl loaded'
 
     # ---- what stands around the walk
 
@@ -296,12 +300,12 @@ class Thin:
         return 'Rattle.%s.proofs' % crate if crate == self.crate else 'Rattle.%s.proofs' % crate
 
     def imports(self):
-        cited = {'Rattle.nodes.specs.Table': {'Loads'} | ({'kept'} if self.mut_nodes else set())}
-        for module, name in list(self.work.cited()) + list(self.fn.cited()):
+        cited = {'Rattle.nodes.specs.Columns': {'Columns', 'columns', 'Loads'} | ({'Stores'} if self.mut_nodes else set())}
+        for module, name in self.work.cited():
             cited.setdefault(module.replace('Rattle.%s.specs' % self.crate, self.specs(self.crate)), set()).add(name)
         lines = ['use %s.declared.%s.{%s}' % (self.specs(crate), path, name) for _, name, (crate, path) in self.types]
         lines += ['use %s.{%s}' % (module, ', '.join(sorted(cited[module]))) for module in sorted(cited)]
-        lines += ['use Rattle.nodes.proofs.Arrays.{from-field}'] * self.mut_nodes + ['use Rattle.nodes.proofs.Passing.{passed-on}']
+        lines += ['use Rattle.nodes.proofs.Passing.{passed-on}']
         for short, _, (crate, path) in self.types:
             lines += ['use %s.%s as %s' % (self.proofs(crate), path, short), 'use %s.%s.Laws as %s′' % (self.proofs(crate), path, short)]
         for short, path, _ in self.callees():
@@ -333,7 +337,7 @@ class Thin:
         """What the walk ends with: the names of the entries, and the entries."""
         nodes = [('nodes-last', '‵ (fsep (finally T.the-row γ zs) (feq ℕ (length zs) n))')]
         clock = [('clock-obs', '‵ (fobs γ₁ (K.the-row .coded .code (u .clock)))'), ('clock-bor', '‵ (fbor κ₁ (Body (mem K.the-row) b₁ o₁ γ₁))')]
-        rest = [('rest', '‵ (Rest-last tb ws)'), ('nodes-tok', '‵ (flft κ₀ q₀)')]
+        rest = [('rest', '‵ (Rest-last ls c ws)'), ('nodes-tok', '‵ (flft κ₀ q₀)')]
         return nodes * self.mut_nodes + clock * self.mut_clock + rest + [('clock-tok', '‵ (flft κ₁ q₁)')] * self.mut_clock + [('tokens', 'Tokens')]
 
     def exit_steps(self):
@@ -366,6 +370,7 @@ class Thin:
         self.takes_apart(w)
         if self.mut_clock:
             self.opens_clock(w)
+        self.makes_columns(w)
         self.loads(w)
         self.works(w)
         if self.mut_clock:
@@ -412,6 +417,51 @@ class Thin:
         w.say('move ! (1 ∷ []) $ peeks ! K.the-row (Is K.the-row) (shows 𝓤 H A K.the-row) h (vals h) (λ was. drop ! $')
         w.head(3, 'clock-cell', 'clock-open', 'clock-obs', 'clock-auth')
 
+    # ---- the columns: one entry of the context, made of the six arrays
+
+    def makes_columns(self, w):
+        w.note('the columns')
+        for a, bits in zip(self.arrays, (8, 8, 8, 8, 4, 8)):
+            w.say('assigns ! (rep ! %d (lit ! tt)) (from ! (stop !)) %s $' % (ROOM, w.init(a, '(zeros-typed 𝓤 H A W w%d small%s %d)' % (8 * bits, low(bits), ROOM))))
+        names = ['_%d' % a for a in self.arrays]
+        text = w.take(names[4], names[5]) + 'join ! $ '
+        w.head(2, 'cols')
+        for name in reversed(names[:4]):
+            text += w.take(name, 'cols') + 'join ! $ '
+            w.head(2, 'cols')
+        w.say(text)
+        w.say('use1 W (some (λ (c : Columns). given (Full %d c) (‵ (Rows %d %s c)))) (makes-six 𝓤 H A W %d %s small₈ small₄) $ pick ! (λ c₀. learn ! (λ full₀.' % (ROOM, ROOM, self.spots, ROOM, self.spots))
+
+    def column_refs(self, w, pairs):
+        for a, (ref, pair) in zip(self.arrays, pairs):
+            w.say('assigns ! (addr ! (from ! (stop !))) (from ! (stop !)) %s $' % w.init(ref, '(tt, tt)'))
+            parts = '(and-then ! %s (and-then ! (lit ! tt) (no-more !)))' % w.look(ref)
+            w.say('assigns ! (agg ! %s) (from ! (stop !)) %s $' % (parts, w.init(pair, '(tt, (tt, (record { fits = lit< tt }, tt)))')))
+
+    def lend_columns(self, w, mut, c, full, leases, tokens, others, entries):
+        """The columns are lent, before the tokens and what is owned in the two entries."""
+        law, owned, lender = ('lends-six', 'Owned', 'Lenders') if mut else ('shares-six', 'Viewed', 'Sharers')
+        at = '%d %s' % (ROOM, self.spots)
+        item = 'With 𝓤 H A W ls %s ⊛ ‵ (%s %s ls %s %s) ⊛ ‵ (%s %s ls%s)' % (tokens, owned, at, c, others, lender, at, '' if mut else ' ' + c)
+        w.say(w.take('cols', *entries) + 'use3 W (later (some (λ (ls : Leases). %s))) (%s 𝓤 H A W %s room₈ room₄ %s %s %s %s) $' % (item, law, at, c, full, tokens, others))
+        w.say('await ! tt $ pick ! (λ %s. split ! $ move ! (1 ∷ []) $ split ! $' % leases)
+        w.head(3, 'lent-cols', 'lenders', 'with')
+
+    def columns_back(self, w, c, full, leases, tokens):
+        """The columns that were lent as & are back."""
+        at = '%d %s' % (ROOM, self.spots)
+        w.say(w.take('with', 'lenders') + 'use2 W (later (‵ (Rows %s %s) ⊛ %s)) (six-unshared 𝓤 H A W %s room₈ room₄ %s %s %s ftrue %s) $ await ! tt $ split ! $' % (at, c, tokens, at, c, full, tokens, leases))
+
+    def columns_after(self, w, c, full, leases, tokens, others, after, known):
+        """The columns that were lent as &mut are back, at their last numbers."""
+        at = '%d %s' % (ROOM, self.spots)
+        item = 'given (Full %d %s) (‵ (Rows %s %s) ⊛ %s ⊛ ‵ %s)' % (ROOM, after, at, after, tokens, others)
+        w.say(w.take('with', 'lenders', 'lasting') + 'use3 W (later (%s)) (six-back 𝓤 H A W %s room₈ room₄ %s %s %s %s %s %s) $ await ! tt $ learn ! (λ %s. split ! $ move ! (1 ∷ []) $ split ! $' % (item, at, c, full, tokens, others, leases, after, known))
+
+    def nothings(self, w):
+        w.say('nothing ! $ nothing ! $')
+        w.head(0, 'no-tokens', 'no-others')
+
     def lends(self, w):
         w.lend_on(1, self.ref, self.lent, 'room .0')
         w.say(w.take('nodes-obs', 'nodes-bor', 'nodes-tok') + 'opens-slice ! tt T.the-row ys b o $ lft-new ! tt (λ α. move ! (1 ∷ []) $ feqI ! ℕ n n refl $ fjoin ! $')
@@ -420,57 +470,88 @@ class Thin:
         w.say('use1 W (later (some (λ (δ : GName). %s))) (lends-shr-slice 𝓤 H A W T.the-row (named 0) (α ∷ []) fullShare ys b o room) $ await ! tt $ pick ! (λ δ. split ! $' % lent)
         w.head(1, 'shared', 'lender')
 
+    def calls(self, w, callee, ghost, args, value, returned, goes):
+        """A call with the tokens in the entry 'toks' and what is owned in 'own'."""
+        big = callee.capitalize()
+        w.say(w.take('toks', 'own') + 'use2 W (raw (%s 𝓤 H A at-mem run .pre %s)) %s $' % (big, ghost, goes))
+        w.head(2, 'pre')
+        w.say('calls-at ! fm (%s 𝓤 H A at-mem run) known-%s %s' % (big, callee, ghost))
+        w.say(''.join('(and-then ! %s ' % w.look(a) for a in args) + '(no-more !)' + ')' * len(args) + ' (λ %s.' % value)
+        w.say(returned)
+
+    def together(self, w, token, own):
+        """The nodes' token and slice before the columns'."""
+        w.say(w.take(token, 'with') + 'join ! $')
+        w.head(2, 'toks')
+        w.say(w.take(own, 'lent-cols') + 'fjoin ! $')
+        w.head(2, 'own')
+
     def loads(self, w):
+        w.note('`load`: the columns are lent, each for a lifetime of its own' + ("; so are the nodes, whose borrow is opened" if self.mut_nodes else ''))
         if self.mut_nodes:
-            w.note("`load`: the nodes' borrow is opened, and they are lent for a lifetime of their own")
             self.lends(w)
             live, share, name, arg, items = '(α ∷ [])', 'fullShare', 'δ', self.lent, ('α', 'shared')
         else:
-            w.note('`load`')
             live, share, name, arg, items = 'κ₀', 'q₀', 'γ', 1, ('nodes-tok', 'nodes-own')
-        at = '%s %s %s' % (live, share, name)
-        w.say(w.take(*items) + 'use2 W (raw (Load 𝓤 H A at-mem run .pre (to-load %s))) (goes-load %s) $' % (at, at))
-        w.head(2, 'pre')
-        w.say('calls-at ! fm (Load 𝓤 H A at-mem run) known-load (to-load %s) (and-then ! %s (no-more !)) (λ v.' % (at, w.look(arg)))
-        ensured = 'raw (ensured 𝓤 H A loads.ended (loads.clauses 𝓤 H A at-mem run) (%s, tt) (ref %s, tt) tt tb)' % (live, name)
-        w.say('use1 W (later (some (λ (tb : List Node). ((‵ (flft %s %s) ⊛ ‵ ftrue) ⊛ ‵ (Arr .own tb (v ∷ []))) ⊛ %s))) (id⊢ 𝓤 _) $ await ! tt $ pick ! (λ tb.' % (live, share, ensured))
-        w.say('split ! $ move ! (1 ∷ []) $ use1 W (raw (fact 𝓤 (Loads ys tb))) (load-of 𝓤 H A at-mem run %s (ref %s) tb) $ heard ! (Loads ys tb) (λ loaded. split ! $' % (live, name))
-        w.say('move ! (1 ∷ []) $ peeks ! Arr (Is Arr) (shows 𝓤 H A Arr) tb (v ∷ []) (λ ga. drop ! $ split ! $')
-        w.head(1, 'load-tok' if self.mut_nodes else 'nodes-tok', 'true')
+        self.column_refs(w, self.to_load)
+        self.nothings(w)
+        self.lend_columns(w, True, 'c₀', 'full₀', 'ls', '(‵ ftrue)', 'ftrue', ['no-tokens', 'no-others'])
+        self.together(w, *items)
+        at = '%s %s %s %s ls c₀' % (self.spots, live, share, name)
+        ensured = 'raw (ensured 𝓤 H A loads.ended (loads.clauses 𝓤 H A at-mem run) %s %s tt none)' % (self.lives_of('ls', live), self.nodes_and(self.spots, name, 'ls', 'c₀'))
+        returned = 'use1 W (later (some (λ (none : Unit {0}). ((‵ (flft %s %s) ⊛ With 𝓤 H A W ls (‵ ftrue)) ⊛ ‵ (Nothing .own none (v ∷ []))) ⊛ %s))) (id⊢ 𝓤 _) $ await ! tt $ pick ! (λ none.' % (live, share, ensured)
+        self.calls(w, 'load', '(to-load %s)' % at, [arg] + [pair for _, pair in self.to_load], 'v', returned, '(goes-load %s full₀)' % at)
+        w.say('split ! $ move ! (1 ∷ []) $ use1 W (some (λ (c : Columns). ‵ (fsep ftrue (Lasting %d %s ls c₀ c ftrue)) ⊛ raw (fact 𝓤 (Loads ys %s)))) (load-of %s none) $ pick ! (λ c. split ! $' % (ROOM, self.spots, self.whole('c'), at))
+        w.say('move ! (1 ∷ []) $ heard ! (Loads ys %s) (λ loaded. fsplit ! $ drop ! $' % self.whole('c'))
+        w.head(1, 'lasting', 'returned')
+        w.say(w.take('returned') + 'split ! $ move ! (1 ∷ []) $ peeks ! Nothing (Is Nothing) (shows 𝓤 H A Nothing) none (v ∷ []) (λ isv. drop ! $ split ! $')
+        w.head(1, 'load-tok' if self.mut_nodes else 'nodes-tok', 'with')
+        self.columns_after(w, 'c₀', 'full₀', 'ls', '(‵ ftrue)', 'ftrue', 'c', 'full')
+        w.say('drop ! $ drop ! $')
+        w.head(3, 'cols')
         if self.mut_nodes:
             w.note('the lifetime ends, the nodes are back, and their borrow is closed')
-            text = 'lft-end ! tt $ ' + w.take('load-tok', 'lender') + 'lent-back ! tt $ fsplit ! $ drop ! $ '
+            text = w.take('load-tok') + 'lft-end ! tt $ ' + w.take('load-tok', 'lender') + 'lent-back ! tt $ fsplit ! $ drop ! $ '
             w.head(2, 'nodes-row')
             w.say(text + w.take('nodes-row', 'nodes-open', 'nodes-obs', 'nodes-auth') + 'closes-slice ! tt T.the-row ys ys refl b o $')
             w.head(4, 'nodes-obs', 'nodes-bor', 'nodes-tok')
-        w.land(self.table, '(typed-arr tb v ga)')
+        w.land(self.unit, '(nothing-lawful 𝓤 H A W .typed none _ isv .0)')
 
     def works(self, w):
         w.note('`%s`' % self.work.name)
+        self.column_refs(w, self.to_work)
         w.copy(w.field(1, 1), self.length, '(tt, record { fits = room .0 })')
         if self.mut_clock:
             w.copy('(load ! (from ! (hop ! (look ! %d refl) (stop !))) (look-raw ! %d refl))' % (w.at(2), w.at('clock-cell')), self.clock, '(LL.lawful K.the-type K′.the-laws 𝓤 H A W .typed h _ was .0)')
         for p in self.passed:
             if p.mut:
                 w.lend_on(p.local, p.ref, p.pair, p.fits)
-        w.say(w.take('tokens', 'rest') + 'use2 W (raw (Work 𝓤 H A at-mem run .pre (to-work tb v))) (goes-work tb v ga was) $')
-        w.head(2, 'pre')
-        args = [self.table, self.length, self.clock] + [p.pair for p in self.passed]
-        w.say('calls-at ! fm (Work 𝓤 H A at-mem run) known-work (to-work tb v)')
-        w.say(''.join('(and-then ! %s ' % w.look(a) for a in args) + '(no-more !)' + ')' * len(args) + ' (λ z.')
-        live, row = nest(self.kappas[self.first:]), self.made_row
-        ensured = 'raw (ensured 𝓤 H A works.ended (works.clauses 𝓤 H A at-mem run) %s (passed tb) tt u)' % live
-        w.say('use1 W (later (some (λ (u : %s). (Tokens ⊛ ‵ (%s .own u (z ∷ []))) ⊛ %s))) (id⊢ 𝓤 _) $ await ! tt $ pick ! (λ u.' % (self.made_type, row, ensured))
-        w.say('split ! $ move ! (1 ∷ []) $ use1 W (some (λ (ws : Last tb). ‵ (lasts works.ended %s (passed tb) ws) ⊛ raw (fact 𝓤 (For tb ws u)))) (id⊢ 𝓤 _) $ pick ! (λ ws. split ! $' % live)
-        w.say('move ! (1 ∷ []) $ heard ! (For tb ws u) (λ works-for. fsplit ! $ drop ! $ fsplit ! $ drop ! $ fsplit ! $ drop ! $')
-        w.head(1, 'rest', 'returned')
+        w.say(w.take('rest') + 'owned ! K.the-row (Is K.the-row) (LL.makes K.the-type K′.the-plain 𝓤 H A) h _ was $ fjoin ! $ owned ! usize (Is usize) (uint-makes 𝓤 H A W w64) n _ (refl, room .0) $ fjoin ! $')
+        w.head(1, 'others')
+        self.lend_columns(w, self.mut_nodes, 'c', 'full', 'ks', 'Tokens', 'Others', ['tokens', 'others'])
+        w.entries[w.at('with')], w.entries[w.at('lent-cols')] = 'toks', 'own'
+        at, row = '%s ks c' % self.spots, self.made_row
+        ensured = 'raw (ensured 𝓤 H A works.ended (works.clauses 𝓤 H A at-mem run) %s (passed %s) tt u)' % (self.lives_of('ks', *self.kappas[self.first:], before=False), at)
+        returned = 'use1 W (later (some (λ (u : %s). (With 𝓤 H A W ks Tokens ⊛ ‵ (%s .own u (z ∷ []))) ⊛ %s))) (id⊢ 𝓤 _) $ await ! tt $ pick ! (λ u.' % (self.made_type, row, ensured)
+        args = [pair for _, pair in self.to_work] + [self.length, self.clock] + [p.pair for p in self.passed]
+        self.calls(w, 'work', '(to-work %s)' % at, args, 'z', returned, '(goes-work %s full)' % at)
+        w.say('split ! $ move ! (1 ∷ []) $ use1 W (some (λ (ws : Last %s). ‵ (lasts works.ended %s (passed %s) ws) ⊛ raw (fact 𝓤 (For %s ws u)))) (id⊢ 𝓤 _) $ pick ! (λ ws. split ! $' % (at, self.lives_of('ks', *self.kappas[self.first:], before=False), at, at))
+        w.say('move ! (1 ∷ []) $ heard ! (For %s ws u) (λ works-for.%s' % (at, '' if self.mut_nodes else ' fsplit ! $ drop ! $' * 8))
+        w.head(1, 'lasting' if self.mut_nodes else 'rest', 'returned')
         w.say(w.take('returned') + 'split ! $ move ! (1 ∷ []) $ peeks ! %s (Is %s) (shows 𝓤 H A %s) u (z ∷ []) (λ is. drop ! $' % (row, row, row))
-        w.head(1, 'tokens')
+        w.head(1, 'with')
+        if self.mut_nodes:
+            self.columns_after(w, 'c', 'full', 'ks', 'Tokens', '(fsep ftrue (fsep ftrue (Rest-last %s ws)))' % at, '(after %s ws)' % at, 'full′')
+            w.say('move ! (1 ∷ []) $ fsplit ! $ drop ! $ fsplit ! $ drop ! $')
+            w.head(3, 'rest', 'tokens', 'cols')
+        else:
+            self.columns_back(w, 'c', 'full', 'ks', 'Tokens')
+            w.head(2, 'cols', 'tokens')
         if self.made:
             w.land(self.result, '(LL.lawful U.the-type U′.the-laws 𝓤 H A W .typed u _ is .0)')
             w.say('rewrite ! %d (λ (y : Val). ‵ (fat fullShare U′.mir l%s 0 y)) (ap only (LL.tells U.the-type U′.the-laws u _ is)) refl $' % (w.at(self.result), low(self.result)))
         else:
-            w.land(0, '(%s .typed u _ is .0)' % self.answer_lawful)
+            w.land(0, '(EL.lawful E.the-type E′.the-laws 𝓤 H A W tt .typed u _ is .0)')
 
     def puts_clock(self, w):
         w.note('the clock is stored back, and its borrow closed')
@@ -484,25 +565,38 @@ class Thin:
     def stores(self, w):
         w.note("`store`, which the nodes' borrow is passed on to")
         w.lend_on(1, self.ref2, self.lent2, 'room .0')
-        w.say(w.take('nodes-tok', 'nodes-obs', 'nodes-bor') + 'use3 W (raw (Store 𝓤 H A at-mem run .pre (to-store u))) (goes-store u (is-table u is)) $')
-        w.head(3, 'pre')
-        w.say('calls-at ! fm (Store 𝓤 H A at-mem run) known-store (to-store u) (and-then ! %s (and-then ! %s (no-more !))) (λ y.' % (w.look(self.lent2), w.field(self.result, self.fields.index('table'))))
-        passed = '(ref γ, (u .table, tt))'
-        ensured = 'raw (ensured 𝓤 H A stores.ended (stores.clauses 𝓤 H A at-mem run) (κ₀, tt) %s tt none)' % passed
-        w.say('use1 W (later (some (λ (none : Unit {0}). ((‵ (flft κ₀ q₀) ⊛ ‵ ftrue) ⊛ ‵ (Nothing .own none (y ∷ []))) ⊛ %s))) (id⊢ 𝓤 _) $ await ! tt $ pick ! (λ none.' % ensured)
-        last = '‵ (lasts stores.ended (κ₀, tt) %s zs) ⊛ raw (fact 𝓤 (zs .0 ≡ kept ys (u .table)))' % passed
-        w.say('split ! $ move ! (1 ∷ []) $ use1 W (some (λ (zs : Lasts stores.ended (κ₀, tt) %s). %s)) (id⊢ 𝓤 _) $ pick ! (λ zs. split ! $' % (passed, last))
-        w.say('move ! (1 ∷ []) $ heard ! (zs .0 ≡ kept ys (u .table)) (λ stored. fsplit ! $')
-        w.head(1, 'nodes-last', 'true', 'returned')
-        w.say(w.take('returned') + 'split ! $ split ! $ move ! (2 ∷ []) $ peeks ! Nothing (Is Nothing) (shows 𝓤 H A Nothing) none (y ∷ []) (λ isy. drop ! $')
-        w.head(1, 'nodes-tok', 'true')
-        w.land(self.unit, '(nothing-lawful 𝓤 H A W .typed none _ isy .0)')
+        self.column_refs(w, self.to_store)
+        self.nothings(w)
+        after = '(after %s ks c ws)' % self.spots
+        self.lend_columns(w, False, after, 'full′', 'ms', '(‵ ftrue)', 'ftrue', ['no-tokens', 'no-others'])
+        w.say(w.take('nodes-obs', 'nodes-bor') + 'use2 W (‵ (MutSlice (named 0) κ₀ T.the-row .own (ref γ) (s ∷ []))) nodes-own $')
+        w.head(2, 'nodes-own')
+        self.together(w, 'nodes-tok', 'nodes-own')
+        at, passed = '%s ms %s' % (self.spots, after), self.nodes_and(self.spots, 'γ', 'ms', after)
+        lives = self.lives_of('ms', 'κ₀')
+        ensured = 'raw (ensured 𝓤 H A stores.ended (stores.clauses 𝓤 H A at-mem run) %s %s tt none)' % (lives, passed)
+        returned = 'use1 W (later (some (λ (none : Unit {0}). ((‵ (flft κ₀ q₀) ⊛ With 𝓤 H A W ms (‵ ftrue)) ⊛ ‵ (Nothing .own none (y ∷ []))) ⊛ %s))) (id⊢ 𝓤 _) $ await ! tt $ pick ! (λ none′.' % ensured
+        self.calls(w, 'store', '(to-store %s)' % at, [self.lent2] + [pair for _, pair in self.to_store], 'y', returned, '(goes-store %s full′)' % at)
+        fact = 'Stores ys %s (zs .0)' % after
+        w.say('split ! $ move ! (1 ∷ []) $ use1 W (some (λ (zs : Lasts stores.ended %s %s). ‵ (lasts stores.ended %s %s zs) ⊛ raw (fact 𝓤 (%s)))) (id⊢ 𝓤 _) $ pick ! (λ zs. split ! $' % (lives, passed, lives, passed, fact))
+        w.say('move ! (1 ∷ []) $ heard ! (%s) (λ stored. fsplit ! $ move ! (1 ∷ []) $ drop ! $' % fact)
+        w.head(1, 'nodes-last', 'returned')
+        w.say(w.take('returned') + 'split ! $ move ! (1 ∷ []) $ peeks ! Nothing (Is Nothing) (shows 𝓤 H A Nothing) none′ (y ∷ []) (λ isy. drop ! $ split ! $')
+        w.head(1, 'nodes-tok', 'with')
+        self.columns_back(w, after, 'full′', 'ms', '(‵ ftrue)')
+        w.head(2, 'cols', 'no-tokens')
+        w.say('forget ! %d refl $' % w.at(self.unit))
+        w.land(self.unit, '(nothing-lawful 𝓤 H A W .typed none′ _ isy .0)')
 
     def leaves(self, w):
         if self.made:
-            w.copy(w.field(self.result, self.fields.index('answer')), 0, '(%s .typed (u .answer) _ (is-answer u is) .0)' % self.answer_lawful)
+            w.copy(w.field(self.result, self.fields.index('answer')), 0, '(EL.lawful E.the-type E′.the-laws 𝓤 H A W tt .typed (u .answer) _ (is-answer u is) .0)')
         w.say('returns ! (look ! %d refl) $' % w.at(0))
-        w.say(' '.join('forget ! %d refl $' % w.at(j) for j in range(self.count)))
+        c, full = ('(after %s ks c ws)' % self.spots, 'full′') if self.mut_nodes else ('c', 'full')
+        rooms = ' ⊛ '.join('‵ (froom (tyArray (tyInt %s) %d) l%s 0)' % (u, ROOM, low(a)) for a, u in zip(self.arrays, ('w64', 'w64', 'w64', 'w64', 'w32', 'w64')))
+        w.say(w.take('cols') + 'use1 W (%s) (six-rooms 𝓤 H A W %d %s %s %s) $ split ! $ %s' % (rooms, ROOM, self.spots, c, full, 'move ! (1 ∷ []) $ split ! $ ' * 4))
+        w.head(1, *('_%d' % self.arrays[i] for i in (4, 5, 3, 2, 1, 0)))
+        w.say(' '.join('forget ! %d refl $' % w.at(j) for j in range(self.count) if j not in self.arrays))
         text = ''
         for j in range(self.count):
             text += w.take('_%d' % j, 'd%d' % j) + 'free1 ! $ '
@@ -510,7 +604,26 @@ class Thin:
         w.say(text + 'free0 ! $')
         w.say('keep ! (%s) $' % cons(w.at(name) for name, _ in self.kept()))
         stored = ' (zs .0) stored' if self.mut_nodes else ''
-        w.say('by ! (exits tb loaded ws u works-for%s %s' % (stored, '(is-answer u is)' if self.made else 'z is'))
+        w.say('by ! (exits %s ks c loaded ws u works-for%s %s' % (self.spots, stored, '(is-answer u is)' if self.made else 'z is'))
+
+    # ---- tuples over the columns
+
+    def whole(self, c):
+        return '(columns %s)' % ' '.join('(%s .%s)' % (c, f) for f in COLUMNS)
+
+    def lives_of(self, leases, *others, before=True):
+        """The lifetimes of a call: those of the columns, with others before or after them."""
+        own = ['lft-of (%s .%s)' % (leases, f) for f in COLUMNS]
+        return nest(list(others) + own if before else own + list(others))
+
+    def refs(self, spots, leases, c):
+        return ['ref-to %s (%s .%s .name) (%s .%s)' % (a, leases, f, c, f) for a, f in zip(spots.split(), COLUMNS)]
+
+    def nodes_and(self, spots, name, leases, c):
+        return nest(['ref %s' % name] + self.refs(spots, leases, c))
+
+    def slices(self, spots):
+        return ['sliceVal (%s, 0) %d ∷ []' % (a, ROOM) for a in spots.split()]
 
 
 def fill(template, thin):
