@@ -4,4 +4,4 @@ pub mod Fills
 pub mod Arrays
 pub mod Using
 pub mod Passing
-pub mod CallsUsed
+mod CallsUsed

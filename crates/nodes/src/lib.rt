@@ -1,6 +1,6 @@
 // The node records as 01 lends them: one array of structs, read into six columns, a field in each, and stored back from them. Nothing is assumed of what they hold.
 ghost use mathlib.Core.Path.{_≡_};
-ghost use Rattle.nodes.specs.Columns.{columns, usedOf, Holds, Loads};
+ghost use Rattle.nodes.specs.Columns.{columns, usedOf, Holds, Loads, Stores};
 
 // The length of a column: 72 more than are used, so that equal places of two columns do not fall into the same set of the cache.
 pub const ROOM: usize = 4168;
@@ -46,6 +46,34 @@ pub fn load(
         entry[i] = v.entry;
         generation[i] = v.generation;
         serial[i] = v.serial;
+        i += 1;
+    }
+}
+
+// The columns, stored back over the lent nodes. Unchecked, as load.
+pub fn store(
+    nodes: &mut [Node],
+    next: &[usize],
+    prev: &[usize],
+    bucket: &[usize],
+    entry: &[usize],
+    generation: &[u32],
+    serial: &[u64],
+)
+    requires { ⌜ Holds 4096 (columns (now next) (now prev) (now bucket) (now entry) (now generation) (now serial)) ⌝ }
+    ensures { λ _. ⌜ Stores (now (nodes .entry)) (columns (now (next .entry)) (now (prev .entry)) (now (bucket .entry)) (now (entry .entry)) (now (generation .entry)) (now (serial .entry))) (now (nodes .exit)) ⌝ }
+{
+    let n = used(nodes.len());
+    let mut i = 0;
+    while i < n {
+        nodes[i] = Node {
+            next: next[i],
+            prev: prev[i],
+            bucket: bucket[i],
+            entry: entry[i],
+            generation: generation[i],
+            serial: serial[i],
+        };
         i += 1;
     }
 }
