@@ -1,14 +1,14 @@
 -- A list that is written from the front, one element a turn: what a loop `while i < n { xs[i] = f(i); i += 1 }` makes of it.
 --     fills f xs i     xs with f 0 … f (i − 1) at its first i places
 --     length-fills     it is as long as xs
---     fills-over       ys laid over the front of a longer xs
---     fills-take       all of xs overwritten by the front of a longer ys
+--     fills-front      the front of a longer xs, once a field of each of ys is written there
+--     fills-field      a field of all of xs, once each is written with one that has the field from a longer ys
 -- Assumes nothing.
 use mathlib.Core.Path.{_≡_, refl, _∙_, ap}
 use Prim.Native.Nat.{ℕ, zero, suc, _≤_}
 use native.Mathlib.Nat.{le-of-suc-le-suc, not-suc-le-zero}
-use mathlib.Core.List.{List, [], _∷_, _++_}
-use lib.ListN.{length, getD, set, take, drop, length-set}
+use mathlib.Core.List.{List, [], _∷_, map}
+use lib.ListN.{length, getD, set, take, length-set}
 
 abbrev pub fills : {X : Type 0} → (ℕ → X) → List X → ℕ → List X
 fills f xs zero = xs
@@ -22,14 +22,15 @@ shift : {X : Type 0} (f : ℕ → X) (x : X) (xs : List X) (i : ℕ) → fills f
 shift f x xs zero = refl
 shift f x xs (suc i) = ap (λ l. set l (suc i) (f (suc i))) (shift f x xs i)
 
-pub fills-over : {X : Type 0} (d : X) (ys xs : List X) → length ys ≤ length xs → fills (λ i. getD ys i d) xs (length ys) ≡ ys ++ drop (length ys) xs
-fills-over d [] [] l = refl
-fills-over d [] (x ∷ xs) l = refl
-fills-over d (y ∷ ys) [] l = absurd (not-suc-le-zero l)
-fills-over d (y ∷ ys) (x ∷ xs) l = shift (λ i. getD (y ∷ ys) i d) x xs (length ys) ∙ ap (λ l. y ∷ l) (fills-over d ys xs (le-of-suc-le-suc l))
+pub fills-front : {A X : Type 0} (g : A → X) (d : A) (ys : List A) (xs : List X) → length ys ≤ length xs → take (length ys) (fills (λ i. g (getD ys i d)) xs (length ys)) ≡ map g ys
+fills-front g d [] [] l = refl
+fills-front g d [] (x ∷ xs) l = refl
+fills-front g d (y ∷ ys) [] l = absurd (not-suc-le-zero l)
+fills-front g d (y ∷ ys) (x ∷ xs) l = ap (take (suc (length ys))) (shift (λ i. g (getD (y ∷ ys) i d)) x xs (length ys)) ∙ ap (λ l. g y ∷ l) (fills-front g d ys xs (le-of-suc-le-suc l))
 
-pub fills-take : {X : Type 0} (d : X) (ys xs : List X) → length xs ≤ length ys → fills (λ i. getD ys i d) xs (length xs) ≡ take (length xs) ys
-fills-take d [] [] l = refl
-fills-take d (y ∷ ys) [] l = refl
-fills-take d [] (x ∷ xs) l = absurd (not-suc-le-zero l)
-fills-take d (y ∷ ys) (x ∷ xs) l = shift (λ i. getD (y ∷ ys) i d) x xs (length xs) ∙ ap (λ l. y ∷ l) (fills-take d ys xs (le-of-suc-le-suc l))
+pub fills-field : {A X : Type 0} (g : A → X) (f : ℕ → A) (d : X) (ys : List X) (xs : List A) → ((i : ℕ) → g (f i) ≡ getD ys i d) → length xs ≤ length ys → map g (fills f xs (length xs)) ≡ take (length xs) ys
+fills-field g f d [] [] h l = refl
+fills-field g f d (y ∷ ys) [] h l = refl
+fills-field g f d [] (x ∷ xs) h l = absurd (not-suc-le-zero l)
+fills-field g f d (y ∷ ys) (x ∷ xs) h l =
+    ap (map g) (shift f x xs (length xs)) ∙ ap (λ z. z ∷ map g (fills (λ k. f (suc k)) xs (length xs))) (h zero) ∙ ap (λ l. y ∷ l) (fills-field g (λ k. f (suc k)) d ys xs (λ i. h (suc i)) (le-of-suc-le-suc l))

@@ -6,3 +6,4 @@ pub mod Using
 pub mod Passing
 pub mod Lending
 pub mod Six
+mod CallsUsed

@@ -1,11 +1,15 @@
--- How many lent nodes go into the columns. Assumes nothing.
-use Prim.Native.Nat.{ℕ, _≤_}
-use mathlib.Core.Path.{_≡_, refl}
+-- How many lent nodes go into the columns, and what the columns and the nodes are once so many have gone, one a turn. Assumes nothing.
+use Prim.Native.Nat.{ℕ, _≤_, _<_}
+use mathlib.Core.Path.{_≡_, refl, _∙_, ap}
 use mathlib.Core.Bool.{Bool, true, false, cond}
+use mathlib.Core.List.{List, map}
 use native.Mathlib.Omega.{arith}
 use lib.Dec.{leb}
-use borrow.Author.Tests.{le-leb, leb-true}
-use Rattle.nodes.specs.Columns.{usedOf}
+use lib.ListN.{length, getD, take}
+use borrow.Author.Tests.{le-leb, lt-leb, leb-true}
+use Rattle.nodes.specs.declared.Node.{Node}
+use Rattle.nodes.specs.Columns.{Columns, columns, usedOf, Holds, Loads, Stores}
+use Rattle.nodes.proofs.Fills.{fills, fills-front, fills-field}
 
 pub used-le : (n : ℕ) → usedOf n ≤ n
 used-le n = cases (leb n 4096)
@@ -23,3 +27,50 @@ used-fits n = cases (leb n 4096) refl
 
 pub used-all : (n : ℕ) → n ≤ 4096 → usedOf n ≡ n
 used-all n h = rw (le-leb n 4096 h)
+
+pub used-none : (n : ℕ) → 4096 < n → usedOf n ≡ 0
+used-none n h = rw (lt-leb n 4096 h)
+
+-- a node of zeros, which stands past the end of a list
+abbrev pub blank : Node
+blank = record { next = 0; prev = 0; bucket = 0; entry = 0; generation = 0; serial = 0 }
+
+-- ---- one field of the nodes, written one by one over a column
+abbrev pub filled : (g : Node → ℕ) → List Node → List ℕ → ℕ → List ℕ
+filled g ns xs = fills (λ i. g (getD ns i blank)) xs
+
+filled-front : (g : Node → ℕ) (ns : List Node) (xs : List ℕ) → 4096 ≤ length xs → length ns ≤ 4096 → take (length ns) (filled g ns xs (usedOf (length ns))) ≡ map g ns
+filled-front g ns xs long few = ap (λ (m : ℕ). take (length ns) (filled g ns xs m)) (used-all (length ns) few) ∙ fills-front g blank ns xs (omega (arith, long, few))
+
+-- each column is filled with its own field
+abbrev pub filledColumns : List Node → Columns → ℕ → Columns
+filledColumns ns c i =
+    columns (filled (λ v. v .next) ns (c .next) i) (filled (λ v. v .prev) ns (c .prev) i) (filled (λ v. v .bucket) ns (c .bucket) i) (filled (λ v. v .entry) ns (c .entry) i)
+    (filled (λ v. v .generation) ns (c .generation) i) (filled (λ v. v .serial) ns (c .serial) i)
+
+pub loaded : (ns : List Node) (c : Columns) → Holds 4096 c → Loads ns (filledColumns ns c (usedOf (length ns)))
+loaded ns c long = record {
+  is = λ few i.
+      columns (filled-front (λ v. v .next) ns (c .next) (long .next-has) few i) (filled-front (λ v. v .prev) ns (c .prev) (long .prev-has) few i)
+      (filled-front (λ v. v .bucket) ns (c .bucket) (long .bucket-has) few i) (filled-front (λ v. v .entry) ns (c .entry) (long .entry-has) few i)
+      (filled-front (λ v. v .generation) ns (c .generation) (long .generation-has) few i) (filled-front (λ v. v .serial) ns (c .serial) (long .serial-has) few i);
+}
+
+-- ---- the node that stands at place i of the columns, written one by one over the nodes
+abbrev pub nodeAt : Columns → ℕ → Node
+nodeAt c i = record { next = getD (c .next) i 0; prev = getD (c .prev) i 0; bucket = getD (c .bucket) i 0; entry = getD (c .entry) i 0; generation = getD (c .generation) i 0; serial = getD (c .serial) i 0 }
+
+abbrev pub storedNodes : List Node → Columns → ℕ → List Node
+storedNodes ns c = fills (nodeAt c) ns
+
+stored-field : (g : Node → ℕ) (ns : List Node) (c : Columns) (xs : List ℕ) → ((i : ℕ) → g (nodeAt c i) ≡ getD xs i 0) → 4096 ≤ length xs → length ns ≤ 4096 → map g (storedNodes ns c (usedOf (length ns))) ≡ take (length ns) xs
+stored-field g ns c xs same long few = ap (λ (m : ℕ). map g (storedNodes ns c m)) (used-all (length ns) few) ∙ fills-field g (nodeAt c) 0 xs ns same (omega (arith, long, few))
+
+pub stored : (ns : List Node) (c : Columns) → Holds 4096 c → Stores ns c (storedNodes ns c (usedOf (length ns)))
+stored ns c long = record {
+  fits = λ few i.
+      columns (stored-field (λ v. v .next) ns c (c .next) (λ _. refl) (long .next-has) few i) (stored-field (λ v. v .prev) ns c (c .prev) (λ _. refl) (long .prev-has) few i)
+      (stored-field (λ v. v .bucket) ns c (c .bucket) (λ _. refl) (long .bucket-has) few i) (stored-field (λ v. v .entry) ns c (c .entry) (λ _. refl) (long .entry-has) few i)
+      (stored-field (λ v. v .generation) ns c (c .generation) (λ _. refl) (long .generation-has) few i) (stored-field (λ v. v .serial) ns c (c .serial) (λ _. refl) (long .serial-has) few i);
+  stays = λ many. ap (storedNodes ns c) (used-none (length ns) many);
+}

@@ -1,4 +1,7 @@
 // The node records as 01 lends them: one array of structs, read into six columns, a field in each, and stored back from them. Nothing is assumed of what they hold.
+ghost use mathlib.Core.Path.{_≡_};
+ghost use Rattle.nodes.specs.Columns.{columns, usedOf, Holds, Loads, Stores};
+
 // The length of a column: 72 more than are used, so that equal places of two columns do not fall into the same set of the cache.
 pub const ROOM: usize = 4168;
 
@@ -11,4 +14,66 @@ pub struct Node {
     pub entry: usize,
     pub generation: u32,
     pub serial: u64,
+}
+
+// How many of n lent nodes go into the columns: all of them, or none where they are more than fit.
+fn used(n: usize) -> usize
+    ensures { λ r. ⌜ r ≡ usedOf n ⌝ }
+{
+    if n <= 4096 { n } else { 0 }
+}
+
+// The lent nodes, read into columns. For proved code only, unchecked: it hands over columns that are long enough.
+pub fn load(
+    nodes: &[Node],
+    next: &mut [usize],
+    prev: &mut [usize],
+    bucket: &mut [usize],
+    entry: &mut [usize],
+    generation: &mut [u32],
+    serial: &mut [u64],
+)
+    requires { ⌜ Holds 4096 (columns (now next) (now prev) (now bucket) (now entry) (now generation) (now serial)) ⌝ }
+    ensures { λ _. ⌜ Loads (now (nodes .entry)) (columns (now (next .exit)) (now (prev .exit)) (now (bucket .exit)) (now (entry .exit)) (now (generation .exit)) (now (serial .exit))) ⌝ }
+{
+    let n = used(nodes.len());
+    let mut i = 0;
+    while i < n {
+        let v = nodes[i];
+        next[i] = v.next;
+        prev[i] = v.prev;
+        bucket[i] = v.bucket;
+        entry[i] = v.entry;
+        generation[i] = v.generation;
+        serial[i] = v.serial;
+        i += 1;
+    }
+}
+
+// The columns, stored back over the lent nodes. Unchecked, as load.
+pub fn store(
+    nodes: &mut [Node],
+    next: &[usize],
+    prev: &[usize],
+    bucket: &[usize],
+    entry: &[usize],
+    generation: &[u32],
+    serial: &[u64],
+)
+    requires { ⌜ Holds 4096 (columns (now next) (now prev) (now bucket) (now entry) (now generation) (now serial)) ⌝ }
+    ensures { λ _. ⌜ Stores (now (nodes .entry)) (columns (now (next .entry)) (now (prev .entry)) (now (bucket .entry)) (now (entry .entry)) (now (generation .entry)) (now (serial .entry))) (now (nodes .exit)) ⌝ }
+{
+    let n = used(nodes.len());
+    let mut i = 0;
+    while i < n {
+        nodes[i] = Node {
+            next: next[i],
+            prev: prev[i],
+            bucket: bucket[i],
+            entry: entry[i],
+            generation: generation[i],
+            serial: serial[i],
+        };
+        i += 1;
+    }
 }
