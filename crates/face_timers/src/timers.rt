@@ -1,22 +1,24 @@
-// The work of schedule, reschedule and deschedule. No `requires`.
+// The work of schedule, reschedule and deschedule. For proved code only, unchecked: it hands over columns that are long enough.
+ghost use Rattle.nodes.specs.Columns.{Holds, columns};
 ghost use Rattle.face_work.specs.Works.{ScheduleFor, RescheduleFor, DescheduleFor};
-use face_work::NotedMade;
+use face_work::NotedTurn;
 use face_work::Rescheduled;
-use face_work::RescheduledMade;
 use face_work::Scheduled;
-use face_work::ScheduledMade;
 use face_work::answers;
-use face_work::columns::ROOM;
-use face_work::columns::gather;
-use face_work::columns::split;
+use face_work::answers::RescheduledTurn;
+use face_work::answers::ScheduledTurn;
 use face_work::refusals::crowded;
-use nodes::Node;
 use records::Clock;
 use wheel::Noted;
 
 // Schedule: a new node for the entry e, whose generation is h. Refuses (1, 4, 5, 7 to 11).
 pub fn schedule_work(
-    table: [Node; 4096],
+    next: &mut [usize],
+    prev: &mut [usize],
+    bucket: &mut [usize],
+    entry: &mut [usize],
+    generation: &mut [u32],
+    serial: &mut [u64],
     n: usize,
     clock: Clock,
     heads: &mut [usize],
@@ -26,33 +28,17 @@ pub fn schedule_work(
     stamp: &[u32],
     e: usize,
     h: u32,
-) -> ScheduledMade
-    ensures { λ r. ⌜ ScheduleFor table n clock (now (heads .entry)) (now (tails .entry)) (now (heads .exit)) (now (tails .exit)) (now (dated .entry)) (now (deadline .entry)) (now (stamp .entry)) e h r ⌝ }
+) -> ScheduledTurn
+    requires { ⌜ Holds 4096 (columns (now next) (now prev) (now bucket) (now entry) (now generation) (now serial)) ⌝ }
+    ensures { λ r. ⌜ ScheduleFor (columns (now (next .entry)) (now (prev .entry)) (now (bucket .entry)) (now (entry .entry)) (now (generation .entry)) (now (serial .entry))) (columns (now (next .exit)) (now (prev .exit)) (now (bucket .exit)) (now (entry .exit)) (now (generation .exit)) (now (serial .exit))) n clock (now (heads .entry)) (now (tails .entry)) (now (heads .exit)) (now (tails .exit)) (now (dated .entry)) (now (deadline .entry)) (now (stamp .entry)) e h r ⌝ }
 {
     if 4096 < n {
         let no = crowded(clock);
-        return ScheduledMade {
-            table,
+        return ScheduledTurn {
             clock,
             answer: Scheduled::Refused(no),
         };
     }
-    let mut next = [0usize; ROOM];
-    let mut prev = [0usize; ROOM];
-    let mut bucket = [0usize; ROOM];
-    let mut entry = [0usize; ROOM];
-    let mut generation = [0u32; ROOM];
-    let mut serial = [0u64; ROOM];
-    split(
-        table,
-        n,
-        &mut next,
-        &mut prev,
-        &mut bucket,
-        &mut entry,
-        &mut generation,
-        &mut serial,
-    );
     let told = wheel::schedule(
         heads,
         tails,
@@ -69,20 +55,17 @@ pub fn schedule_work(
         e,
         h,
     );
-    let turn = answers::scheduled(clock, told);
-    let after = turn.clock;
-    let answer = turn.answer;
-    let nodes = gather(n, &next, &prev, &bucket, &entry, &generation, &serial);
-    ScheduledMade {
-        table: nodes,
-        clock: after,
-        answer,
-    }
+    answers::scheduled(clock, told)
 }
 
 // Reschedule: moves the timer with the handle (slot, number), armed with the generation h, or removes it. Refuses (1, 4, 5, 12, 13).
 pub fn reschedule_work(
-    table: [Node; 4096],
+    next: &mut [usize],
+    prev: &mut [usize],
+    bucket: &mut [usize],
+    entry: &mut [usize],
+    generation: &mut [u32],
+    serial: &mut [u64],
     n: usize,
     clock: Clock,
     heads: &mut [usize],
@@ -93,33 +76,17 @@ pub fn reschedule_work(
     slot: usize,
     number: u64,
     h: u32,
-) -> RescheduledMade
-    ensures { λ r. ⌜ RescheduleFor table n clock (now (heads .entry)) (now (tails .entry)) (now (heads .exit)) (now (tails .exit)) (now (dated .entry)) (now (deadline .entry)) (now (stamp .entry)) slot number h r ⌝ }
+) -> RescheduledTurn
+    requires { ⌜ Holds 4096 (columns (now next) (now prev) (now bucket) (now entry) (now generation) (now serial)) ⌝ }
+    ensures { λ r. ⌜ RescheduleFor (columns (now (next .entry)) (now (prev .entry)) (now (bucket .entry)) (now (entry .entry)) (now (generation .entry)) (now (serial .entry))) (columns (now (next .exit)) (now (prev .exit)) (now (bucket .exit)) (now (entry .exit)) (now (generation .exit)) (now (serial .exit))) n clock (now (heads .entry)) (now (tails .entry)) (now (heads .exit)) (now (tails .exit)) (now (dated .entry)) (now (deadline .entry)) (now (stamp .entry)) slot number h r ⌝ }
 {
     if 4096 < n {
         let no = crowded(clock);
-        return RescheduledMade {
-            table,
+        return RescheduledTurn {
             clock,
             answer: Rescheduled::Refused(no),
         };
     }
-    let mut next = [0usize; ROOM];
-    let mut prev = [0usize; ROOM];
-    let mut bucket = [0usize; ROOM];
-    let mut entry = [0usize; ROOM];
-    let mut generation = [0u32; ROOM];
-    let mut serial = [0u64; ROOM];
-    split(
-        table,
-        n,
-        &mut next,
-        &mut prev,
-        &mut bucket,
-        &mut entry,
-        &mut generation,
-        &mut serial,
-    );
     let told = wheel::reschedule(
         heads,
         tails,
@@ -137,20 +104,17 @@ pub fn reschedule_work(
         number,
         h,
     );
-    let turn = answers::rescheduled(clock, told);
-    let after = turn.clock;
-    let answer = turn.answer;
-    let nodes = gather(n, &next, &prev, &bucket, &entry, &generation, &serial);
-    RescheduledMade {
-        table: nodes,
-        clock: after,
-        answer,
-    }
+    answers::rescheduled(clock, told)
 }
 
 // Deschedule: unlinks and frees the timer with the handle (slot, number), armed with the generation h. Refuses (1, 4, 5, 12, 13).
 pub fn deschedule_work(
-    table: [Node; 4096],
+    next: &mut [usize],
+    prev: &mut [usize],
+    bucket: &mut [usize],
+    entry: &mut [usize],
+    generation: &mut [u32],
+    serial: &mut [u64],
     n: usize,
     clock: Clock,
     heads: &mut [usize],
@@ -161,33 +125,17 @@ pub fn deschedule_work(
     slot: usize,
     number: u64,
     h: u32,
-) -> NotedMade
-    ensures { λ r. ⌜ DescheduleFor table n clock (now (heads .entry)) (now (tails .entry)) (now (heads .exit)) (now (tails .exit)) (now (dated .entry)) (now (deadline .entry)) (now (stamp .entry)) slot number h r ⌝ }
+) -> NotedTurn
+    requires { ⌜ Holds 4096 (columns (now next) (now prev) (now bucket) (now entry) (now generation) (now serial)) ⌝ }
+    ensures { λ r. ⌜ DescheduleFor (columns (now (next .entry)) (now (prev .entry)) (now (bucket .entry)) (now (entry .entry)) (now (generation .entry)) (now (serial .entry))) (columns (now (next .exit)) (now (prev .exit)) (now (bucket .exit)) (now (entry .exit)) (now (generation .exit)) (now (serial .exit))) n clock (now (heads .entry)) (now (tails .entry)) (now (heads .exit)) (now (tails .exit)) (now (dated .entry)) (now (deadline .entry)) (now (stamp .entry)) slot number h r ⌝ }
 {
     if 4096 < n {
         let no = crowded(clock);
-        return NotedMade {
-            table,
+        return NotedTurn {
             clock,
             answer: Noted::Refused(no),
         };
     }
-    let mut next = [0usize; ROOM];
-    let mut prev = [0usize; ROOM];
-    let mut bucket = [0usize; ROOM];
-    let mut entry = [0usize; ROOM];
-    let mut generation = [0u32; ROOM];
-    let mut serial = [0u64; ROOM];
-    split(
-        table,
-        n,
-        &mut next,
-        &mut prev,
-        &mut bucket,
-        &mut entry,
-        &mut generation,
-        &mut serial,
-    );
     let told = wheel::deschedule(
         heads,
         tails,
@@ -205,13 +153,5 @@ pub fn deschedule_work(
         number,
         h,
     );
-    let turn = answers::timed(clock, told);
-    let after = turn.clock;
-    let answer = turn.answer;
-    let nodes = gather(n, &next, &prev, &bucket, &entry, &generation, &serial);
-    NotedMade {
-        table: nodes,
-        clock: after,
-        answer,
-    }
+    answers::timed(clock, told)
 }

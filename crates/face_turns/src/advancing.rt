@@ -1,18 +1,20 @@
-// The work of pull. No `requires`.
+// The work of pull. For proved code only, unchecked: it hands over columns that are long enough.
+ghost use Rattle.nodes.specs.Columns.{Holds, columns};
 ghost use Rattle.face_work.specs.Works.{PullFor};
 use face_work::Pulled;
-use face_work::PulledMade;
-use face_work::answers;
-use face_work::columns::ROOM;
-use face_work::columns::gather;
-use face_work::columns::split;
+use face_work::answers::PulledTurn;
+use face_work::answers::pulled;
 use face_work::refusals::crowded;
-use nodes::Node;
 use records::Clock;
 
 // Pull: one event of the open advance, or End. Refuses (1, 4, 6).
 pub fn pull_work(
-    table: [Node; 4096],
+    next: &mut [usize],
+    prev: &mut [usize],
+    bucket: &mut [usize],
+    entry: &mut [usize],
+    generation: &mut [u32],
+    serial: &mut [u64],
     n: usize,
     clock: Clock,
     heads: &mut [usize],
@@ -20,33 +22,17 @@ pub fn pull_work(
     dated: &[bool],
     deadline: &[u64],
     stamp: &[u32],
-) -> PulledMade
-    ensures { λ r. ⌜ PullFor table n clock (now (heads .entry)) (now (tails .entry)) (now (heads .exit)) (now (tails .exit)) (now (dated .entry)) (now (deadline .entry)) (now (stamp .entry)) r ⌝ }
+) -> PulledTurn
+    requires { ⌜ Holds 4096 (columns (now next) (now prev) (now bucket) (now entry) (now generation) (now serial)) ⌝ }
+    ensures { λ r. ⌜ PullFor (columns (now (next .entry)) (now (prev .entry)) (now (bucket .entry)) (now (entry .entry)) (now (generation .entry)) (now (serial .entry))) (columns (now (next .exit)) (now (prev .exit)) (now (bucket .exit)) (now (entry .exit)) (now (generation .exit)) (now (serial .exit))) n clock (now (heads .entry)) (now (tails .entry)) (now (heads .exit)) (now (tails .exit)) (now (dated .entry)) (now (deadline .entry)) (now (stamp .entry)) r ⌝ }
 {
     if 4096 < n {
         let no = crowded(clock);
-        return PulledMade {
-            table,
+        return PulledTurn {
             clock,
             answer: Pulled::Refused(no),
         };
     }
-    let mut next = [0usize; ROOM];
-    let mut prev = [0usize; ROOM];
-    let mut bucket = [0usize; ROOM];
-    let mut entry = [0usize; ROOM];
-    let mut generation = [0u32; ROOM];
-    let mut serial = [0u64; ROOM];
-    split(
-        table,
-        n,
-        &mut next,
-        &mut prev,
-        &mut bucket,
-        &mut entry,
-        &mut generation,
-        &mut serial,
-    );
     let told = wheel::pull(
         heads,
         tails,
@@ -61,13 +47,5 @@ pub fn pull_work(
         stamp,
         clock,
     );
-    let turn = answers::pulled(clock, told);
-    let after = turn.clock;
-    let answer = turn.answer;
-    let nodes = gather(n, &next, &prev, &bucket, &entry, &generation, &serial);
-    PulledMade {
-        table: nodes,
-        clock: after,
-        answer,
-    }
+    pulled(clock, told)
 }

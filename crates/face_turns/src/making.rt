@@ -1,18 +1,20 @@
-// The work of enable. No `requires`.
+// The work of enable. For proved code only, unchecked: it hands over columns that are long enough.
+ghost use Rattle.nodes.specs.Columns.{Holds, columns};
 ghost use Rattle.face_work.specs.Works.{EnableFor};
-use face_work::NotedMade;
-use face_work::answers;
-use face_work::columns::ROOM;
-use face_work::columns::gather;
-use face_work::columns::split;
+use face_work::NotedTurn;
+use face_work::answers::timed;
 use face_work::refusals::crowded_enable;
-use nodes::Node;
 use records::Clock;
 use wheel::Noted;
 
 // Enable: sentinels placed, the other slots free, each entry without a deadline, whatever the records held. Refuses (2, 3).
 pub fn enable_work(
-    table: [Node; 4096],
+    next: &mut [usize],
+    prev: &mut [usize],
+    bucket: &mut [usize],
+    entry: &mut [usize],
+    generation: &mut [u32],
+    serial: &mut [u64],
     n: usize,
     clock: Clock,
     heads: &mut [usize],
@@ -20,33 +22,17 @@ pub fn enable_work(
     dated: &mut [bool],
     deadline: &mut [u64],
     stamp: &mut [u32],
-) -> NotedMade
-    ensures { λ r. ⌜ EnableFor table n clock (now (heads .entry)) (now (tails .entry)) (now (heads .exit)) (now (tails .exit)) (now (dated .entry)) (now (deadline .entry)) (now (stamp .entry)) (now (dated .exit)) (now (deadline .exit)) (now (stamp .exit)) r ⌝ }
+) -> NotedTurn
+    requires { ⌜ Holds 4096 (columns (now next) (now prev) (now bucket) (now entry) (now generation) (now serial)) ⌝ }
+    ensures { λ r. ⌜ EnableFor (columns (now (next .entry)) (now (prev .entry)) (now (bucket .entry)) (now (entry .entry)) (now (generation .entry)) (now (serial .entry))) (columns (now (next .exit)) (now (prev .exit)) (now (bucket .exit)) (now (entry .exit)) (now (generation .exit)) (now (serial .exit))) n clock (now (heads .entry)) (now (tails .entry)) (now (heads .exit)) (now (tails .exit)) (now (dated .entry)) (now (deadline .entry)) (now (stamp .entry)) (now (dated .exit)) (now (deadline .exit)) (now (stamp .exit)) r ⌝ }
 {
     if 4096 < n {
         let no = crowded_enable(clock);
-        return NotedMade {
-            table,
+        return NotedTurn {
             clock,
             answer: Noted::Refused(no),
         };
     }
-    let mut next = [0usize; ROOM];
-    let mut prev = [0usize; ROOM];
-    let mut bucket = [0usize; ROOM];
-    let mut entry = [0usize; ROOM];
-    let mut generation = [0u32; ROOM];
-    let mut serial = [0u64; ROOM];
-    split(
-        table,
-        n,
-        &mut next,
-        &mut prev,
-        &mut bucket,
-        &mut entry,
-        &mut generation,
-        &mut serial,
-    );
     let told = wheel::enable(
         heads,
         tails,
@@ -61,13 +47,5 @@ pub fn enable_work(
         stamp,
         clock,
     );
-    let turn = answers::timed(clock, told);
-    let after = turn.clock;
-    let answer = turn.answer;
-    let nodes = gather(n, &next, &prev, &bucket, &entry, &generation, &serial);
-    NotedMade {
-        table: nodes,
-        clock: after,
-        answer,
-    }
+    timed(clock, told)
 }

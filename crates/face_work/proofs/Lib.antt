@@ -1,5 +1,4 @@
 -- Laws that several proofs cite. Assumes nothing.
-pub mod Fields
 pub mod Turning
 pub mod Loading
 pub mod Crowding

@@ -1,104 +1,84 @@
--- From columns to the nodes that were read into the table: what holds of the columns' records holds of the nodes'. Assumes nothing.
-use Prim.Native.Nat.{ℕ, _+_, _≤_, _<_}
+-- From columns to the nodes that were read into them, and to those that are stored back from them: what holds of the records of the columns' front holds of the
+-- nodes'. Assumes nothing.
+use Prim.Native.Nat.{ℕ, _≤_, _<_}
 use native.Mathlib.Omega.{arith}
-use mathlib.Core.Path.{_≡_, refl, sym, ap, subst, _∙_}
-use mathlib.Core.Bool.{Bool, true, false, cond}
-use mathlib.Core.List.{List, map, _++_}
-use lib.Dec.{leb}
-use lib.ListN.{length, take, drop, length-map, length-append, take-append-drop}
+use mathlib.Core.Path.{_≡_, sym, subst, _∙_}
+use mathlib.Core.Bool.{Bool}
+use mathlib.Core.List.{List, _++_}
+use lib.ListN.{length, take, drop}
 use lib.Seq.{length-take-le, take-at}
-use borrow.Author.Tests.{le-leb, lt-leb}
 use Rattle.records.specs.declared.Clock.{Clock}
 use Rattle.records.specs.Records.{Records}
 use Rattle.wheel_refuse.specs.Lent.{lent}
 use Rattle.nodes.specs.declared.Node.{Node}
 use Rattle.nodes.specs.Shown.{shown}
-use Rattle.nodes.specs.Table.{Loads, kept}
-use Rattle.face_work.specs.Columns.{Columns}
-use Rattle.face_work.specs.Works.{OfLoaded}
+use Rattle.nodes.specs.Columns.{Columns, columns, columnsOf, front, Holds, Loads, Stores}
+use Rattle.face_work.specs.Works.{OfLoaded, OfStored}
 
--- ---- n nodes at the front of a table, and n numbers in each of their columns
-module _ (n : ℕ) (table : List Node) (whole : length table ≡ 4096) (fits : n ≤ 4096) where
-  pub front-length : (g : Node → ℕ) (xs : List ℕ) → xs ≡ map g (take n table) → n ≡ length xs
-  front-length g xs e =
-      sym (length-take-le n table (omega (arith, whole))) ∙ sym (length-map (take n table) g) ∙ ap length (sym e)
+-- the records that columns are, with heads and tails, the entries and the clock beside them
+abbrev pub held : List ℕ → List ℕ → Columns → List Bool → List ℕ → List ℕ → Clock → Records
+held h t k d l m c = lent h t (k .next) (k .prev) (k .bucket) (k .entry) (k .generation) (k .serial) d l m c
 
--- a column of which the first n numbers were lent, ys, and came back as xs
-module _ (n : ℕ) (fits : n ≤ 4096) (xs ys : List ℕ) (same : length xs ≡ length (take n ys)) (room : length ys ≡ 4168) where
-  lent-length : length xs ≡ n
-  lent-length = same ∙ length-take-le n ys (omega (arith, room))
+-- ---- columns k of which the first n were lent, and came back as j: what the columns are then
+abbrev pub over : ℕ → Columns → Columns → Columns
+over n j k =
+    columns (j .next ++ drop n (k .next)) (j .prev ++ drop n (k .prev)) (j .bucket ++ drop n (k .bucket)) (j .entry ++ drop n (k .entry))
+    (j .generation ++ drop n (k .generation)) (j .serial ++ drop n (k .serial))
 
-  pub back-length : 4168 ≡ length (xs ++ drop n ys)
-  back-length =
-      sym room ∙ ap length (sym (take-append-drop n ys)) ∙ length-append (take n ys) (drop n ys) ∙ ap (λ (k : ℕ). k + length (drop n ys)) (sym same)
-      ∙ sym (length-append xs (drop n ys))
+-- as long as what was lent, column by column
+pub record AsLong (j k : Columns) : Type 0 where
+  pub next-same : length (j .next) ≡ length (k .next)
+  pub prev-same : length (j .prev) ≡ length (k .prev)
+  pub bucket-same : length (j .bucket) ≡ length (k .bucket)
+  pub entry-same : length (j .entry) ≡ length (k .entry)
+  pub generation-same : length (j .generation) ≡ length (k .generation)
+  pub serial-same : length (j .serial) ≡ length (k .serial)
 
-  pub back-has : n ≤ length (xs ++ drop n ys)
-  back-has = omega (arith, back-length)
+module _ (n : ℕ) (fits : n ≤ 4096) where
+  pub front-length : (xs : List ℕ) → 4096 ≤ length xs → n ≡ length (take n xs)
+  front-length xs room = sym (length-take-le n xs (omega arith))
 
-  pub back-front : take n (xs ++ drop n ys) ≡ xs
-  back-front = take-at xs (drop n ys) n lent-length
+  column-front : (xs ys : List ℕ) → 4096 ≤ length ys → length xs ≡ length (take n ys) → take n (xs ++ drop n ys) ≡ xs
+  column-front xs ys room same = take-at xs (drop n ys) n (same ∙ sym (front-length ys room))
 
--- all six, with the nodes that they were gathered into
-pub back-columns : (ns : List Node) (a b c d e f a′ b′ c′ d′ e′ f′ : List ℕ) → a ≡ a′ → b ≡ b′ → c ≡ c′ → d ≡ d′ → e ≡ e′ → f ≡ f′ → Columns ns a b c d e f
-    → Columns ns a′ b′ c′ d′ e′ f′
-back-columns ns a b c d e f a′ b′ c′ d′ e′ f′ i j k l m n u =
-    record {
-      next-is = sym i ∙ u .next-is;
-      prev-is = sym j ∙ u .prev-is;
-      bucket-is = sym k ∙ u .bucket-is;
-      entry-is = sym l ∙ u .entry-is;
-      generation-is = sym m ∙ u .generation-is;
-      serial-is = sym n ∙ u .serial-is;
-    }
+  pub over-front : (j k : Columns) → Holds 4096 k → AsLong j (front n k) → front n (over n j k) ≡ columns (j .next) (j .prev) (j .bucket) (j .entry) (j .generation) (j .serial)
+  over-front j k room same =
+      λ i.
+      columns (column-front (j .next) (k .next) (room .next-has) (same .next-same) i) (column-front (j .prev) (k .prev) (room .prev-has) (same .prev-same) i)
+      (column-front (j .bucket) (k .bucket) (room .bucket-has) (same .bucket-same) i) (column-front (j .entry) (k .entry) (room .entry-has) (same .entry-same) i)
+      (column-front (j .generation) (k .generation) (room .generation-has) (same .generation-same) i) (column-front (j .serial) (k .serial) (room .serial-has) (same .serial-same) i)
 
--- ---- the records of columns are those of their nodes
-same : (h t : List ℕ) (ns : List Node) (nx pv bk en gn sr : List ℕ) (d : List Bool) (l m : List ℕ) (c : Clock) → Columns ns nx pv bk en gn sr
-    → lent h t nx pv bk en gn sr d l m c ≡ shown h t ns d l m c
-same h t ns nx pv bk en gn sr d l m c u =
-    λ i. lent h t (u .next-is i) (u .prev-is i) (u .bucket-is i) (u .entry-is i) (u .generation-is i) (u .serial-is i) d l m c
+-- ---- the columns' front is that of the nodes that were read, and of those that are stored back
+module _ (ns : List Node) (k : Columns) (n : ℕ) (fits : n ≤ 4096) (e : length ns ≡ n) where
+  loaded : Loads ns k → front n k ≡ columnsOf ns
+  loaded o = subst (λ (i : ℕ). front i k ≡ columnsOf ns) e (o .is (omega arith))
 
-both : (P : Records → Records → Type 0) {R S R′ S′ : Records} → R ≡ S → R′ ≡ S′ → P R R′ → P S S′
-both P {R} {S} {R′} {S′} e f p = subst (λ (x : Records). P S x) f (subst (λ (x : Records). P x R′) e p)
+  stored : (ns′ : List Node) → Stores ns k ns′ → front n k ≡ columnsOf ns′
+  stored ns′ o = sym (subst (λ (i : ℕ). columnsOf ns′ ≡ front i k) e (o .fits (omega arith)))
 
--- the nodes that were read are the first of the table; those stored back are the first of the other
-loaded : (ns table : List Node) (n : ℕ) → n ≤ 4096 → length ns ≡ n → Loads ns table → take n table ≡ ns
-loaded ns table n f e l = subst (λ (k : ℕ). take k table ≡ ns) e (l .is (omega (arith, e)))
-
-stored : (ns table : List Node) (n : ℕ) → n ≤ 4096 → length ns ≡ n → kept ns table ≡ take n table
-stored ns table n f e =
-    ap (λ (b : Bool). cond b (take (length ns) table) ns) (le-leb (length ns) 4096 (omega (arith, e)))
-    ∙ ap (λ (k : ℕ). take k table) e
-
-unstored : (ns table : List Node) → 4096 < length ns → kept ns table ≡ ns
-unstored ns table f = ap (λ (b : Bool). cond b (take (length ns) table) ns) (lt-leb (length ns) 4096 f)
-
-module _ (P : Records → Records → Type 0) (table : List Node) (n : ℕ) (h t : List ℕ) (d : List Bool) (l m : List ℕ) (c : Clock) where
-  module _ (fits : n ≤ 4096) (nx pv bk en gn sr : List ℕ) (u : Columns (take n table) nx pv bk en gn sr) where
+module _ (P : Records → Records → Type 0) (k : Columns) (n : ℕ) (h t : List ℕ) (d : List Bool) (l m : List ℕ) (c : Clock) where
+  module _ (fits : n ≤ 4096) where
     -- no node is written
-    pub reads : (d′ : List Bool) (l′ m′ : List ℕ) (c′ : Clock) → P (lent h t nx pv bk en gn sr d l m c) (lent h t nx pv bk en gn sr d′ l′ m′ c′)
-        → OfLoaded table n (λ ns. P (shown h t ns d l m c) (shown h t ns d′ l′ m′ c′))
-    reads d′ l′ m′ c′ p ns e o =
-        let v : Columns ns nx pv bk en gn sr = subst (λ (z : List Node). Columns z nx pv bk en gn sr) (loaded ns table n fits e o) u in
-        both P (same h t ns nx pv bk en gn sr d l m c v) (same h t ns nx pv bk en gn sr d′ l′ m′ c′ v) p
+    pub reads : {d′ : List Bool} {l′ m′ : List ℕ} {b c′ : Clock} → c′ ≡ b → P (held h t (front n k) d l m c) (held h t (front n k) d′ l′ m′ b)
+        → OfLoaded k n (λ ns. P (shown h t ns d l m c) (shown h t ns d′ l′ m′ c′))
+    reads {d′} {l′} {m′} {b} {c′} a p ns e o =
+        subst (λ (z : Columns). P (held h t z d l m c) (held h t z d′ l′ m′ c′)) (loaded ns k n fits e o)
+        (subst (λ (z : Clock). P (held h t (front n k) d l m c) (held h t (front n k) d′ l′ m′ z)) (sym a) p)
 
     -- nodes are written
-    pub writes : (table′ : List Node) (h′ t′ nx′ pv′ bk′ en′ gn′ sr′ : List ℕ) (d′ : List Bool) (l′ m′ : List ℕ) (c′ : Clock)
-        → Columns (take n table′) nx′ pv′ bk′ en′ gn′ sr′
-        → P (lent h t nx pv bk en gn sr d l m c) (lent h′ t′ nx′ pv′ bk′ en′ gn′ sr′ d′ l′ m′ c′)
-        → OfLoaded table n (λ ns. P (shown h t ns d l m c) (shown h′ t′ (kept ns table′) d′ l′ m′ c′))
-    writes table′ h′ t′ nx′ pv′ bk′ en′ gn′ sr′ d′ l′ m′ c′ w p ns e o =
-        let v : Columns ns nx pv bk en gn sr = subst (λ (z : List Node). Columns z nx pv bk en gn sr) (loaded ns table n fits e o) u in
-        let x : Columns (kept ns table′) nx′ pv′ bk′ en′ gn′ sr′ =
-        subst (λ (z : List Node). Columns z nx′ pv′ bk′ en′ gn′ sr′) (sym (stored ns table′ n fits e)) w in
-        both P (same h t ns nx pv bk en gn sr d l m c v) (same h′ t′ (kept ns table′) nx′ pv′ bk′ en′ gn′ sr′ d′ l′ m′ c′ x) p
+    pub writes : {k′ j : Columns} {h′ t′ : List ℕ} {d′ : List Bool} {l′ m′ : List ℕ} {b c′ : Clock} → c′ ≡ b → front n k′ ≡ j
+        → P (held h t (front n k) d l m c) (held h′ t′ j d′ l′ m′ b) → OfStored k k′ n (λ ns ns′. P (shown h t ns d l m c) (shown h′ t′ ns′ d′ l′ m′ c′))
+    writes {k′} {j} {h′} {t′} {d′} {l′} {m′} {b} {c′} a w p ns ns′ e o s =
+        subst (λ (z : Columns). P (held h t z d l m c) (held h′ t′ (columnsOf ns′) d′ l′ m′ c′)) (loaded ns k n fits e o)
+        (subst (λ (z : Columns). P (held h t (front n k) d l m c) (held h′ t′ z d′ l′ m′ c′)) (sym w ∙ stored ns k′ n fits e ns′ s)
+        (subst (λ (z : Clock). P (held h t (front n k) d l m c) (held h′ t′ j d′ l′ m′ z)) (sym a) p))
 
   -- more nodes than a wheel may have: every record stays
   module _ (many : 4096 < n) (p : (ns : List Node) → 4096 < length ns → P (shown h t ns d l m c) (shown h t ns d l m c)) where
-    pub stays : OfLoaded table n (λ ns. P (shown h t ns d l m c) (shown h t ns d l m c))
+    pub stays : OfLoaded k n (λ ns. P (shown h t ns d l m c) (shown h t ns d l m c))
     stays ns e o = p ns (omega (arith, e))
 
-    pub stays-stored : OfLoaded table n (λ ns. P (shown h t ns d l m c) (shown h t (kept ns table) d l m c))
-    stays-stored ns e o =
+    pub stays-stored : (k′ : Columns) → OfStored k k′ n (λ ns ns′. P (shown h t ns d l m c) (shown h t ns′ d l m c))
+    stays-stored k′ ns ns′ e o s =
         let f : 4096 < length ns = omega (arith, e) in
-        subst (λ (z : List Node). P (shown h t ns d l m c) (shown h t z d l m c)) (sym (unstored ns table f)) (p ns f)
+        subst (λ (z : List Node). P (shown h t ns d l m c) (shown h t z d l m c)) (sym (s .stays f)) (p ns f)

@@ -1,17 +1,20 @@
-// The work of start and abandon. No `requires`.
+// The work of start and abandon. For proved code only, unchecked: it hands over columns that are long enough.
+ghost use Rattle.nodes.specs.Columns.{Holds, columns};
 ghost use Rattle.face_work.specs.Works.{StartFor, AbandonFor};
 use crate::NotedTurn;
 use crate::answers::timed;
-use crate::columns::ROOM;
-use crate::columns::split;
 use crate::refusals::crowded;
-use nodes::Node;
 use records::Clock;
 use wheel::Noted;
 
 // Start: opens an advance to q. Refuses (1, 4, 5).
 pub fn start_work(
-    table: [Node; 4096],
+    next: &[usize],
+    prev: &[usize],
+    bucket: &[usize],
+    entry: &[usize],
+    generation: &[u32],
+    serial: &[u64],
     n: usize,
     clock: Clock,
     heads: &[usize],
@@ -21,7 +24,8 @@ pub fn start_work(
     stamp: &[u32],
     q: u64,
 ) -> NotedTurn
-    ensures { λ r. ⌜ StartFor table n clock (now (heads .entry)) (now (tails .entry)) (now (dated .entry)) (now (deadline .entry)) (now (stamp .entry)) q r ⌝ }
+    requires { ⌜ Holds 4096 (columns (now next) (now prev) (now bucket) (now entry) (now generation) (now serial)) ⌝ }
+    ensures { λ r. ⌜ StartFor (columns (now (next .entry)) (now (prev .entry)) (now (bucket .entry)) (now (entry .entry)) (now (generation .entry)) (now (serial .entry))) n clock (now (heads .entry)) (now (tails .entry)) (now (dated .entry)) (now (deadline .entry)) (now (stamp .entry)) q r ⌝ }
 {
     if 4096 < n {
         let no = crowded(clock);
@@ -30,22 +34,6 @@ pub fn start_work(
             answer: Noted::Refused(no),
         };
     }
-    let mut next = [0usize; ROOM];
-    let mut prev = [0usize; ROOM];
-    let mut bucket = [0usize; ROOM];
-    let mut entry = [0usize; ROOM];
-    let mut generation = [0u32; ROOM];
-    let mut serial = [0u64; ROOM];
-    split(
-        table,
-        n,
-        &mut next,
-        &mut prev,
-        &mut bucket,
-        &mut entry,
-        &mut generation,
-        &mut serial,
-    );
     let told = wheel::start(
         heads,
         tails,
@@ -66,7 +54,12 @@ pub fn start_work(
 
 // Abandon: closes the open advance and restores the reading that it started from. Refuses (1, 4, 6).
 pub fn abandon_work(
-    table: [Node; 4096],
+    next: &[usize],
+    prev: &[usize],
+    bucket: &[usize],
+    entry: &[usize],
+    generation: &[u32],
+    serial: &[u64],
     n: usize,
     clock: Clock,
     heads: &[usize],
@@ -75,7 +68,8 @@ pub fn abandon_work(
     deadline: &[u64],
     stamp: &[u32],
 ) -> NotedTurn
-    ensures { λ r. ⌜ AbandonFor table n clock (now (heads .entry)) (now (tails .entry)) (now (dated .entry)) (now (deadline .entry)) (now (stamp .entry)) r ⌝ }
+    requires { ⌜ Holds 4096 (columns (now next) (now prev) (now bucket) (now entry) (now generation) (now serial)) ⌝ }
+    ensures { λ r. ⌜ AbandonFor (columns (now (next .entry)) (now (prev .entry)) (now (bucket .entry)) (now (entry .entry)) (now (generation .entry)) (now (serial .entry))) n clock (now (heads .entry)) (now (tails .entry)) (now (dated .entry)) (now (deadline .entry)) (now (stamp .entry)) r ⌝ }
 {
     if 4096 < n {
         let no = crowded(clock);
@@ -84,22 +78,6 @@ pub fn abandon_work(
             answer: Noted::Refused(no),
         };
     }
-    let mut next = [0usize; ROOM];
-    let mut prev = [0usize; ROOM];
-    let mut bucket = [0usize; ROOM];
-    let mut entry = [0usize; ROOM];
-    let mut generation = [0u32; ROOM];
-    let mut serial = [0u64; ROOM];
-    split(
-        table,
-        n,
-        &mut next,
-        &mut prev,
-        &mut bucket,
-        &mut entry,
-        &mut generation,
-        &mut serial,
-    );
     let told = wheel::abandon(
         heads,
         tails,
