@@ -6,6 +6,7 @@ use face_work::Pulled;
 use face_work::advancing::abandon_work;
 use face_work::advancing::start_work;
 use nodes::Node;
+use nodes::ROOM;
 use nodes::load;
 use nodes::store;
 use records::Clock;
@@ -24,9 +25,28 @@ pub fn start(
 ) -> Noted
     ensures { λ r. ⌜ FaceStart (shown (now (heads .entry)) (now (tails .entry)) (now (nodes .entry)) (now (dated .entry)) (now (deadline .entry)) (now (stamp .entry)) (now (clock .entry))) (shown (now (heads .entry)) (now (tails .entry)) (now (nodes .entry)) (now (dated .entry)) (now (deadline .entry)) (now (stamp .entry)) (now (clock .exit))) q r ⌝ }
 {
-    let table = load(nodes);
-    let made = start_work(
-        table,
+    let mut next = [0usize; ROOM];
+    let mut prev = [0usize; ROOM];
+    let mut bucket = [0usize; ROOM];
+    let mut entry = [0usize; ROOM];
+    let mut generation = [0u32; ROOM];
+    let mut serial = [0u64; ROOM];
+    load(
+        nodes,
+        &mut next,
+        &mut prev,
+        &mut bucket,
+        &mut entry,
+        &mut generation,
+        &mut serial,
+    );
+    let turn = start_work(
+        &next,
+        &prev,
+        &bucket,
+        &entry,
+        &generation,
+        &serial,
         nodes.len(),
         *clock,
         heads,
@@ -36,8 +56,8 @@ pub fn start(
         stamp,
         q,
     );
-    *clock = made.clock;
-    made.answer
+    *clock = turn.clock;
+    turn.answer
 }
 
 // One event of the open advance, or End. Refuses (1, 4, 6).
@@ -52,9 +72,28 @@ pub fn pull(
 ) -> Pulled
     ensures { λ r. ⌜ FacePull (shown (now (heads .entry)) (now (tails .entry)) (now (nodes .entry)) (now (dated .entry)) (now (deadline .entry)) (now (stamp .entry)) (now (clock .entry))) (shown (now (heads .exit)) (now (tails .exit)) (now (nodes .exit)) (now (dated .entry)) (now (deadline .entry)) (now (stamp .entry)) (now (clock .exit))) r ⌝ }
 {
-    let table = load(nodes);
-    let made = pull_work(
-        table,
+    let mut next = [0usize; ROOM];
+    let mut prev = [0usize; ROOM];
+    let mut bucket = [0usize; ROOM];
+    let mut entry = [0usize; ROOM];
+    let mut generation = [0u32; ROOM];
+    let mut serial = [0u64; ROOM];
+    load(
+        nodes,
+        &mut next,
+        &mut prev,
+        &mut bucket,
+        &mut entry,
+        &mut generation,
+        &mut serial,
+    );
+    let turn = pull_work(
+        &mut next,
+        &mut prev,
+        &mut bucket,
+        &mut entry,
+        &mut generation,
+        &mut serial,
         nodes.len(),
         *clock,
         heads,
@@ -63,9 +102,9 @@ pub fn pull(
         deadline,
         stamp,
     );
-    *clock = made.clock;
-    store(nodes, made.table);
-    made.answer
+    *clock = turn.clock;
+    store(nodes, &next, &prev, &bucket, &entry, &generation, &serial);
+    turn.answer
 }
 
 // Closes the open advance and restores the reading that it started from. Refuses (1, 4, 6).
@@ -80,9 +119,28 @@ pub fn abandon(
 ) -> Noted
     ensures { λ r. ⌜ FaceAbandon (shown (now (heads .entry)) (now (tails .entry)) (now (nodes .entry)) (now (dated .entry)) (now (deadline .entry)) (now (stamp .entry)) (now (clock .entry))) (shown (now (heads .entry)) (now (tails .entry)) (now (nodes .entry)) (now (dated .entry)) (now (deadline .entry)) (now (stamp .entry)) (now (clock .exit))) r ⌝ }
 {
-    let table = load(nodes);
-    let made = abandon_work(
-        table,
+    let mut next = [0usize; ROOM];
+    let mut prev = [0usize; ROOM];
+    let mut bucket = [0usize; ROOM];
+    let mut entry = [0usize; ROOM];
+    let mut generation = [0u32; ROOM];
+    let mut serial = [0u64; ROOM];
+    load(
+        nodes,
+        &mut next,
+        &mut prev,
+        &mut bucket,
+        &mut entry,
+        &mut generation,
+        &mut serial,
+    );
+    let turn = abandon_work(
+        &next,
+        &prev,
+        &bucket,
+        &entry,
+        &generation,
+        &serial,
         nodes.len(),
         *clock,
         heads,
@@ -91,6 +149,6 @@ pub fn abandon(
         deadline,
         stamp,
     );
-    *clock = made.clock;
-    made.answer
+    *clock = turn.clock;
+    turn.answer
 }

@@ -7,6 +7,7 @@ use face_timers::timers::schedule_work;
 use face_work::Rescheduled;
 use face_work::Scheduled;
 use nodes::Node;
+use nodes::ROOM;
 use nodes::load;
 use nodes::store;
 use records::Clock;
@@ -26,9 +27,28 @@ pub fn schedule(
 ) -> Scheduled
     ensures { λ r. ⌜ FaceSchedule (shown (now (heads .entry)) (now (tails .entry)) (now (nodes .entry)) (now (dated .entry)) (now (deadline .entry)) (now (stamp .entry)) (now (clock .entry))) (shown (now (heads .exit)) (now (tails .exit)) (now (nodes .exit)) (now (dated .entry)) (now (deadline .entry)) (now (stamp .entry)) (now (clock .exit))) e h r ⌝ }
 {
-    let table = load(nodes);
-    let made = schedule_work(
-        table,
+    let mut next = [0usize; ROOM];
+    let mut prev = [0usize; ROOM];
+    let mut bucket = [0usize; ROOM];
+    let mut entry = [0usize; ROOM];
+    let mut generation = [0u32; ROOM];
+    let mut serial = [0u64; ROOM];
+    load(
+        nodes,
+        &mut next,
+        &mut prev,
+        &mut bucket,
+        &mut entry,
+        &mut generation,
+        &mut serial,
+    );
+    let turn = schedule_work(
+        &mut next,
+        &mut prev,
+        &mut bucket,
+        &mut entry,
+        &mut generation,
+        &mut serial,
         nodes.len(),
         *clock,
         heads,
@@ -39,9 +59,9 @@ pub fn schedule(
         e,
         h,
     );
-    *clock = made.clock;
-    store(nodes, made.table);
-    made.answer
+    *clock = turn.clock;
+    store(nodes, &next, &prev, &bucket, &entry, &generation, &serial);
+    turn.answer
 }
 
 // Moves the timer with the handle (slot, number), armed with the generation h, or removes it. Refuses (1, 4, 5, 12, 13).
@@ -59,9 +79,28 @@ pub fn reschedule(
 ) -> Rescheduled
     ensures { λ r. ⌜ FaceReschedule (shown (now (heads .entry)) (now (tails .entry)) (now (nodes .entry)) (now (dated .entry)) (now (deadline .entry)) (now (stamp .entry)) (now (clock .entry))) (shown (now (heads .exit)) (now (tails .exit)) (now (nodes .exit)) (now (dated .entry)) (now (deadline .entry)) (now (stamp .entry)) (now (clock .exit))) slot number h r ⌝ }
 {
-    let table = load(nodes);
-    let made = reschedule_work(
-        table,
+    let mut next = [0usize; ROOM];
+    let mut prev = [0usize; ROOM];
+    let mut bucket = [0usize; ROOM];
+    let mut entry = [0usize; ROOM];
+    let mut generation = [0u32; ROOM];
+    let mut serial = [0u64; ROOM];
+    load(
+        nodes,
+        &mut next,
+        &mut prev,
+        &mut bucket,
+        &mut entry,
+        &mut generation,
+        &mut serial,
+    );
+    let turn = reschedule_work(
+        &mut next,
+        &mut prev,
+        &mut bucket,
+        &mut entry,
+        &mut generation,
+        &mut serial,
         nodes.len(),
         *clock,
         heads,
@@ -73,9 +112,9 @@ pub fn reschedule(
         number,
         h,
     );
-    *clock = made.clock;
-    store(nodes, made.table);
-    made.answer
+    *clock = turn.clock;
+    store(nodes, &next, &prev, &bucket, &entry, &generation, &serial);
+    turn.answer
 }
 
 // Removes the timer with the handle (slot, number), armed with the generation h. Refuses (1, 4, 5, 12, 13).
@@ -93,9 +132,28 @@ pub fn deschedule(
 ) -> Noted
     ensures { λ r. ⌜ FaceDeschedule (shown (now (heads .entry)) (now (tails .entry)) (now (nodes .entry)) (now (dated .entry)) (now (deadline .entry)) (now (stamp .entry)) (now (clock .entry))) (shown (now (heads .exit)) (now (tails .exit)) (now (nodes .exit)) (now (dated .entry)) (now (deadline .entry)) (now (stamp .entry)) (now (clock .exit))) slot number h r ⌝ }
 {
-    let table = load(nodes);
-    let made = deschedule_work(
-        table,
+    let mut next = [0usize; ROOM];
+    let mut prev = [0usize; ROOM];
+    let mut bucket = [0usize; ROOM];
+    let mut entry = [0usize; ROOM];
+    let mut generation = [0u32; ROOM];
+    let mut serial = [0u64; ROOM];
+    load(
+        nodes,
+        &mut next,
+        &mut prev,
+        &mut bucket,
+        &mut entry,
+        &mut generation,
+        &mut serial,
+    );
+    let turn = deschedule_work(
+        &mut next,
+        &mut prev,
+        &mut bucket,
+        &mut entry,
+        &mut generation,
+        &mut serial,
         nodes.len(),
         *clock,
         heads,
@@ -107,7 +165,7 @@ pub fn deschedule(
         number,
         h,
     );
-    *clock = made.clock;
-    store(nodes, made.table);
-    made.answer
+    *clock = turn.clock;
+    store(nodes, &next, &prev, &bucket, &entry, &generation, &serial);
+    turn.answer
 }

@@ -4,6 +4,7 @@ ghost use Rattle.face_work.specs.Faces.{FaceArmedCount, FaceNextDue};
 use face_asks::counts::armed_count_work;
 use face_asks::counts::next_due_work;
 use nodes::Node;
+use nodes::ROOM;
 use nodes::load;
 use records::Clock;
 use wheel::Counted;
@@ -21,9 +22,28 @@ pub fn armed_count(
 ) -> Counted
     ensures { λ r. ⌜ FaceArmedCount (shown (now (heads .entry)) (now (tails .entry)) (now (nodes .entry)) (now (dated .entry)) (now (deadline .entry)) (now (stamp .entry)) clock) r ⌝ }
 {
-    let table = load(nodes);
+    let mut next = [0usize; ROOM];
+    let mut prev = [0usize; ROOM];
+    let mut bucket = [0usize; ROOM];
+    let mut entry = [0usize; ROOM];
+    let mut generation = [0u32; ROOM];
+    let mut serial = [0u64; ROOM];
+    load(
+        nodes,
+        &mut next,
+        &mut prev,
+        &mut bucket,
+        &mut entry,
+        &mut generation,
+        &mut serial,
+    );
     armed_count_work(
-        table,
+        &next,
+        &prev,
+        &bucket,
+        &entry,
+        &generation,
+        &serial,
         nodes.len(),
         clock,
         heads,
@@ -46,9 +66,28 @@ pub fn next_due(
 ) -> Due
     ensures { λ r. ⌜ FaceNextDue (shown (now (heads .entry)) (now (tails .entry)) (now (nodes .entry)) (now (dated .entry)) (now (deadline .entry)) (now (stamp .entry)) clock) r ⌝ }
 {
-    let table = load(nodes);
+    let mut next = [0usize; ROOM];
+    let mut prev = [0usize; ROOM];
+    let mut bucket = [0usize; ROOM];
+    let mut entry = [0usize; ROOM];
+    let mut generation = [0u32; ROOM];
+    let mut serial = [0u64; ROOM];
+    load(
+        nodes,
+        &mut next,
+        &mut prev,
+        &mut bucket,
+        &mut entry,
+        &mut generation,
+        &mut serial,
+    );
     next_due_work(
-        table,
+        &next,
+        &prev,
+        &bucket,
+        &entry,
+        &generation,
+        &serial,
         nodes.len(),
         clock,
         heads,

@@ -3,6 +3,7 @@ ghost use Rattle.nodes.specs.Shown.{shown};
 ghost use Rattle.face_work.specs.Faces.{FaceSetEntry};
 use face_asks::settings::set_entry_work;
 use nodes::Node;
+use nodes::ROOM;
 use nodes::load;
 use records::Clock;
 use wheel::Noted;
@@ -23,9 +24,28 @@ pub fn set_entry(
 ) -> Noted
     ensures { λ r. ⌜ FaceSetEntry (shown (now (heads .entry)) (now (tails .entry)) (now (nodes .entry)) (now (dated .entry)) (now (deadline .entry)) (now (stamp .entry)) clock) (shown (now (heads .entry)) (now (tails .entry)) (now (nodes .entry)) (now (dated .exit)) (now (deadline .exit)) (now (stamp .exit)) clock) e has due h r ⌝ }
 {
-    let table = load(nodes);
+    let mut next = [0usize; ROOM];
+    let mut prev = [0usize; ROOM];
+    let mut bucket = [0usize; ROOM];
+    let mut entry = [0usize; ROOM];
+    let mut generation = [0u32; ROOM];
+    let mut serial = [0u64; ROOM];
+    load(
+        nodes,
+        &mut next,
+        &mut prev,
+        &mut bucket,
+        &mut entry,
+        &mut generation,
+        &mut serial,
+    );
     set_entry_work(
-        table,
+        &next,
+        &prev,
+        &bucket,
+        &entry,
+        &generation,
+        &serial,
         nodes.len(),
         clock,
         heads,

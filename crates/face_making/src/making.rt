@@ -3,6 +3,7 @@ ghost use Rattle.nodes.specs.Shown.{shown};
 ghost use Rattle.face_work.specs.Faces.{FaceEnable};
 use face_turns::making::enable_work;
 use nodes::Node;
+use nodes::ROOM;
 use nodes::load;
 use nodes::store;
 use records::Clock;
@@ -20,9 +21,28 @@ pub fn enable(
 ) -> Noted
     ensures { λ r. ⌜ FaceEnable (shown (now (heads .entry)) (now (tails .entry)) (now (nodes .entry)) (now (dated .entry)) (now (deadline .entry)) (now (stamp .entry)) (now (clock .entry))) (shown (now (heads .exit)) (now (tails .exit)) (now (nodes .exit)) (now (dated .exit)) (now (deadline .exit)) (now (stamp .exit)) (now (clock .exit))) r ⌝ }
 {
-    let table = load(nodes);
-    let made = enable_work(
-        table,
+    let mut next = [0usize; ROOM];
+    let mut prev = [0usize; ROOM];
+    let mut bucket = [0usize; ROOM];
+    let mut entry = [0usize; ROOM];
+    let mut generation = [0u32; ROOM];
+    let mut serial = [0u64; ROOM];
+    load(
+        nodes,
+        &mut next,
+        &mut prev,
+        &mut bucket,
+        &mut entry,
+        &mut generation,
+        &mut serial,
+    );
+    let turn = enable_work(
+        &mut next,
+        &mut prev,
+        &mut bucket,
+        &mut entry,
+        &mut generation,
+        &mut serial,
         nodes.len(),
         *clock,
         heads,
@@ -31,7 +51,7 @@ pub fn enable(
         deadline,
         stamp,
     );
-    *clock = made.clock;
-    store(nodes, made.table);
-    made.answer
+    *clock = turn.clock;
+    store(nodes, &next, &prev, &bucket, &entry, &generation, &serial);
+    turn.answer
 }
