@@ -422,7 +422,7 @@ class Thin:
     def makes_columns(self, w):
         w.note('the columns')
         for a, bits in zip(self.arrays, (8, 8, 8, 8, 4, 8)):
-            w.say('assigns ! (rep ! %d (lit ! tt)) (from ! (stop !)) %s $' % (ROOM, w.init(a, '(zeros-typed 𝓤 H A W w%d small%s %d)' % (8 * bits, low(bits), ROOM))))
+            w.say('assigns ! (rep ! %d (lit ! tt)) (from ! (stop !)) %s $' % (ROOM, w.init(a, '(zeros-typed 𝓤 H A W w%d some-%d %d)' % (8 * bits, bits, ROOM))))
         names = ['_%d' % a for a in self.arrays]
         text = w.take(names[4], names[5]) + 'join ! $ '
         w.head(2, 'cols')
@@ -430,12 +430,12 @@ class Thin:
             text += w.take(name, 'cols') + 'join ! $ '
             w.head(2, 'cols')
         w.say(text)
-        w.say('use1 W (some (λ (c : Columns). given (Full %d c) (‵ (Rows %d %s c)))) (makes-six 𝓤 H A W %d %s small₈ small₄) $ pick ! (λ c₀. learn ! (λ full₀.' % (ROOM, ROOM, self.spots, ROOM, self.spots))
+        w.say('use1 W (some (λ (c : Columns). given (Full %d c) (‵ (Rows %d %s c)))) (makes-six 𝓤 H A W %d %s some-8 some-4) $ pick ! (λ c₀. learn ! (λ full₀.' % (ROOM, ROOM, self.spots, ROOM, self.spots))
 
     def column_refs(self, w, pairs):
         for a, (ref, pair) in zip(self.arrays, pairs):
             w.say('assigns ! (addr ! (from ! (stop !))) (from ! (stop !)) %s $' % w.init(ref, '(tt, tt)'))
-            parts = '(and-then ! %s (and-then ! (lit ! tt) (no-more !)))' % w.look(ref)
+            parts = '(and-then ! %s (and-then ! (length-lit ! (record { fits = lit< tt })) (no-more !)))' % w.look(ref)
             w.say('assigns ! (agg ! %s) (from ! (stop !)) %s $' % (parts, w.init(pair, '(tt, (tt, (record { fits = lit< tt }, tt)))')))
 
     def lend_columns(self, w, mut, c, full, leases, tokens, others, entries):
@@ -443,20 +443,20 @@ class Thin:
         law, owned, lender = ('lends-six', 'Owned', 'Lenders') if mut else ('shares-six', 'Viewed', 'Sharers')
         at = '%d %s' % (ROOM, self.spots)
         item = 'With 𝓤 H A W ls %s ⊛ ‵ (%s %s ls %s %s) ⊛ ‵ (%s %s ls%s)' % (tokens, owned, at, c, others, lender, at, '' if mut else ' ' + c)
-        w.say(w.take('cols', *entries) + 'use3 W (later (some (λ (ls : Leases). %s))) (%s 𝓤 H A W %s room₈ room₄ %s %s %s %s) $' % (item, law, at, c, full, tokens, others))
+        w.say(w.take('cols', *entries) + 'use3 W (later (some (λ (ls : Leases). %s))) (%s 𝓤 H A W %s fits-8 fits-4 %s %s %s %s) $' % (item, law, at, c, full, tokens, others))
         w.say('await ! tt $ pick ! (λ %s. split ! $ move ! (1 ∷ []) $ split ! $' % leases)
         w.head(3, 'lent-cols', 'lenders', 'with')
 
     def columns_back(self, w, c, full, leases, tokens):
         """The columns that were lent as & are back."""
         at = '%d %s' % (ROOM, self.spots)
-        w.say(w.take('with', 'lenders') + 'use2 W (later (‵ (Rows %s %s) ⊛ %s)) (six-unshared 𝓤 H A W %s room₈ room₄ %s %s %s ftrue %s) $ await ! tt $ split ! $' % (at, c, tokens, at, c, full, tokens, leases))
+        w.say(w.take('with', 'lenders') + 'use2 W (later (‵ (Rows %s %s) ⊛ %s)) (six-unshared 𝓤 H A W %s fits-8 fits-4 %s %s %s ftrue %s) $ await ! tt $ split ! $' % (at, c, tokens, at, c, full, tokens, leases))
 
     def columns_after(self, w, c, full, leases, tokens, others, after, known):
         """The columns that were lent as &mut are back, at their last numbers."""
         at = '%d %s' % (ROOM, self.spots)
         item = 'given (Full %d %s) (‵ (Rows %s %s) ⊛ %s ⊛ ‵ %s)' % (ROOM, after, at, after, tokens, others)
-        w.say(w.take('with', 'lenders', 'lasting') + 'use3 W (later (%s)) (six-back 𝓤 H A W %s room₈ room₄ %s %s %s %s %s %s) $ await ! tt $ learn ! (λ %s. split ! $ move ! (1 ∷ []) $ split ! $' % (item, at, c, full, tokens, others, leases, after, known))
+        w.say(w.take('with', 'lenders', 'lasting') + 'use3 W (later (%s)) (six-back 𝓤 H A W %s fits-8 fits-4 %s %s %s %s %s %s) $ await ! tt $ learn ! (λ %s. split ! $ move ! (1 ∷ []) $ split ! $' % (item, at, c, full, tokens, others, leases, after, known))
 
     def nothings(self, w):
         w.say('nothing ! $ nothing ! $')
