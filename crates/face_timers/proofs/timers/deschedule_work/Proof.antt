@@ -1,5 +1,6 @@
 -- `deschedule_work` meets its promise. Assumes nothing.
-use Rattle.face_work.proofs.Loading.{front-length, back-length, back-has, back-front, back-columns}
+use Rattle.nodes.specs.Columns.{columns}
+use Rattle.face_work.proofs.Loading.{front-length, over-front}
 use Rattle.face_work.proofs.Facing.{deschedule-crowded, deschedule-done}
 use borrow.Author.Needs.{needs}
 use Rattle.face_timers.proofs.timers.deschedule_work.Statement.{statement}
@@ -11,80 +12,53 @@ crowded-requires c κs = search needs
 returns : tie.Need-returns
 returns c = deschedule-crowded (c .before .if1 .taken) (c .crowded .ensures)
 
-slice-aggregate-split : tie.Need-slice-aggregate-split
-slice-aggregate-split c = search needs
-
-slice-aggregate-split-2 : tie.Need-slice-aggregate-split-2
-slice-aggregate-split-2 c = search needs
-
-slice-aggregate-split-3 : tie.Need-slice-aggregate-split-3
-slice-aggregate-split-3 c = search needs
-
-slice-aggregate-split-4 : tie.Need-slice-aggregate-split-4
-slice-aggregate-split-4 c = search needs
-
-slice-aggregate-split-5 : tie.Need-slice-aggregate-split-5
-slice-aggregate-split-5 c = search needs
-
-slice-aggregate-split-6 : tie.Need-slice-aggregate-split-6
-slice-aggregate-split-6 c = search needs
-
-split-requires : tie.Need-split-requires
-split-requires c κs = search needs
-
-array-borrow-prefix-next : tie.Need-array-borrow-prefix-next
-array-borrow-prefix-next c = search needs
+slice-relend-prefix-deschedule : tie.Need-slice-relend-prefix-deschedule
+slice-relend-prefix-deschedule c = search needs
 
 slice-aggregate-deschedule : tie.Need-slice-aggregate-deschedule
 slice-aggregate-deschedule c =
-    let x = c .before .before .before .before .before .before .before .before .before in
-    let z = x .before .before .before .before .before .before .before .before .before .before .before .before .before in
-    front-length (z .args .n) (z .args .table) (z .good .0 .1 .0 .1) (x .before .before .before .before .before .before .before .if1 .left) _ _ (x .split .ensures .next-is)
+    let x = c .before .before .before in
+    front-length _ (x .if1 .left) _ (x .before .before .before .before .before .before .before .before .before .before .before .before .pre .next-has)
 
-array-borrow-prefix-prev : tie.Need-array-borrow-prefix-prev
-array-borrow-prefix-prev c = search needs
+slice-relend-prefix-deschedule-2 : tie.Need-slice-relend-prefix-deschedule-2
+slice-relend-prefix-deschedule-2 c = search needs
 
 slice-aggregate-deschedule-2 : tie.Need-slice-aggregate-deschedule-2
 slice-aggregate-deschedule-2 c =
-    let x = c .before .before .before .before .before .before .before .before .before .before in
-    let z = x .before .before .before .before .before .before .before .before .before .before .before .before .before in
-    front-length (z .args .n) (z .args .table) (z .good .0 .1 .0 .1) (x .before .before .before .before .before .before .before .if1 .left) _ _ (x .split .ensures .prev-is)
+    let x = c .before .before .before .before in
+    front-length _ (x .if1 .left) _ (x .before .before .before .before .before .before .before .before .before .before .before .before .pre .prev-has)
 
-array-borrow-prefix-bucket : tie.Need-array-borrow-prefix-bucket
-array-borrow-prefix-bucket c = search needs
+slice-relend-prefix-deschedule-3 : tie.Need-slice-relend-prefix-deschedule-3
+slice-relend-prefix-deschedule-3 c = search needs
 
 slice-aggregate-deschedule-3 : tie.Need-slice-aggregate-deschedule-3
 slice-aggregate-deschedule-3 c =
-    let x = c .before .before .before .before .before .before .before .before .before .before .before in
-    let z = x .before .before .before .before .before .before .before .before .before .before .before .before .before in
-    front-length (z .args .n) (z .args .table) (z .good .0 .1 .0 .1) (x .before .before .before .before .before .before .before .if1 .left) _ _ (x .split .ensures .bucket-is)
+    let x = c .before .before .before .before .before in
+    front-length _ (x .if1 .left) _ (x .before .before .before .before .before .before .before .before .before .before .before .before .pre .bucket-has)
 
-array-borrow-prefix-entry : tie.Need-array-borrow-prefix-entry
-array-borrow-prefix-entry c = search needs
+slice-relend-prefix-deschedule-4 : tie.Need-slice-relend-prefix-deschedule-4
+slice-relend-prefix-deschedule-4 c = search needs
 
 slice-aggregate-deschedule-4 : tie.Need-slice-aggregate-deschedule-4
 slice-aggregate-deschedule-4 c =
-    let x = c .before .before .before .before .before .before .before .before .before .before .before .before in
-    let z = x .before .before .before .before .before .before .before .before .before .before .before .before .before in
-    front-length (z .args .n) (z .args .table) (z .good .0 .1 .0 .1) (x .before .before .before .before .before .before .before .if1 .left) _ _ (x .split .ensures .entry-is)
+    let x = c .before .before .before .before .before .before in
+    front-length _ (x .if1 .left) _ (x .before .before .before .before .before .before .before .before .before .before .before .before .pre .entry-has)
 
-array-borrow-prefix-generation : tie.Need-array-borrow-prefix-generation
-array-borrow-prefix-generation c = search needs
+slice-relend-prefix-deschedule-5 : tie.Need-slice-relend-prefix-deschedule-5
+slice-relend-prefix-deschedule-5 c = search needs
 
 slice-aggregate-deschedule-5 : tie.Need-slice-aggregate-deschedule-5
 slice-aggregate-deschedule-5 c =
-    let x = c .before .before .before .before .before .before .before .before .before .before .before .before .before in
-    let z = x .before .before .before .before .before .before .before .before .before .before .before .before .before in
-    front-length (z .args .n) (z .args .table) (z .good .0 .1 .0 .1) (x .before .before .before .before .before .before .before .if1 .left) _ _ (x .split .ensures .generation-is)
+    let x = c .before .before .before .before .before .before .before in
+    front-length _ (x .if1 .left) _ (x .before .before .before .before .before .before .before .before .before .before .before .before .pre .generation-has)
 
-array-borrow-prefix-serial : tie.Need-array-borrow-prefix-serial
-array-borrow-prefix-serial c = search needs
+slice-relend-prefix-deschedule-6 : tie.Need-slice-relend-prefix-deschedule-6
+slice-relend-prefix-deschedule-6 c = search needs
 
 slice-aggregate-deschedule-6 : tie.Need-slice-aggregate-deschedule-6
 slice-aggregate-deschedule-6 c =
-    let x = c .before .before .before .before .before .before .before .before .before .before .before .before .before .before in
-    let z = x .before .before .before .before .before .before .before .before .before .before .before .before .before in
-    front-length (z .args .n) (z .args .table) (z .good .0 .1 .0 .1) (x .before .before .before .before .before .before .before .if1 .left) _ _ (x .split .ensures .serial-is)
+    let x = c .before .before .before .before .before .before .before .before in
+    front-length _ (x .if1 .left) _ (x .before .before .before .before .before .before .before .before .before .before .before .before .pre .serial-has)
 
 deschedule-requires : tie.Need-deschedule-requires
 deschedule-requires c κs = search needs
@@ -92,74 +66,46 @@ deschedule-requires c κs = search needs
 timed-requires : tie.Need-timed-requires
 timed-requires c κs = search needs
 
-slice-aggregate-gather : tie.Need-slice-aggregate-gather
-slice-aggregate-gather c =
-    let x = c .before .before .before .before .before .before .before .before .before .before .before .before .before .before .before .before .before .before .before .before .before .before .before .before .before .before .before .before in
-    back-length (x .before .before .before .before .before .before .before .before .before .before .before .before .before .args .n) (x .before .before .before .before .before .before .before .if1 .left) (c .before .before .before .before .before .before .before .before .before .before .before .before .before .deschedule .last .1 .1 .0) (x .split .last .1 .1 .0) (c .before .before .before .before .before .before .before .before .next4 .given) (c .before .before .before .before .before .before .before .before .before .before .before .before .before .before .before .before .before .before .before .before .before .before .before .before .before .before .before .next2 .given)
-
-slice-aggregate-gather-2 : tie.Need-slice-aggregate-gather-2
-slice-aggregate-gather-2 c =
-    let x = c .before .before .before .before .before .before .before .before .before .before .before .before .before .before .before .before .before .before .before .before .before .before .before .before .before .before .before .before .before in
-    back-length (x .before .before .before .before .before .before .before .before .before .before .before .before .before .args .n) (x .before .before .before .before .before .before .before .if1 .left) (c .before .before .before .before .before .before .before .before .before .before .before .before .before .before .deschedule .last .1 .1 .1 .0) (x .split .last .1 .1 .1 .0) (c .before .before .before .before .before .before .before .before .prev4 .given) (c .before .before .before .before .before .before .before .before .before .before .before .before .before .before .before .before .before .before .before .before .before .before .before .before .before .before .before .prev2 .given)
-
-slice-aggregate-gather-3 : tie.Need-slice-aggregate-gather-3
-slice-aggregate-gather-3 c =
-    let x = c .before .before .before .before .before .before .before .before .before .before .before .before .before .before .before .before .before .before .before .before .before .before .before .before .before .before .before .before .before .before in
-    back-length (x .before .before .before .before .before .before .before .before .before .before .before .before .before .args .n) (x .before .before .before .before .before .before .before .if1 .left) (c .before .before .before .before .before .before .before .before .before .before .before .before .before .before .before .deschedule .last .1 .1 .1 .1 .0) (x .split .last .1 .1 .1 .1 .0) (c .before .before .before .before .before .before .before .before .bucket4 .given) (c .before .before .before .before .before .before .before .before .before .before .before .before .before .before .before .before .before .before .before .before .before .before .before .before .before .before .before .bucket2 .given)
-
-slice-aggregate-gather-4 : tie.Need-slice-aggregate-gather-4
-slice-aggregate-gather-4 c =
-    let x = c .before .before .before .before .before .before .before .before .before .before .before .before .before .before .before .before .before .before .before .before .before .before .before .before .before .before .before .before .before .before .before in
-    back-length (x .before .before .before .before .before .before .before .before .before .before .before .before .before .args .n) (x .before .before .before .before .before .before .before .if1 .left) (c .before .before .before .before .before .before .before .before .before .before .before .before .before .before .before .before .deschedule .last .1 .1 .1 .1 .1 .0) (x .split .last .1 .1 .1 .1 .1 .0) (c .before .before .before .before .before .before .before .before .entry4 .given) (c .before .before .before .before .before .before .before .before .before .before .before .before .before .before .before .before .before .before .before .before .before .before .before .before .before .before .before .entry2 .given)
-
-slice-aggregate-gather-5 : tie.Need-slice-aggregate-gather-5
-slice-aggregate-gather-5 c =
-    let x = c .before .before .before .before .before .before .before .before .before .before .before .before .before .before .before .before .before .before .before .before .before .before .before .before .before .before .before .before .before .before .before .before in
-    back-length (x .before .before .before .before .before .before .before .before .before .before .before .before .before .args .n) (x .before .before .before .before .before .before .before .if1 .left) (c .before .before .before .before .before .before .before .before .before .before .before .before .before .before .before .before .before .deschedule .last .1 .1 .1 .1 .1 .1 .0) (x .split .last .1 .1 .1 .1 .1 .1 .0) (c .before .before .before .before .before .before .before .before .generation4 .given) (c .before .before .before .before .before .before .before .before .before .before .before .before .before .before .before .before .before .before .before .before .before .before .before .before .before .before .before .generation2 .given)
-
-slice-aggregate-gather-6 : tie.Need-slice-aggregate-gather-6
-slice-aggregate-gather-6 c =
-    let x = c .before .before .before .before .before .before .before .before .before .before .before .before .before .before .before .before .before .before .before .before .before .before .before .before .before .before .before .before .before .before .before .before .before in
-    back-length (x .before .before .before .before .before .before .before .before .before .before .before .before .before .args .n) (x .before .before .before .before .before .before .before .if1 .left) (c .before .before .before .before .before .before .before .before .before .before .before .before .before .before .before .before .before .before .deschedule .last .1 .1 .1 .1 .1 .1 .1 .0) (x .split .last .1 .1 .1 .1 .1 .1 .1 .0) (c .before .before .before .before .before .before .before .before .serial4 .given) (c .before .before .before .before .before .before .before .before .before .before .before .before .before .before .before .before .before .before .before .before .before .before .before .before .before .before .before .serial2 .given)
-
-gather-requires : tie.Need-gather-requires
-gather-requires c κs =
-    let x = c .before .before .before .before .before .before .before .before .before .before .before .before .before .before .before .before .before .before .before .before .before .before .before .before .before .before .before .before .before .before .before .before .before in
-    let z = x .before .before .before .before .before .before .before .before .before .before .before .before .before in
-    let f = x .before .before .before .before .before .before .before .if1 .left in
-    let y = c .before .before .before .before .before .before .before .before .before .before .before .before .before .before .before .before .before .before .deschedule in (
-      f,
-      record {
-        next-has = back-has (z .args .n) f (y .last .1 .1 .0) (x .split .last .1 .1 .0) (c .before .before .before .before .before .before .before .before .before .before .before .before .before .next4 .given) (c .before .before .before .before .before .before .before .before .before .before .before .before .before .before .before .before .before .before .before .before .before .before .before .before .before .before .before .before .before .before .before .before .next2 .given);
-        prev-has = back-has (z .args .n) f (y .last .1 .1 .1 .0) (x .split .last .1 .1 .1 .0) (c .before .before .before .before .before .before .before .before .before .before .before .before .prev4 .given) (c .before .before .before .before .before .before .before .before .before .before .before .before .before .before .before .before .before .before .before .before .before .before .before .before .before .before .before .before .before .before .before .prev2 .given);
-        bucket-has = back-has (z .args .n) f (y .last .1 .1 .1 .1 .0) (x .split .last .1 .1 .1 .1 .0) (c .before .before .before .before .before .before .before .before .before .before .before .bucket4 .given) (c .before .before .before .before .before .before .before .before .before .before .before .before .before .before .before .before .before .before .before .before .before .before .before .before .before .before .before .before .before .before .bucket2 .given);
-        entry-has = back-has (z .args .n) f (y .last .1 .1 .1 .1 .1 .0) (x .split .last .1 .1 .1 .1 .1 .0) (c .before .before .before .before .before .before .before .before .before .before .entry4 .given) (c .before .before .before .before .before .before .before .before .before .before .before .before .before .before .before .before .before .before .before .before .before .before .before .before .before .before .before .before .before .entry2 .given);
-        generation-has = back-has (z .args .n) f (y .last .1 .1 .1 .1 .1 .1 .0) (x .split .last .1 .1 .1 .1 .1 .1 .0) (c .before .before .before .before .before .before .before .before .before .generation4 .given) (c .before .before .before .before .before .before .before .before .before .before .before .before .before .before .before .before .before .before .before .before .before .before .before .before .before .before .before .before .generation2 .given);
-        serial-has = back-has (z .args .n) f (y .last .1 .1 .1 .1 .1 .1 .1 .0) (x .split .last .1 .1 .1 .1 .1 .1 .1 .0) (c .before .before .before .before .before .before .before .before .serial4 .given) (c .before .before .before .before .before .before .before .before .before .before .before .before .before .before .before .before .before .before .before .before .before .before .before .before .before .before .before .serial2 .given);
-      },
-    )
-
 same-length : tie.Need-same-length
 same-length c = search needs
 
 same-length-2 : tie.Need-same-length-2
 same-length-2 c = search needs
 
+same-length-3 : tie.Need-same-length-3
+same-length-3 c = search needs
+
+same-length-4 : tie.Need-same-length-4
+same-length-4 c = search needs
+
+same-length-5 : tie.Need-same-length-5
+same-length-5 c = search needs
+
+same-length-6 : tie.Need-same-length-6
+same-length-6 c = search needs
+
+same-length-7 : tie.Need-same-length-7
+same-length-7 c = search needs
+
+same-length-8 : tie.Need-same-length-8
+same-length-8 c = search needs
+
 returns-2 : tie.Need-returns-2
 returns-2 c =
-    let x = c .before .before .before .before .before .before .before .before .before .before .before .before .before .before .before .before .before .before .before .before .before .before .before .before .before .before .before .before .before .before .before .before .before .before in
-    let z = x .before .before .before .before .before .before .before .before .before .before .before .before .before in
-    let f = x .before .before .before .before .before .before .before .if1 .left in
-    let y = c .before .before .before .before .before .before .before .before .before .before .before .before .before .before .before .before .before .before .before .deschedule in
-    deschedule-done f (x .split .ensures) (y .ensures) (c .before .before .before .before .before .before .before .before .timed .ensures)
-    (back-columns _ _ _ _ _ _ _ _ _ _ _ _ _
-    (back-front (z .args .n) f (y .last .1 .1 .0) (x .split .last .1 .1 .0) (c .before .before .before .before .before .before .before .before .before .before .before .before .before .before .next4 .given) (c .before .before .before .before .before .before .before .before .before .before .before .before .before .before .before .before .before .before .before .before .before .before .before .before .before .before .before .before .before .before .before .before .before .next2 .given))
-    (back-front (z .args .n) f (y .last .1 .1 .1 .0) (x .split .last .1 .1 .1 .0) (c .before .before .before .before .before .before .before .before .before .before .before .before .before .prev4 .given) (c .before .before .before .before .before .before .before .before .before .before .before .before .before .before .before .before .before .before .before .before .before .before .before .before .before .before .before .before .before .before .before .before .prev2 .given))
-    (back-front (z .args .n) f (y .last .1 .1 .1 .1 .0) (x .split .last .1 .1 .1 .1 .0) (c .before .before .before .before .before .before .before .before .before .before .before .before .bucket4 .given) (c .before .before .before .before .before .before .before .before .before .before .before .before .before .before .before .before .before .before .before .before .before .before .before .before .before .before .before .before .before .before .before .bucket2 .given))
-    (back-front (z .args .n) f (y .last .1 .1 .1 .1 .1 .0) (x .split .last .1 .1 .1 .1 .1 .0) (c .before .before .before .before .before .before .before .before .before .before .before .entry4 .given) (c .before .before .before .before .before .before .before .before .before .before .before .before .before .before .before .before .before .before .before .before .before .before .before .before .before .before .before .before .before .before .entry2 .given))
-    (back-front (z .args .n) f (y .last .1 .1 .1 .1 .1 .1 .0) (x .split .last .1 .1 .1 .1 .1 .1 .0) (c .before .before .before .before .before .before .before .before .before .before .generation4 .given) (c .before .before .before .before .before .before .before .before .before .before .before .before .before .before .before .before .before .before .before .before .before .before .before .before .before .before .before .before .before .generation2 .given))
-    (back-front (z .args .n) f (y .last .1 .1 .1 .1 .1 .1 .1 .0) (x .split .last .1 .1 .1 .1 .1 .1 .1 .0) (c .before .before .before .before .before .before .before .before .before .serial4 .given) (c .before .before .before .before .before .before .before .before .before .before .before .before .before .before .before .before .before .before .before .before .before .before .before .before .before .before .before .before .serial2 .given))
-    (c .gather .ensures))
+    let y = c .before .before .before .before .before .before .before .before .before .before .before .before .before .before .before .before .before in
+    let x = y .before .before .before .before .before .before .before .before .before in
+    let l = y .deschedule .last .1 .1 in
+    deschedule-done (x .if1 .left)
+    (over-front _ (x .if1 .left) (columns (l .0) (l .1 .0) (l .1 .1 .0) (l .1 .1 .1 .0) (l .1 .1 .1 .1 .0) (l .1 .1 .1 .1 .1 .0)) _ (x .before .before .before .before .before .before .before .before .before .before .before .before .pre)
+    (record {
+      next-same = c .before .before .before .before .before .before .before .before .before .before .before .before .next .given .0;
+      prev-same = c .before .before .before .before .before .before .before .before .before .before .prev .given .0;
+      bucket-same = c .before .before .before .before .before .before .before .before .bucket .given .0;
+      entry-same = c .before .before .before .before .before .before .entry .given .0;
+      generation-same = c .before .before .before .before .generation .given .0;
+      serial-same = c .before .before .serial .given .0;
+    }))
+    (y .deschedule .ensures) (c .timed .ensures)
 
 pub deschedule-work-spec : {M : Type 1} → statement M
 deschedule-work-spec =
@@ -167,34 +113,26 @@ deschedule-work-spec =
     (tie.spec
     crowded-requires
     returns
-    slice-aggregate-split
-    slice-aggregate-split-2
-    slice-aggregate-split-3
-    slice-aggregate-split-4
-    slice-aggregate-split-5
-    slice-aggregate-split-6
-    split-requires
-    array-borrow-prefix-next
+    slice-relend-prefix-deschedule
     slice-aggregate-deschedule
-    array-borrow-prefix-prev
+    slice-relend-prefix-deschedule-2
     slice-aggregate-deschedule-2
-    array-borrow-prefix-bucket
+    slice-relend-prefix-deschedule-3
     slice-aggregate-deschedule-3
-    array-borrow-prefix-entry
+    slice-relend-prefix-deschedule-4
     slice-aggregate-deschedule-4
-    array-borrow-prefix-generation
+    slice-relend-prefix-deschedule-5
     slice-aggregate-deschedule-5
-    array-borrow-prefix-serial
+    slice-relend-prefix-deschedule-6
     slice-aggregate-deschedule-6
     deschedule-requires
     timed-requires
-    slice-aggregate-gather
-    slice-aggregate-gather-2
-    slice-aggregate-gather-3
-    slice-aggregate-gather-4
-    slice-aggregate-gather-5
-    slice-aggregate-gather-6
-    gather-requires
     same-length
     same-length-2
+    same-length-3
+    same-length-4
+    same-length-5
+    same-length-6
+    same-length-7
+    same-length-8
     returns-2)
