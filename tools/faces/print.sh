@@ -3,7 +3,7 @@
 # not what is printed.
 set -eu
 faces='face_making face_asking face_advancing face_arming'
-exports='exports_making exports_asking exports_advancing exports_arming'
+exports=''
 here=$(cd "$(dirname "$0")" && pwd)
 crates=$(dirname "$(dirname "$here")")/crates
 printed=$(mktemp)
