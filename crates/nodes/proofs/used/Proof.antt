@@ -1,13 +1,14 @@
 -- `used` meets its contract. Assumes nothing.
-use borrow.Author.Tests.{le-leb, lt-leb}
+use mathlib.Core.Path.{sym}
+use Rattle.nodes.proofs.Using.{used-all, used-none}
 use Rattle.nodes.proofs.used.Statement.{statement}
 use Rattle.nodes.proofs.used.Tie as tie
 
 returns : tie.Need-returns
-returns c = rw (le-leb _ _ (c .if1 .taken))
+returns c = sym (used-all _ (c .if1 .taken))
 
 returns-2 : tie.Need-returns-2
-returns-2 c = rw (lt-leb _ _ (c .if1 .left))
+returns-2 c = sym (used-none _ (c .if1 .left))
 
 pub used-spec : {M : Type 1} → statement M
 used-spec = tie.close (tie.spec returns returns-2)
