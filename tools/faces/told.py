@@ -171,6 +171,7 @@ class Told:
         lives, parts = ['tok%s' % k for k in self.kappas], ['last%d' % p.local for p in self.given]
         text = w.apart('call-tok', lives[:-1], 'split') + ' ' + w.apart('tell-tok', lives[-1:], 'split') + '\n      '
         text += w.together('tokens', lives, 'join') + ' frame ! $\n      '
+        w.head(1)
         text += w.apart('call-last', parts, 'fsplit') + ' ' + w.apart('tell-last', ['told', 'answer'], 'fsplit') + '\n      '
         text += w.together('last', parts + ['answer'], 'fjoin')
         return text + ' keep ! (%s) $ done !' % cons([w.at('last'), w.at('own')])
