@@ -100,9 +100,8 @@ class Told:
         self.answer = self.passed[-1]
         named = {p.name: p for p in self.passed}
         self.given = [named[x] for x in given]
-        if [t for _, t in self.call.params] != [t for p, t in self.fn.params[:-1]] or len(given) != len(self.call.params):
+        if self.given != self.passed[:-1] or [t for _, t in self.call.params] != [t for _, t in self.fn.params[:-1]]:
             sys.exit('told.py: %s and %s take other parameters' % (self.fn.name, self.call.name))
-        self.by_value = any(p.type == 'Clock' for p in self.passed)
 
     def read_locals(self):
         """The locals are numbered as the MIR numbers them."""
@@ -196,7 +195,7 @@ class Told:
             if p.mut:
                 w.lend_on(p.local, p.ref, p.pair, p.fits if p.slice else None)
 
-    def called(self, w, short, to, made, ensured, lasts, fact):
+    def answers(self, w, short, made, ensured, lasts, fact):
         """A call's answer: what it returns, what is said of its parameters at exit, and its promise."""
         var, kind, own, tokens = made
         w.say('use1 W (later (some (λ (%s : %s). (%s ⊛ ‵ (%s)) ⊛ raw (%s)))) (id⊢ 𝓤 _) $ await ! tt $ pick ! (λ %s.' % (var, kind, tokens, own, ensured, var))
@@ -220,7 +219,8 @@ class Told:
         w.say('calls-at ! fm (Call 𝓤 H A at-mem run) known-call to-call')
         w.say(w.looks([p.sent for p in self.given]) + ' (λ z.')
         live = nest(self.kappas[:-1])
-        self.called(w, 'call', 'to-call', ('u', self.enum, 'E.the-row .own u (z ∷ [])', 'Tokens'), 'ensured 𝓤 H A calls.ended (calls.clauses 𝓤 H A at-mem run) %s given tt u' % live, ('ws', 'Last', 'lasts calls.ended %s given ws' % live), 'Does ws u')
+        ensured = 'ensured 𝓤 H A calls.ended (calls.clauses 𝓤 H A at-mem run) %s given tt u' % live
+        self.answers(w, 'call', ('u', self.enum, 'E.the-row .own u (z ∷ [])', 'Tokens'), ensured, ('ws', 'Last', 'lasts calls.ended %s given ws' % live), 'Does ws u')
         w.say(w.take('call-own') + 'peeks ! E.the-row (Is E.the-row) (shows 𝓤 H A E.the-row) u (z ∷ []) (λ is.')
         w.land(self.told, '(EL.lawful E.the-type E′.the-laws 𝓤 H A W tt .typed u _ is .0)')
 
@@ -231,7 +231,9 @@ class Told:
         w.head(3, 'pre')
         w.say('calls-at ! fm (Tell 𝓤 H A at-mem run) known-tell (to-tell u z) %s (λ y.' % w.looks([self.told, self.answer.sent]))
         live = '(%s, tt)' % self.kappas[-1]
-        self.called(w, 'tell', '(to-tell u z)', ('k', 'ℕ', 'u64 .own k (y ∷ [])', '(%s)' % self.tokens(slice(-1, None))), 'ensured 𝓤 H A tells.ended (tells.clauses 𝓤 H A at-mem run) %s (telling u) tt k' % live, ('vs', 'Last-told u', 'lasts tells.ended %s (telling u) vs' % live), 'Written u vs k')
+        ensured = 'ensured 𝓤 H A tells.ended (tells.clauses 𝓤 H A at-mem run) %s (telling u) tt k' % live
+        made = ('k', 'ℕ', 'u64 .own k (y ∷ [])', '(%s)' % self.tokens(slice(-1, None)))
+        self.answers(w, 'tell', made, ensured, ('vs', 'Last-told u', 'lasts tells.ended %s (telling u) vs' % live), 'Written u vs k')
         w.say(w.take('tell-own') + 'peeks ! u64 (Is u64) (shows 𝓤 H A u64) k (y ∷ []) (λ isy.')
         w.land(0, '(uint-lawful 𝓤 H A W w64 .typed k _ isy .0)')
 
