@@ -138,13 +138,13 @@ mod kind {
     pub const NEVER: u64 = 8;
 }
 
-// A slice of the Rattle side is two parameters here, its address and its length. A parameter of a mutable slice is `*mut`.
+// A slice of the Rattle side is two parameters here, its address and its length. A parameter of a mutable slice is `*mut`. The answer's five numbers are an address alone.
 #[link(name = "exports_making", kind = "static")]
 extern "C" {
     fn wheel_create(first: u64) -> Created;
     fn wheel_enable(
         nodes: *mut Node, n: usize, clock: *mut Clock, heads: *mut usize, h: usize, tails: *mut usize, t: usize,
-        dated: *mut bool, d: usize, deadline: *mut u64, l: usize, stamp: *mut u32, s: usize, answer: *mut u64, a: usize,
+        dated: *mut bool, d: usize, deadline: *mut u64, l: usize, stamp: *mut u32, s: usize, answer: &mut Told,
     ) -> u64;
 }
 
@@ -153,17 +153,15 @@ extern "C" {
     fn wheel_set_entry(
         nodes: *const Node, n: usize, clock: Clock, heads: *const usize, h: usize, tails: *const usize, t: usize,
         dated: *mut bool, d: usize, deadline: *mut u64, l: usize, stamp: *mut u32, s: usize, entry: usize, has: bool,
-        due: u64, generation: u32, answer: *mut u64, a: usize,
+        due: u64, generation: u32, answer: &mut Told,
     ) -> u64;
     fn wheel_armed_count(
         nodes: *const Node, n: usize, clock: Clock, heads: *const usize, h: usize, tails: *const usize, t: usize,
-        dated: *const bool, d: usize, deadline: *const u64, l: usize, stamp: *const u32, s: usize, answer: *mut u64,
-        a: usize,
+        dated: *const bool, d: usize, deadline: *const u64, l: usize, stamp: *const u32, s: usize, answer: &mut Told,
     ) -> u64;
     fn wheel_next_due(
         nodes: *const Node, n: usize, clock: Clock, heads: *const usize, h: usize, tails: *const usize, t: usize,
-        dated: *const bool, d: usize, deadline: *const u64, l: usize, stamp: *const u32, s: usize, answer: *mut u64,
-        a: usize,
+        dated: *const bool, d: usize, deadline: *const u64, l: usize, stamp: *const u32, s: usize, answer: &mut Told,
     ) -> u64;
 }
 
@@ -172,17 +170,17 @@ extern "C" {
     fn wheel_schedule(
         nodes: *mut Node, n: usize, clock: *mut Clock, heads: *mut usize, h: usize, tails: *mut usize, t: usize,
         dated: *const bool, d: usize, deadline: *const u64, l: usize, stamp: *const u32, s: usize, entry: usize,
-        generation: u32, answer: *mut u64, a: usize,
+        generation: u32, answer: &mut Told,
     ) -> u64;
     fn wheel_reschedule(
         nodes: *mut Node, n: usize, clock: *mut Clock, heads: *mut usize, h: usize, tails: *mut usize, t: usize,
         dated: *const bool, d: usize, deadline: *const u64, l: usize, stamp: *const u32, s: usize, slot: usize,
-        serial: u64, generation: u32, answer: *mut u64, a: usize,
+        serial: u64, generation: u32, answer: &mut Told,
     ) -> u64;
     fn wheel_deschedule(
         nodes: *mut Node, n: usize, clock: *mut Clock, heads: *mut usize, h: usize, tails: *mut usize, t: usize,
         dated: *const bool, d: usize, deadline: *const u64, l: usize, stamp: *const u32, s: usize, slot: usize,
-        serial: u64, generation: u32, answer: *mut u64, a: usize,
+        serial: u64, generation: u32, answer: &mut Told,
     ) -> u64;
 }
 
@@ -191,17 +189,15 @@ extern "C" {
     fn wheel_start(
         nodes: *const Node, n: usize, clock: *mut Clock, heads: *const usize, h: usize, tails: *const usize, t: usize,
         dated: *const bool, d: usize, deadline: *const u64, l: usize, stamp: *const u32, s: usize, reading: u64,
-        answer: *mut u64, a: usize,
+        answer: &mut Told,
     ) -> u64;
     fn wheel_pull(
         nodes: *mut Node, n: usize, clock: *mut Clock, heads: *mut usize, h: usize, tails: *mut usize, t: usize,
-        dated: *const bool, d: usize, deadline: *const u64, l: usize, stamp: *const u32, s: usize, answer: *mut u64,
-        a: usize,
+        dated: *const bool, d: usize, deadline: *const u64, l: usize, stamp: *const u32, s: usize, answer: &mut Told,
     ) -> u64;
     fn wheel_abandon(
         nodes: *const Node, n: usize, clock: *mut Clock, heads: *const usize, h: usize, tails: *const usize, t: usize,
-        dated: *const bool, d: usize, deadline: *const u64, l: usize, stamp: *const u32, s: usize, answer: *mut u64,
-        a: usize,
+        dated: *const bool, d: usize, deadline: *const u64, l: usize, stamp: *const u32, s: usize, answer: &mut Told,
     ) -> u64;
 }
 
@@ -210,14 +206,14 @@ extern "C" {
 macro_rules! call {
     ($wheel:ident, $name:ident, $nodes:ident, $clock:expr, $entries:ident $(, $more:expr)*) => {{
         let mut told: Told = [0; 5];
-        // SAFETY: each pair is the address and the length of a slice that this wheel owns or of `told`; they do not overlap, mutable ones come from
-        // `&mut self`, and the proved function reads and writes them only, for any contents and any lengths.
+        // SAFETY: each pair is the address and the length of a slice that this wheel owns; they and `told` do not overlap, mutable ones come from
+        // `&mut self`, and the proved function reads and writes them and `told` only, for any contents and any lengths.
         let number = unsafe {
             $name(
                 $wheel.nodes.$nodes(), $wheel.nodes.len(), $clock,
                 $wheel.heads.$nodes(), BUCKETS, $wheel.tails.$nodes(), BUCKETS,
                 $wheel.dated.$entries(), $wheel.dated.len(), $wheel.deadline.$entries(), $wheel.deadline.len(),
-                $wheel.stamp.$entries(), $wheel.stamp.len() $(, $more)*, told.as_mut_ptr(), told.len(),
+                $wheel.stamp.$entries(), $wheel.stamp.len() $(, $more)*, &mut told,
             )
         };
         if number == 0 { Ok(told) } else { Err(Refusal(number as u8)) }

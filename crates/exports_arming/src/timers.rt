@@ -1,12 +1,13 @@
 // Schedule, reschedule and deschedule, answered in numbers. No `requires`. A refused call leaves every record as found.
 ghost use Rattle.nodes.specs.Shown.{shown};
 ghost use Rattle.exports_work.specs.Exports.{ExportSchedule, ExportReschedule, ExportDeschedule};
-use exports_timers::timers::deschedule_told;
-use exports_timers::timers::reschedule_told;
-use exports_timers::timers::schedule_told;
+use exports_work::words::tell_noted;
+use exports_work::words::tell_rescheduled;
+use exports_work::words::tell_scheduled;
+use face_arming::deschedule;
+use face_arming::reschedule;
+use face_arming::schedule;
 use nodes::Node;
-use nodes::load;
-use nodes::store;
 use records::Clock;
 
 // Arms a timer for the entry e, whose generation is h. Refuses (1, 4, 5, 7 to 11).
@@ -21,27 +22,12 @@ pub extern "C" fn wheel_schedule(
     stamp: &[u32],
     e: usize,
     h: u32,
-    answer: &mut [u64],
+    answer: &mut [u64; 5],
 ) -> u64
-    ensures { λ r. ⌜ ExportSchedule (shown (now (heads .entry)) (now (tails .entry)) (now (nodes .entry)) (now (dated .entry)) (now (deadline .entry)) (now (stamp .entry)) (now (clock .entry))) (shown (now (heads .exit)) (now (tails .exit)) (now (nodes .exit)) (now (dated .entry)) (now (deadline .entry)) (now (stamp .entry)) (now (clock .exit))) (now (answer .entry)) (now (answer .exit)) e h r ⌝ }
+    ensures { λ r. ⌜ ExportSchedule (shown (now (heads .entry)) (now (tails .entry)) (now (nodes .entry)) (now (dated .entry)) (now (deadline .entry)) (now (stamp .entry)) (now (clock .entry))) (shown (now (heads .exit)) (now (tails .exit)) (now (nodes .exit)) (now (dated .entry)) (now (deadline .entry)) (now (stamp .entry)) (now (clock .exit))) (now (answer .exit)) e h r ⌝ }
 {
-    let table = load(nodes);
-    let made = schedule_told(
-        table,
-        nodes.len(),
-        *clock,
-        heads,
-        tails,
-        dated,
-        deadline,
-        stamp,
-        e,
-        h,
-        answer,
-    );
-    *clock = made.clock;
-    store(nodes, made.table);
-    made.answer
+    let told = schedule(nodes, clock, heads, tails, dated, deadline, stamp, e, h);
+    tell_scheduled(told, answer)
 }
 
 // Moves the timer with the handle (slot, number), armed with the generation h, or removes it. Refuses (1, 4, 5, 12, 13).
@@ -57,15 +43,13 @@ pub extern "C" fn wheel_reschedule(
     slot: usize,
     number: u64,
     h: u32,
-    answer: &mut [u64],
+    answer: &mut [u64; 5],
 ) -> u64
-    ensures { λ r. ⌜ ExportReschedule (shown (now (heads .entry)) (now (tails .entry)) (now (nodes .entry)) (now (dated .entry)) (now (deadline .entry)) (now (stamp .entry)) (now (clock .entry))) (shown (now (heads .exit)) (now (tails .exit)) (now (nodes .exit)) (now (dated .entry)) (now (deadline .entry)) (now (stamp .entry)) (now (clock .exit))) (now (answer .entry)) (now (answer .exit)) slot number h r ⌝ }
+    ensures { λ r. ⌜ ExportReschedule (shown (now (heads .entry)) (now (tails .entry)) (now (nodes .entry)) (now (dated .entry)) (now (deadline .entry)) (now (stamp .entry)) (now (clock .entry))) (shown (now (heads .exit)) (now (tails .exit)) (now (nodes .exit)) (now (dated .entry)) (now (deadline .entry)) (now (stamp .entry)) (now (clock .exit))) (now (answer .exit)) slot number h r ⌝ }
 {
-    let table = load(nodes);
-    let made = reschedule_told(
-        table,
-        nodes.len(),
-        *clock,
+    let told = reschedule(
+        nodes,
+        clock,
         heads,
         tails,
         dated,
@@ -74,11 +58,8 @@ pub extern "C" fn wheel_reschedule(
         slot,
         number,
         h,
-        answer,
     );
-    *clock = made.clock;
-    store(nodes, made.table);
-    made.answer
+    tell_rescheduled(told, answer)
 }
 
 // Removes the timer with the handle (slot, number), armed with the generation h. Refuses (1, 4, 5, 12, 13).
@@ -94,15 +75,13 @@ pub extern "C" fn wheel_deschedule(
     slot: usize,
     number: u64,
     h: u32,
-    answer: &mut [u64],
+    answer: &mut [u64; 5],
 ) -> u64
-    ensures { λ r. ⌜ ExportDeschedule (shown (now (heads .entry)) (now (tails .entry)) (now (nodes .entry)) (now (dated .entry)) (now (deadline .entry)) (now (stamp .entry)) (now (clock .entry))) (shown (now (heads .exit)) (now (tails .exit)) (now (nodes .exit)) (now (dated .entry)) (now (deadline .entry)) (now (stamp .entry)) (now (clock .exit))) (now (answer .entry)) (now (answer .exit)) slot number h r ⌝ }
+    ensures { λ r. ⌜ ExportDeschedule (shown (now (heads .entry)) (now (tails .entry)) (now (nodes .entry)) (now (dated .entry)) (now (deadline .entry)) (now (stamp .entry)) (now (clock .entry))) (shown (now (heads .exit)) (now (tails .exit)) (now (nodes .exit)) (now (dated .entry)) (now (deadline .entry)) (now (stamp .entry)) (now (clock .exit))) (now (answer .exit)) slot number h r ⌝ }
 {
-    let table = load(nodes);
-    let made = deschedule_told(
-        table,
-        nodes.len(),
-        *clock,
+    let told = deschedule(
+        nodes,
+        clock,
         heads,
         tails,
         dated,
@@ -111,9 +90,6 @@ pub extern "C" fn wheel_deschedule(
         slot,
         number,
         h,
-        answer,
     );
-    *clock = made.clock;
-    store(nodes, made.table);
-    made.answer
+    tell_noted(told, answer)
 }

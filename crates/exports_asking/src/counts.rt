@@ -1,10 +1,11 @@
 // Armed count and next due, answered in numbers. They change no record. No `requires`.
 ghost use Rattle.nodes.specs.Shown.{shown};
 ghost use Rattle.exports_work.specs.Exports.{ExportArmedCount, ExportNextDue};
-use exports_work::counts::armed_count_told;
-use exports_work::counts::next_due_told;
+use exports_work::words::tell_counted;
+use exports_work::words::tell_due;
+use face_asking::armed_count;
+use face_asking::next_due;
 use nodes::Node;
-use nodes::load;
 use records::Clock;
 
 // How many slots are armed. It answers while an advance is open too. Refuses (1, 4).
@@ -17,22 +18,12 @@ pub extern "C" fn wheel_armed_count(
     dated: &[bool],
     deadline: &[u64],
     stamp: &[u32],
-    answer: &mut [u64],
+    answer: &mut [u64; 5],
 ) -> u64
-    ensures { λ r. ⌜ ExportArmedCount (shown (now (heads .entry)) (now (tails .entry)) (now (nodes .entry)) (now (dated .entry)) (now (deadline .entry)) (now (stamp .entry)) clock) (now (answer .entry)) (now (answer .exit)) r ⌝ }
+    ensures { λ r. ⌜ ExportArmedCount (shown (now (heads .entry)) (now (tails .entry)) (now (nodes .entry)) (now (dated .entry)) (now (deadline .entry)) (now (stamp .entry)) clock) (now (answer .exit)) r ⌝ }
 {
-    let table = load(nodes);
-    armed_count_told(
-        table,
-        nodes.len(),
-        clock,
-        heads,
-        tails,
-        dated,
-        deadline,
-        stamp,
-        answer,
-    )
+    let told = armed_count(nodes, clock, heads, tails, dated, deadline, stamp);
+    tell_counted(told, answer)
 }
 
 // The least deadline of the armed timers, or none. Refuses (1, 4, 5).
@@ -45,20 +36,10 @@ pub extern "C" fn wheel_next_due(
     dated: &[bool],
     deadline: &[u64],
     stamp: &[u32],
-    answer: &mut [u64],
+    answer: &mut [u64; 5],
 ) -> u64
-    ensures { λ r. ⌜ ExportNextDue (shown (now (heads .entry)) (now (tails .entry)) (now (nodes .entry)) (now (dated .entry)) (now (deadline .entry)) (now (stamp .entry)) clock) (now (answer .entry)) (now (answer .exit)) r ⌝ }
+    ensures { λ r. ⌜ ExportNextDue (shown (now (heads .entry)) (now (tails .entry)) (now (nodes .entry)) (now (dated .entry)) (now (deadline .entry)) (now (stamp .entry)) clock) (now (answer .exit)) r ⌝ }
 {
-    let table = load(nodes);
-    next_due_told(
-        table,
-        nodes.len(),
-        clock,
-        heads,
-        tails,
-        dated,
-        deadline,
-        stamp,
-        answer,
-    )
+    let told = next_due(nodes, clock, heads, tails, dated, deadline, stamp);
+    tell_due(told, answer)
 }

@@ -1,9 +1,9 @@
 // Set entry, answered in numbers. No `requires`. A refused call leaves every record as found.
 ghost use Rattle.nodes.specs.Shown.{shown};
 ghost use Rattle.exports_work.specs.Exports.{ExportSetEntry};
-use exports_work::settings::set_entry_told;
+use exports_work::words::tell_noted;
+use face_asking::set_entry;
 use nodes::Node;
-use nodes::load;
 use records::Clock;
 
 // Sets the entry e: whether it has a deadline, which, and its generation. Refuses (1, 4, 5, 7).
@@ -20,14 +20,12 @@ pub extern "C" fn wheel_set_entry(
     has: bool,
     due: u64,
     h: u32,
-    answer: &mut [u64],
+    answer: &mut [u64; 5],
 ) -> u64
-    ensures { λ r. ⌜ ExportSetEntry (shown (now (heads .entry)) (now (tails .entry)) (now (nodes .entry)) (now (dated .entry)) (now (deadline .entry)) (now (stamp .entry)) clock) (shown (now (heads .entry)) (now (tails .entry)) (now (nodes .entry)) (now (dated .exit)) (now (deadline .exit)) (now (stamp .exit)) clock) (now (answer .entry)) (now (answer .exit)) e has due h r ⌝ }
+    ensures { λ r. ⌜ ExportSetEntry (shown (now (heads .entry)) (now (tails .entry)) (now (nodes .entry)) (now (dated .entry)) (now (deadline .entry)) (now (stamp .entry)) clock) (shown (now (heads .entry)) (now (tails .entry)) (now (nodes .entry)) (now (dated .exit)) (now (deadline .exit)) (now (stamp .exit)) clock) (now (answer .exit)) e has due h r ⌝ }
 {
-    let table = load(nodes);
-    set_entry_told(
-        table,
-        nodes.len(),
+    let told = set_entry(
+        nodes,
         clock,
         heads,
         tails,
@@ -38,6 +36,6 @@ pub extern "C" fn wheel_set_entry(
         has,
         due,
         h,
-        answer,
-    )
+    );
+    tell_noted(told, answer)
 }

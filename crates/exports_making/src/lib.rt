@@ -1,4 +1,3 @@
 // Create, which answers by value, and enable over lent records, answered in numbers: what can be exported to C. The result of enable is the refusal's number, or 0;
-// the answer is written to five lent numbers (crate exports_work, specs/Words.antt). Where fewer than five are lent the result is 255, which is no refusal's number,
-// and nothing is done. No `requires`.
+// the answer is written to five lent numbers (crate exports_work, specs/Words.antt). It calls the face's function and writes its answer. No `requires`.
 pub mod making; // create, enable

@@ -2,10 +2,9 @@
 ghost use Rattle.nodes.specs.Shown.{shown};
 ghost use Rattle.exports_work.specs.Exports.{ExportEnable};
 ghost use Rattle.wheel.specs.Calls.{Create};
-use exports_turns::making::enable_told;
+use exports_work::words::tell_noted;
+use face_making::enable;
 use nodes::Node;
-use nodes::load;
-use nodes::store;
 use records::Clock;
 use wheel::Created;
 
@@ -27,23 +26,10 @@ pub extern "C" fn wheel_enable(
     dated: &mut [bool],
     deadline: &mut [u64],
     stamp: &mut [u32],
-    answer: &mut [u64],
+    answer: &mut [u64; 5],
 ) -> u64
-    ensures { λ r. ⌜ ExportEnable (shown (now (heads .entry)) (now (tails .entry)) (now (nodes .entry)) (now (dated .entry)) (now (deadline .entry)) (now (stamp .entry)) (now (clock .entry))) (shown (now (heads .exit)) (now (tails .exit)) (now (nodes .exit)) (now (dated .exit)) (now (deadline .exit)) (now (stamp .exit)) (now (clock .exit))) (now (answer .entry)) (now (answer .exit)) r ⌝ }
+    ensures { λ r. ⌜ ExportEnable (shown (now (heads .entry)) (now (tails .entry)) (now (nodes .entry)) (now (dated .entry)) (now (deadline .entry)) (now (stamp .entry)) (now (clock .entry))) (shown (now (heads .exit)) (now (tails .exit)) (now (nodes .exit)) (now (dated .exit)) (now (deadline .exit)) (now (stamp .exit)) (now (clock .exit))) (now (answer .exit)) r ⌝ }
 {
-    let table = load(nodes);
-    let made = enable_told(
-        table,
-        nodes.len(),
-        *clock,
-        heads,
-        tails,
-        dated,
-        deadline,
-        stamp,
-        answer,
-    );
-    *clock = made.clock;
-    store(nodes, made.table);
-    made.answer
+    let told = enable(nodes, clock, heads, tails, dated, deadline, stamp);
+    tell_noted(told, answer)
 }

@@ -1,4 +1,3 @@
 -- What the contracts of the calls that answer in numbers cite. Assumes nothing.
 pub mod Words
 pub mod Exports
-pub mod Works

@@ -1,7 +1,8 @@
-// Answers as five numbers, and their writing, unchecked: `write` asks for five lent numbers. The others have no `requires`.
-ghost use Prim.Native.Nat.{_≤_};
-ghost use lib.ListN.{length};
-ghost use Rattle.exports_work.specs.Words.{SaysNoted, SaysScheduled, SaysRescheduled, SaysPulled, SaysCounted, SaysDue, Writes};
+// Each answer of the wheel's calls over lent nodes, written to five lent numbers: the refusal's number, or 0; which answer it is; and its values. The result is the
+// first of them. No `requires`.
+ghost use Rattle.wheel.specs.Answers.{notedSays, countedSays, dueSays};
+ghost use Rattle.face_work.specs.Answers.{scheduledSays, rescheduledSays, pulledSays};
+ghost use Rattle.exports_work.specs.Words.{wordsOf, Writes};
 use face_work::Pulled;
 use face_work::Rescheduled;
 use face_work::Scheduled;
@@ -9,186 +10,75 @@ use wheel::Counted;
 use wheel::Due;
 use wheel::Noted;
 
-// The refusal's number, or 0; which answer it is; and its values.
-pub struct Words {
-    pub refusal: u64,
-    pub kind: u64,
-    pub first: u64,
-    pub second: u64,
-    pub third: u64,
+fn write(words: [u64; 5], answer: &mut [u64; 5]) -> u64
+    ensures { λ k. ⌜ Writes words (now (answer .exit)) k ⌝ }
+{
+    *answer = words;
+    words[0]
 }
 
-pub fn of_noted(r: Noted) -> Words
-    ensures { λ w. ⌜ SaysNoted r w ⌝ }
+pub fn tell_noted(r: Noted, answer: &mut [u64; 5]) -> u64
+    ensures { λ k. ⌜ Writes (wordsOf (notedSays r)) (now (answer .exit)) k ⌝ }
 {
     match r {
-        Noted::Done => Words {
-            refusal: 0,
-            kind: 0,
-            first: 0,
-            second: 0,
-            third: 0,
-        },
-        Noted::Refused(n) => Words {
-            refusal: n,
-            kind: 0,
-            first: 0,
-            second: 0,
-            third: 0,
-        },
+        Noted::Done => write([0, 0, 0, 0, 0], answer),
+        Noted::Refused(n) => write([n, 0, 0, 0, 0], answer),
     }
 }
 
-pub fn of_scheduled(r: Scheduled) -> Words
-    ensures { λ w. ⌜ SaysScheduled r w ⌝ }
+pub fn tell_scheduled(r: Scheduled, answer: &mut [u64; 5]) -> u64
+    ensures { λ k. ⌜ Writes (wordsOf (scheduledSays r)) (now (answer .exit)) k ⌝ }
 {
     match r {
-        Scheduled::Armed { slot, serial } => Words {
-            refusal: 0,
-            kind: 1,
-            first: slot as u64,
-            second: serial,
-            third: 0,
-        },
-        Scheduled::Refused(n) => Words {
-            refusal: n,
-            kind: 0,
-            first: 0,
-            second: 0,
-            third: 0,
-        },
+        Scheduled::Armed { slot, serial } => write([0, 1, slot as u64, serial, 0], answer),
+        Scheduled::Refused(n) => write([n, 0, 0, 0, 0], answer),
     }
 }
 
-pub fn of_rescheduled(r: Rescheduled) -> Words
-    ensures { λ w. ⌜ SaysRescheduled r w ⌝ }
+pub fn tell_rescheduled(r: Rescheduled, answer: &mut [u64; 5]) -> u64
+    ensures { λ k. ⌜ Writes (wordsOf (rescheduledSays r)) (now (answer .exit)) k ⌝ }
 {
     match r {
-        Rescheduled::Moved => Words {
-            refusal: 0,
-            kind: 0,
-            first: 0,
-            second: 0,
-            third: 0,
-        },
-        Rescheduled::Removed => Words {
-            refusal: 0,
-            kind: 2,
-            first: 0,
-            second: 0,
-            third: 0,
-        },
-        Rescheduled::Refused(n) => Words {
-            refusal: n,
-            kind: 0,
-            first: 0,
-            second: 0,
-            third: 0,
-        },
+        Rescheduled::Moved => write([0, 0, 0, 0, 0], answer),
+        Rescheduled::Removed => write([0, 2, 0, 0, 0], answer),
+        Rescheduled::Refused(n) => write([n, 0, 0, 0, 0], answer),
     }
 }
 
-pub fn of_pulled(r: Pulled) -> Words
-    ensures { λ w. ⌜ SaysPulled r w ⌝ }
+pub fn tell_pulled(r: Pulled, answer: &mut [u64; 5]) -> u64
+    ensures { λ k. ⌜ Writes (wordsOf (pulledSays r)) (now (answer .exit)) k ⌝ }
 {
     match r {
         Pulled::Expired {
             entry,
             serial,
             deadline,
-        } => Words {
-            refusal: 0,
-            kind: 4,
-            first: entry as u64,
-            second: serial,
-            third: deadline,
-        },
+        } => write([0, 4, entry as u64, serial, deadline], answer),
         Pulled::Moved {
             entry,
             serial,
             place,
-        } => Words {
-            refusal: 0,
-            kind: 5,
-            first: entry as u64,
-            second: serial,
-            third: place,
-        },
-        Pulled::End => Words {
-            refusal: 0,
-            kind: 3,
-            first: 0,
-            second: 0,
-            third: 0,
-        },
-        Pulled::Refused(n) => Words {
-            refusal: n,
-            kind: 0,
-            first: 0,
-            second: 0,
-            third: 0,
-        },
+        } => write([0, 5, entry as u64, serial, place], answer),
+        Pulled::End => write([0, 3, 0, 0, 0], answer),
+        Pulled::Refused(n) => write([n, 0, 0, 0, 0], answer),
     }
 }
 
-pub fn of_counted(r: Counted) -> Words
-    ensures { λ w. ⌜ SaysCounted r w ⌝ }
+pub fn tell_counted(r: Counted, answer: &mut [u64; 5]) -> u64
+    ensures { λ k. ⌜ Writes (wordsOf (countedSays r)) (now (answer .exit)) k ⌝ }
 {
     match r {
-        Counted::Armed(k) => Words {
-            refusal: 0,
-            kind: 6,
-            first: k as u64,
-            second: 0,
-            third: 0,
-        },
-        Counted::Refused(n) => Words {
-            refusal: n,
-            kind: 0,
-            first: 0,
-            second: 0,
-            third: 0,
-        },
+        Counted::Armed(count) => write([0, 6, count as u64, 0, 0], answer),
+        Counted::Refused(n) => write([n, 0, 0, 0, 0], answer),
     }
 }
 
-pub fn of_due(r: Due) -> Words
-    ensures { λ w. ⌜ SaysDue r w ⌝ }
+pub fn tell_due(r: Due, answer: &mut [u64; 5]) -> u64
+    ensures { λ k. ⌜ Writes (wordsOf (dueSays r)) (now (answer .exit)) k ⌝ }
 {
     match r {
-        Due::At(d) => Words {
-            refusal: 0,
-            kind: 7,
-            first: d,
-            second: 0,
-            third: 0,
-        },
-        Due::Never => Words {
-            refusal: 0,
-            kind: 8,
-            first: 0,
-            second: 0,
-            third: 0,
-        },
-        Due::Refused(n) => Words {
-            refusal: n,
-            kind: 0,
-            first: 0,
-            second: 0,
-            third: 0,
-        },
+        Due::At(deadline) => write([0, 7, deadline, 0, 0], answer),
+        Due::Never => write([0, 8, 0, 0, 0], answer),
+        Due::Refused(n) => write([n, 0, 0, 0, 0], answer),
     }
-}
-
-// The five numbers at the front of the lent ones; the result is the first of them.
-pub fn write(w: Words, answer: &mut [u64]) -> u64
-    requires { ⌜ 5 ≤ length (now answer) ⌝ }
-    ensures { λ r. ⌜ Writes w (now (answer .entry)) (now (answer .exit)) r ⌝ }
-{
-    answer[0] = w.refusal;
-    answer[1] = w.kind;
-    answer[2] = w.first;
-    answer[3] = w.second;
-    answer[4] = w.third;
-    w.refusal
 }
