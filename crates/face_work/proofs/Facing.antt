@@ -34,86 +34,181 @@ use Rattle.face_work.proofs.Loading.{held, reads, writes, stays, stays-
 use Rattle.face_work.proofs.Crowding.{crowd-no, crowd-enable-no}
 
 -- the same promise of an answer that says the same
-pub said : (c : Call) (rows : ℕ → Type 0) (R R′ after : Records) (then a b : Answer) → b ≡ a → Meets c rows R R′ a after then → Meets c rows R R′ b after then
+said : (c : Call) (rows : ℕ → Type 0) (R R′ after : Records) (then a b : Answer) → b ≡ a → Meets c rows R R′ a after then → Meets c rows R R′ b after then
 said c rows R R′ after then a b e m = subst (λ (x : Answer). Meets c rows R R′ x after then) (sym e) m
 
 module _ {k : Columns} {n : ℕ} {c : Clock} {hs ts : List ℕ} {d : List Bool} {l m : List ℕ} where
   -- ---- schedule
-  pub schedule-crowded : {k′ : Columns} {e h i : ℕ} → 4096 < n → i ≡ crowdedNumber c → ScheduleFor k k′ n c hs ts hs ts d l m e h (record { clock = c; answer = ScheduledRefused i })
-  schedule-crowded {k′} {e} {h} {i} many z =
-      record { meets = stays-stored (λ R R′. FaceSchedule R R′ e h (ScheduledRefused i)) k n hs ts d l m c many (λ ns f. record { meets = crowd-no hs ts ns d l m c f _ _ _ _ i z }) k′ }
+  pub schedule-crowded : {e h i : ℕ} {k′ : Columns} → 4096 < n → i ≡ crowdedNumber c
+      → ScheduleFor k k′ n c hs ts hs ts d l m e h (record { clock = c; answer = ScheduledRefused i })
+  schedule-crowded {e} {h} {i} many z =
+      record {
+        meets =
+            stays-stored (λ R R′. FaceSchedule R R′ e h (ScheduledRefused i)) k n hs ts d l m c many
+            (λ ns f. record { meets = crowd-no hs ts ns d l m c f _ _ _ _ i z });
+      }
 
-  pub schedule-done : {k′ j : Columns} {e h : ℕ} {hs′ ts′ : List ℕ} {r : Scheduled} {v : ScheduledTurn} → n ≤ 4096 → front n k′ ≡ j → Schedule (held hs ts (front n k) d l m c) (held hs′ ts′ j d l m (scheduledClock c r)) e h r → TurnsScheduled c r v → ScheduleFor k k′ n c hs ts hs′ ts′ d l m e h v
-  schedule-done {k′} {j} {e} {h} {hs′} {ts′} {r} {v} fits b s w = record { meets = writes (λ R R′. FaceSchedule R R′ e h (v .answer)) k n hs ts d l m c fits (w .clock-is) b (record { meets = said _ _ _ _ _ _ _ _ (w .says) (s .meets) }) }
+  pub schedule-done : {e h : ℕ} {v : ScheduledTurn} {r : Scheduled} {k′ j : Columns} {hs′ ts′ : List ℕ} → n ≤ 4096 → front n k′ ≡ j
+      → Schedule (held hs ts (front n k) d l m c) (held hs′ ts′ j d l m (scheduledClock c r)) e h r → TurnsScheduled c r v
+      → ScheduleFor k k′ n c hs ts hs′ ts′ d l m e h v
+  schedule-done {e} {h} {v} fits b s w =
+      record {
+        meets =
+            writes (λ R R′. FaceSchedule R R′ e h (v .answer)) k n hs ts d l m c fits (w .clock-is) b
+            (record { meets = said _ _ _ _ _ _ _ _ (w .says) (s .meets) });
+      }
 
   -- ---- reschedule
-  pub reschedule-crowded : {k′ : Columns} {x g h i : ℕ} → 4096 < n → i ≡ crowdedNumber c → RescheduleFor k k′ n c hs ts hs ts d l m x g h (record { clock = c; answer = RescheduledRefused i })
-  reschedule-crowded {k′} {x} {g} {h} {i} many z =
-      record { meets = stays-stored (λ R R′. FaceReschedule R R′ x g h (RescheduledRefused i)) k n hs ts d l m c many (λ ns f. record { meets = crowd-no hs ts ns d l m c f _ _ _ _ i z }) k′ }
+  pub reschedule-crowded : {x g h i : ℕ} {k′ : Columns} → 4096 < n → i ≡ crowdedNumber c
+      → RescheduleFor k k′ n c hs ts hs ts d l m x g h (record { clock = c; answer = RescheduledRefused i })
+  reschedule-crowded {x} {g} {h} {i} many z =
+      record {
+        meets =
+            stays-stored (λ R R′. FaceReschedule R R′ x g h (RescheduledRefused i)) k n hs ts d l m c many
+            (λ ns f. record { meets = crowd-no hs ts ns d l m c f _ _ _ _ i z });
+      }
 
-  pub reschedule-done : {k′ j : Columns} {x g h : ℕ} {hs′ ts′ : List ℕ} {r : Rescheduled} {v : RescheduledTurn} → n ≤ 4096 → front n k′ ≡ j → Reschedule (held hs ts (front n k) d l m c) (held hs′ ts′ j d l m (rescheduledClock c r)) x g h r → TurnsRescheduled c r v → RescheduleFor k k′ n c hs ts hs′ ts′ d l m x g h v
-  reschedule-done {k′} {j} {x} {g} {h} {hs′} {ts′} {r} {v} fits b s w = record { meets = writes (λ R R′. FaceReschedule R R′ x g h (v .answer)) k n hs ts d l m c fits (w .clock-is) b (record { meets = said _ _ _ _ _ _ _ _ (w .says) (s .meets) }) }
+  pub reschedule-done : {x g h : ℕ} {v : RescheduledTurn} {r : Rescheduled} {k′ j : Columns} {hs′ ts′ : List ℕ} → n ≤ 4096 → front n k′ ≡ j
+      → Reschedule (held hs ts (front n k) d l m c) (held hs′ ts′ j d l m (rescheduledClock c r)) x g h r → TurnsRescheduled c r v
+      → RescheduleFor k k′ n c hs ts hs′ ts′ d l m x g h v
+  reschedule-done {x} {g} {h} {v} fits b s w =
+      record {
+        meets =
+            writes (λ R R′. FaceReschedule R R′ x g h (v .answer)) k n hs ts d l m c fits (w .clock-is) b
+            (record { meets = said _ _ _ _ _ _ _ _ (w .says) (s .meets) });
+      }
 
   -- ---- deschedule
-  pub deschedule-crowded : {k′ : Columns} {x g h i : ℕ} → 4096 < n → i ≡ crowdedNumber c → DescheduleFor k k′ n c hs ts hs ts d l m x g h (record { clock = c; answer = NotedRefused i })
-  deschedule-crowded {k′} {x} {g} {h} {i} many z =
-      record { meets = stays-stored (λ R R′. FaceDeschedule R R′ x g h (NotedRefused i)) k n hs ts d l m c many (λ ns f. record { meets = crowd-no hs ts ns d l m c f _ _ _ _ i z }) k′ }
+  pub deschedule-crowded : {x g h i : ℕ} {k′ : Columns} → 4096 < n → i ≡ crowdedNumber c
+      → DescheduleFor k k′ n c hs ts hs ts d l m x g h (record { clock = c; answer = NotedRefused i })
+  deschedule-crowded {x} {g} {h} {i} many z =
+      record {
+        meets =
+            stays-stored (λ R R′. FaceDeschedule R R′ x g h (NotedRefused i)) k n hs ts d l m c many
+            (λ ns f. record { meets = crowd-no hs ts ns d l m c f _ _ _ _ i z });
+      }
 
-  pub deschedule-done : {k′ j : Columns} {x g h : ℕ} {hs′ ts′ : List ℕ} {r : Timed} {v : NotedTurn} → n ≤ 4096 → front n k′ ≡ j → Deschedule (held hs ts (front n k) d l m c) (held hs′ ts′ j d l m (timedClock c r)) x g h r → TurnsTimed c r v → DescheduleFor k k′ n c hs ts hs′ ts′ d l m x g h v
-  deschedule-done {k′} {j} {x} {g} {h} {hs′} {ts′} {r} {v} fits b s w = record { meets = writes (λ R R′. FaceDeschedule R R′ x g h (v .answer)) k n hs ts d l m c fits (w .clock-is) b (record { meets = said _ _ _ _ _ _ _ _ (w .says) (s .meets) }) }
+  pub deschedule-done : {x g h : ℕ} {v : NotedTurn} {r : Timed} {k′ j : Columns} {hs′ ts′ : List ℕ} → n ≤ 4096 → front n k′ ≡ j
+      → Deschedule (held hs ts (front n k) d l m c) (held hs′ ts′ j d l m (timedClock c r)) x g h r → TurnsTimed c r v
+      → DescheduleFor k k′ n c hs ts hs′ ts′ d l m x g h v
+  deschedule-done {x} {g} {h} {v} fits b s w =
+      record {
+        meets =
+            writes (λ R R′. FaceDeschedule R R′ x g h (v .answer)) k n hs ts d l m c fits (w .clock-is) b
+            (record { meets = said _ _ _ _ _ _ _ _ (w .says) (s .meets) });
+      }
 
   -- ---- pull
-  pub pull-crowded : {k′ : Columns} {i : ℕ} → 4096 < n → i ≡ crowdedNumber c → PullFor k k′ n c hs ts hs ts d l m (record { clock = c; answer = PulledRefused i })
-  pull-crowded {k′} {i} many z =
-      record { meets = stays-stored (λ R R′. FacePull R R′ (PulledRefused i)) k n hs ts d l m c many (λ ns f. record { meets = crowd-no hs ts ns d l m c f _ _ _ _ i z }) k′ }
+  pub pull-crowded : {i : ℕ} {k′ : Columns} → 4096 < n → i ≡ crowdedNumber c
+      → PullFor k k′ n c hs ts hs ts d l m (record { clock = c; answer = PulledRefused i })
+  pull-crowded {i} many z =
+      record {
+        meets =
+            stays-stored (λ R R′. FacePull R R′ (PulledRefused i)) k n hs ts d l m c many
+            (λ ns f. record { meets = crowd-no hs ts ns d l m c f _ _ _ _ i z });
+      }
 
-  pub pull-done : {k′ j : Columns} {hs′ ts′ : List ℕ} {r : Pulled} {v : PulledTurn} → n ≤ 4096 → front n k′ ≡ j → Pull (held hs ts (front n k) d l m c) (held hs′ ts′ j d l m (pulledClock c r)) r → TurnsPulled c r v → PullFor k k′ n c hs ts hs′ ts′ d l m v
-  pull-done {k′} {j} {hs′} {ts′} {r} {v} fits b s w = record { meets = writes (λ R R′. FacePull R R′ (v .answer)) k n hs ts d l m c fits (w .clock-is) b (record { meets = said _ _ _ _ _ _ _ _ (w .says) (s .meets) }) }
+  pub pull-done : {v : PulledTurn} {r : Pulled} {k′ j : Columns} {hs′ ts′ : List ℕ} → n ≤ 4096 → front n k′ ≡ j
+      → Pull (held hs ts (front n k) d l m c) (held hs′ ts′ j d l m (pulledClock c r)) r → TurnsPulled c r v → PullFor k k′ n c hs ts hs′ ts′ d l m v
+  pull-done {v} fits b s w =
+      record {
+        meets =
+            writes (λ R R′. FacePull R R′ (v .answer)) k n hs ts d l m c fits (w .clock-is) b
+            (record { meets = said _ _ _ _ _ _ _ _ (w .says) (s .meets) });
+      }
 
   -- ---- enable
-  pub enable-crowded : {k′ : Columns} {i : ℕ} → 4096 < n → i ≡ crowdedEnable c → EnableFor k k′ n c hs ts hs ts d l m d l m (record { clock = c; answer = NotedRefused i })
-  enable-crowded {k′} {i} many z =
-      record { meets = stays-stored (λ R R′. FaceEnable R R′ (NotedRefused i)) k n hs ts d l m c many (λ ns f. record { meets = crowd-enable-no hs ts ns d l m c f _ _ _ i z }) k′ }
+  pub enable-crowded : {i : ℕ} {k′ : Columns} → 4096 < n → i ≡ crowdedEnable c
+      → EnableFor k k′ n c hs ts hs ts d l m d l m (record { clock = c; answer = NotedRefused i })
+  enable-crowded {i} many z =
+      record {
+        meets =
+            stays-stored (λ R R′. FaceEnable R R′ (NotedRefused i)) k n hs ts d l m c many
+            (λ ns f. record { meets = crowd-enable-no hs ts ns d l m c f _ _ _ i z });
+      }
 
-  pub enable-done : {k′ j : Columns} {hs′ ts′ : List ℕ} {d′ : List Bool} {l′ m′ : List ℕ} {r : Timed} {v : NotedTurn} → n ≤ 4096 → front n k′ ≡ j → Enable (held hs ts (front n k) d l m c) (held hs′ ts′ j d′ l′ m′ (timedClock c r)) r → TurnsTimed c r v → EnableFor k k′ n c hs ts hs′ ts′ d l m d′ l′ m′ v
-  enable-done {k′} {j} {hs′} {ts′} {d′} {l′} {m′} {r} {v} fits b s w = record { meets = writes (λ R R′. FaceEnable R R′ (v .answer)) k n hs ts d l m c fits (w .clock-is) b (record { meets = said _ _ _ _ _ _ _ _ (w .says) (s .meets) }) }
+  pub enable-done : {v : NotedTurn} {r : Timed} {k′ j : Columns} {hs′ ts′ : List ℕ} {d′ : List Bool} {l′ m′ : List ℕ} → n ≤ 4096 → front n k′ ≡ j
+      → Enable (held hs ts (front n k) d l m c) (held hs′ ts′ j d′ l′ m′ (timedClock c r)) r → TurnsTimed c r v
+      → EnableFor k k′ n c hs ts hs′ ts′ d l m d′ l′ m′ v
+  enable-done {v} fits b s w =
+      record {
+        meets =
+            writes (λ R R′. FaceEnable R R′ (v .answer)) k n hs ts d l m c fits (w .clock-is) b
+            (record { meets = said _ _ _ _ _ _ _ _ (w .says) (s .meets) });
+      }
 
   -- ---- start
   pub start-crowded : {q i : ℕ} → 4096 < n → i ≡ crowdedNumber c → StartFor k n c hs ts d l m q (record { clock = c; answer = NotedRefused i })
   start-crowded {q} {i} many z =
-      record { meets = stays (λ R R′. FaceStart R R′ q (NotedRefused i)) k n hs ts d l m c many (λ ns f. record { meets = crowd-no hs ts ns d l m c f _ _ _ _ i z }) }
+      record {
+        meets =
+            stays (λ R R′. FaceStart R R′ q (NotedRefused i)) k n hs ts d l m c many
+            (λ ns f. record { meets = crowd-no hs ts ns d l m c f _ _ _ _ i z });
+      }
 
-  pub start-done : {q : ℕ} {r : Timed} {v : NotedTurn} → n ≤ 4096 → Start (held hs ts (front n k) d l m c) (held hs ts (front n k) d l m (timedClock c r)) q r → TurnsTimed c r v → StartFor k n c hs ts d l m q v
-  start-done {q} {r} {v} fits s w = record { meets = reads (λ R R′. FaceStart R R′ q (v .answer)) k n hs ts d l m c fits (w .clock-is) (record { meets = said _ _ _ _ _ _ _ _ (w .says) (s .meets) }) }
+  pub start-done : {q : ℕ} {v : NotedTurn} {r : Timed} → n ≤ 4096
+      → Start (held hs ts (front n k) d l m c) (held hs ts (front n k) d l m (timedClock c r)) q r → TurnsTimed c r v → StartFor k n c hs ts d l m q v
+  start-done {q} {v} fits s w =
+      record {
+        meets =
+            reads (λ R R′. FaceStart R R′ q (v .answer)) k n hs ts d l m c fits (w .clock-is)
+            (record { meets = said _ _ _ _ _ _ _ _ (w .says) (s .meets) });
+      }
 
   -- ---- abandon
   pub abandon-crowded : {i : ℕ} → 4096 < n → i ≡ crowdedNumber c → AbandonFor k n c hs ts d l m (record { clock = c; answer = NotedRefused i })
   abandon-crowded {i} many z =
-      record { meets = stays (λ R R′. FaceAbandon R R′ (NotedRefused i)) k n hs ts d l m c many (λ ns f. record { meets = crowd-no hs ts ns d l m c f _ _ _ _ i z }) }
+      record {
+        meets =
+            stays (λ R R′. FaceAbandon R R′ (NotedRefused i)) k n hs ts d l m c many
+            (λ ns f. record { meets = crowd-no hs ts ns d l m c f _ _ _ _ i z });
+      }
 
-  pub abandon-done : {r : Timed} {v : NotedTurn} → n ≤ 4096 → Abandon (held hs ts (front n k) d l m c) (held hs ts (front n k) d l m (timedClock c r)) r → TurnsTimed c r v → AbandonFor k n c hs ts d l m v
-  abandon-done {r} {v} fits s w = record { meets = reads (λ R R′. FaceAbandon R R′ (v .answer)) k n hs ts d l m c fits (w .clock-is) (record { meets = said _ _ _ _ _ _ _ _ (w .says) (s .meets) }) }
+  pub abandon-done : {v : NotedTurn} {r : Timed} → n ≤ 4096
+      → Abandon (held hs ts (front n k) d l m c) (held hs ts (front n k) d l m (timedClock c r)) r → TurnsTimed c r v → AbandonFor k n c hs ts d l m v
+  abandon-done {v} fits s w =
+      record {
+        meets =
+            reads (λ R R′. FaceAbandon R R′ (v .answer)) k n hs ts d l m c fits (w .clock-is)
+            (record { meets = said _ _ _ _ _ _ _ _ (w .says) (s .meets) });
+      }
 
   -- ---- armed count
   pub count-crowded : {i : ℕ} → 4096 < n → i ≡ crowdedNumber c → ArmedCountFor k n c hs ts d l m (CountedRefused i)
   count-crowded {i} many z =
-      record { meets = stays (λ R R′. FaceArmedCount R (CountedRefused i)) k n hs ts d l m c many (λ ns f. record { meets = crowd-no hs ts ns d l m c f _ _ _ _ i z }) }
+      record {
+        meets =
+            stays (λ R R′. FaceArmedCount R (CountedRefused i)) k n hs ts d l m c many
+            (λ ns f. record { meets = crowd-no hs ts ns d l m c f _ _ _ _ i z });
+      }
 
   pub count-done : {r : Counted} → n ≤ 4096 → ArmedCount (held hs ts (front n k) d l m c) r → ArmedCountFor k n c hs ts d l m r
-  count-done {r} fits s = record { meets = reads (λ R R′. FaceArmedCount R r) k n hs ts d l m c fits {d′ = d} {l′ = l} {m′ = m} {b = c} refl (record { meets = s .meets }) }
+  count-done {r} fits s =
+      record { meets = reads (λ R R′. FaceArmedCount R r) k n hs ts d l m c fits {d′ = d} {l′ = l} {m′ = m} {b = c} refl (record { meets = s .meets }) }
 
   -- ---- next due
   pub due-crowded : {i : ℕ} → 4096 < n → i ≡ crowdedNumber c → NextDueFor k n c hs ts d l m (DueRefused i)
   due-crowded {i} many z =
-      record { meets = stays (λ R R′. FaceNextDue R (DueRefused i)) k n hs ts d l m c many (λ ns f. record { meets = crowd-no hs ts ns d l m c f _ _ _ _ i z }) }
+      record {
+        meets =
+            stays (λ R R′. FaceNextDue R (DueRefused i)) k n hs ts d l m c many
+            (λ ns f. record { meets = crowd-no hs ts ns d l m c f _ _ _ _ i z });
+      }
 
   pub due-done : {r : Due} → n ≤ 4096 → NextDue (held hs ts (front n k) d l m c) r → NextDueFor k n c hs ts d l m r
-  due-done {r} fits s = record { meets = reads (λ R R′. FaceNextDue R r) k n hs ts d l m c fits {d′ = d} {l′ = l} {m′ = m} {b = c} refl (record { meets = s .meets }) }
+  due-done {r} fits s =
+      record { meets = reads (λ R R′. FaceNextDue R r) k n hs ts d l m c fits {d′ = d} {l′ = l} {m′ = m} {b = c} refl (record { meets = s .meets }) }
 
   -- ---- set entry
-  pub set-crowded : {e : ℕ} {has : Bool} {b g i : ℕ} → 4096 < n → i ≡ crowdedNumber c → SetEntryFor k n c hs ts d l m d l m e has b g (NotedRefused i)
-  set-crowded {e} {has} {b} {g} {i} many z =
-      record { meets = stays (λ R R′. FaceSetEntry R R′ e has b g (NotedRefused i)) k n hs ts d l m c many (λ ns f. record { meets = crowd-no hs ts ns d l m c f _ _ _ _ i z }) }
+  pub set-crowded : {e : ℕ} {has : Bool} {b h i : ℕ} → 4096 < n → i ≡ crowdedNumber c → SetEntryFor k n c hs ts d l m d l m e has b h (NotedRefused i)
+  set-crowded {e} {has} {b} {h} {i} many z =
+      record {
+        meets =
+            stays (λ R R′. FaceSetEntry R R′ e has b h (NotedRefused i)) k n hs ts d l m c many
+            (λ ns f. record { meets = crowd-no hs ts ns d l m c f _ _ _ _ i z });
+      }
 
-  pub set-done : {e : ℕ} {has : Bool} {b g : ℕ} {d′ : List Bool} {l′ m′ : List ℕ} {r : Noted} → n ≤ 4096 → SetEntry (held hs ts (front n k) d l m c) (held hs ts (front n k) d′ l′ m′ c) e has b g r → SetEntryFor k n c hs ts d l m d′ l′ m′ e has b g r
-  set-done {e} {has} {b} {g} {d′} {l′} {m′} {r} fits s = record { meets = reads (λ R R′. FaceSetEntry R R′ e has b g r) k n hs ts d l m c fits refl (record { meets = s .meets }) }
+  pub set-done : {e : ℕ} {has : Bool} {b h : ℕ} {r : Noted} {d′ : List Bool} {l′ m′ : List ℕ} → n ≤ 4096
+      → SetEntry (held hs ts (front n k) d l m c) (held hs ts (front n k) d′ l′ m′ c) e has b h r → SetEntryFor k n c hs ts d l m d′ l′ m′ e has b h r
+  set-done {e} {has} {b} {h} {r} fits s =
+      record { meets = reads (λ R R′. FaceSetEntry R R′ e has b h r) k n hs ts d l m c fits refl (record { meets = s .meets }) }

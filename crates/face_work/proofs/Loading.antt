@@ -35,18 +35,23 @@ pub record AsLong (j k : Columns) : Type 0 where
   pub serial-same : length (j .serial) ≡ length (k .serial)
 
 module _ (n : ℕ) (fits : n ≤ 4096) where
+  -- as many are lent of a column as there are nodes
   pub front-length : (xs : List ℕ) → 4096 ≤ length xs → n ≡ length (take n xs)
   front-length xs room = sym (length-take-le n xs (omega arith))
 
   column-front : (xs ys : List ℕ) → 4096 ≤ length ys → length xs ≡ length (take n ys) → take n (xs ++ drop n ys) ≡ xs
   column-front xs ys room same = take-at xs (drop n ys) n (same ∙ sym (front-length ys room))
 
-  pub over-front : (j k : Columns) → Holds 4096 k → AsLong j (front n k) → front n (over n j k) ≡ columns (j .next) (j .prev) (j .bucket) (j .entry) (j .generation) (j .serial)
+  -- what came back stands at the front
+  pub over-front : (j k : Columns) → Holds 4096 k → AsLong j (front n k) → front n (over n j k) ≡ j
   over-front j k room same =
       λ i.
-      columns (column-front (j .next) (k .next) (room .next-has) (same .next-same) i) (column-front (j .prev) (k .prev) (room .prev-has) (same .prev-same) i)
-      (column-front (j .bucket) (k .bucket) (room .bucket-has) (same .bucket-same) i) (column-front (j .entry) (k .entry) (room .entry-has) (same .entry-same) i)
-      (column-front (j .generation) (k .generation) (room .generation-has) (same .generation-same) i) (column-front (j .serial) (k .serial) (room .serial-has) (same .serial-same) i)
+      columns (column-front (j .next) (k .next) (room .next-has) (same .next-same) i)
+      (column-front (j .prev) (k .prev) (room .prev-has) (same .prev-same) i)
+      (column-front (j .bucket) (k .bucket) (room .bucket-has) (same .bucket-same) i)
+      (column-front (j .entry) (k .entry) (room .entry-has) (same .entry-same) i)
+      (column-front (j .generation) (k .generation) (room .generation-has) (same .generation-same) i)
+      (column-front (j .serial) (k .serial) (room .serial-has) (same .serial-same) i)
 
 -- ---- the columns' front is that of the nodes that were read, and of those that are stored back
 module _ (ns : List Node) (k : Columns) (n : ℕ) (fits : n ≤ 4096) (e : length ns ≡ n) where
@@ -59,7 +64,8 @@ module _ (ns : List Node) (k : Columns) (n : ℕ) (fits : n ≤ 4096) (e : lengt
 module _ (P : Records → Records → Type 0) (k : Columns) (n : ℕ) (h t : List ℕ) (d : List Bool) (l m : List ℕ) (c : Clock) where
   module _ (fits : n ≤ 4096) where
     -- no node is written
-    pub reads : {d′ : List Bool} {l′ m′ : List ℕ} {b c′ : Clock} → c′ ≡ b → P (held h t (front n k) d l m c) (held h t (front n k) d′ l′ m′ b)
+    pub reads : {d′ : List Bool} {l′ m′ : List ℕ} {b c′ : Clock} → c′ ≡ b
+        → P (held h t (front n k) d l m c) (held h t (front n k) d′ l′ m′ b)
         → OfLoaded k n (λ ns. P (shown h t ns d l m c) (shown h t ns d′ l′ m′ c′))
     reads {d′} {l′} {m′} {b} {c′} a p ns e o =
         subst (λ (z : Columns). P (held h t z d l m c) (held h t z d′ l′ m′ c′)) (loaded ns k n fits e o)
@@ -67,7 +73,8 @@ module _ (P : Records → Records → Type 0) (k : Columns) (n : ℕ) (h t : Lis
 
     -- nodes are written
     pub writes : {k′ j : Columns} {h′ t′ : List ℕ} {d′ : List Bool} {l′ m′ : List ℕ} {b c′ : Clock} → c′ ≡ b → front n k′ ≡ j
-        → P (held h t (front n k) d l m c) (held h′ t′ j d′ l′ m′ b) → OfStored k k′ n (λ ns ns′. P (shown h t ns d l m c) (shown h′ t′ ns′ d′ l′ m′ c′))
+        → P (held h t (front n k) d l m c) (held h′ t′ j d′ l′ m′ b)
+        → OfStored k k′ n (λ ns ns′. P (shown h t ns d l m c) (shown h′ t′ ns′ d′ l′ m′ c′))
     writes {k′} {j} {h′} {t′} {d′} {l′} {m′} {b} {c′} a w p ns ns′ e o s =
         subst (λ (z : Columns). P (held h t z d l m c) (held h′ t′ (columnsOf ns′) d′ l′ m′ c′)) (loaded ns k n fits e o)
         (subst (λ (z : Columns). P (held h t (front n k) d l m c) (held h′ t′ z d′ l′ m′ c′)) (sym w ∙ stored ns k′ n fits e ns′ s)
@@ -78,7 +85,7 @@ module _ (P : Records → Records → Type 0) (k : Columns) (n : ℕ) (h t : Lis
     pub stays : OfLoaded k n (λ ns. P (shown h t ns d l m c) (shown h t ns d l m c))
     stays ns e o = p ns (omega (arith, e))
 
-    pub stays-stored : (k′ : Columns) → OfStored k k′ n (λ ns ns′. P (shown h t ns d l m c) (shown h t ns′ d l m c))
-    stays-stored k′ ns ns′ e o s =
+    pub stays-stored : {k′ : Columns} → OfStored k k′ n (λ ns ns′. P (shown h t ns d l m c) (shown h t ns′ d l m c))
+    stays-stored ns ns′ e o s =
         let f : 4096 < length ns = omega (arith, e) in
         subst (λ (z : List Node). P (shown h t ns d l m c) (shown h t z d l m c)) (sym (s .stays f)) (p ns f)
