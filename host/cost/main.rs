@@ -1,98 +1,129 @@
-//! What a public call through the host costs beside the same call over parallel slices: microseconds a call at 166, 512 and 4,096 records with all timers armed but
-//! one, best of several rounds, and the smallest thread stack, in KiB, that a call at 4,096 records runs in.
+//! What each public call through the host costs beside the same call over parallel slices: microseconds a call at 166, 512 and 4,096 records with all timers armed but
+//! one, best of several rounds, and the smallest thread stack, in KiB, that a call at 4,096 records runs in. Create is not among them: it is lent no record.
+//! Each call is timed by itself, so that reading the time is in it too, over nodes as over slices.
 
+mod calls;
 mod slices;
 
-use juopmorin::{Entry, Wheel, BUCKETS};
+use calls::Calls;
+use juopmorin::{Clock, Handle, Wheel, BUCKETS, NONE};
 use slices::{pass, Slices};
 use std::hint::black_box;
-use std::time::Instant;
+use std::time::{Duration, Instant};
 
 const SIZES: [usize; 3] = [166, 512, 4_096];
 const ROUNDS: usize = 9;
 
-/// All slots armed but one, with deadlines spread over the levels.
+/// The clock as create hands it out.
+const CREATED: Clock =
+    Clock { enabled: false, reading: 0, serial: 0, open: false, previous: 0, level: 0, step: 0, free: NONE, nodes: 0, entries: 0 };
+
+/// The deadline of the last entry: one tick, before that of any other.
+const SOON: u64 = 1 << 30;
+
+/// All slots armed but the last, with deadlines spread over the levels; the last entry has no timer.
 fn wheel(records: usize) -> Wheel {
     let timers = records - BUCKETS;
     let mut wheel = Wheel::new(records, timers, 0);
-    wheel.enable().expect("in range");
-    for entry in 0..timers {
-        let deadline = (entry as u64).wrapping_mul(0x9e37_79b9_7f4a_7c15) >> 14;
-        wheel.set_entry(entry, Entry { deadline: Some(deadline), generation: 0 }).expect("an entry");
-        if entry + 1 < timers {
-            wheel.schedule(entry, 0).expect("room");
-        }
+    Calls::enable(&mut wheel);
+    for entry in 0..timers - 1 {
+        let deadline = (entry as u64 + 1).wrapping_mul(0x9e37_79b9_7f4a_7c15) >> 14;
+        Calls::set_entry(&mut wheel, entry, deadline);
+        Calls::schedule(&mut wheel, entry);
     }
+    Calls::set_entry(&mut wheel, timers - 1, SOON);
     wheel
 }
 
-/// Name, the calls through the host over nodes, the same calls over slices, and how many they are.
+/// The last entry, which has no timer outside a work.
+fn last(on: &dyn Calls) -> usize {
+    on.clock().entries - 1
+}
+
+/// The timer of the last entry while it is armed: it has the one slot that was free, and the latest serial.
+fn timer(on: &dyn Calls) -> Handle {
+    let clock = on.clock();
+    Handle { slot: clock.nodes - 1, serial: clock.serial - 1 }
+}
+
+type Step = fn(&mut dyn Calls);
+
+/// A call that is timed, what makes the wheel ready for it, and what restores the wheel. The same steps are run over nodes and over slices.
 struct Work {
     name: &'static str,
-    nodes: fn(&mut Wheel),
-    slices: fn(&mut Slices, usize),
-    calls: u32,
+    ready: Step,
+    call: Step,
+    restore: Step,
 }
 
-const WORKS: [Work; 4] = [
+const NOTHING: Step = |_| ();
+const ARM: Step = |on| on.schedule(last(on));
+const CANCEL: Step = |on| on.deschedule(timer(on));
+const START: Step = |on| on.start(black_box(1));
+const ABANDON: Step = |on| on.abandon();
+
+const WORKS: [Work; 11] = [
+    Work { name: "enable", ready: |on| on.set_clock(CREATED), call: |on| on.enable(), restore: NOTHING },
+    Work { name: "set entry", ready: NOTHING, call: |on| on.set_entry(last(on), SOON), restore: NOTHING },
+    Work { name: "schedule", ready: NOTHING, call: ARM, restore: CANCEL },
     Work {
-        name: "armed count",
-        nodes: |wheel| assert_eq!(wheel.armed_count(), Ok(wheel.dated.len() - 1)),
-        slices: |slices, timers| assert_eq!(slices.armed_count(), timers - 1),
-        calls: 1,
+        name: "reschedule",
+        ready: |on| {
+            ARM(on);
+            on.set_entry(last(on), 2 * SOON);
+        },
+        call: |on| on.reschedule(timer(on)),
+        restore: |on| {
+            CANCEL(on);
+            on.set_entry(last(on), SOON);
+        },
     },
+    Work { name: "deschedule", ready: ARM, call: CANCEL, restore: NOTHING },
+    Work { name: "start", ready: NOTHING, call: START, restore: ABANDON },
     Work {
-        name: "start, abandon",
-        nodes: |wheel| {
-            wheel.start(black_box(1)).expect("closed");
-            wheel.abandon().expect("open");
+        name: "pull (Expired)",
+        ready: |on| {
+            ARM(on);
+            on.start(SOON);
         },
-        slices: |slices, _| {
-            slices.start(black_box(1));
-            slices.abandon();
-        },
-        calls: 2,
+        call: |on| assert!(on.pull()),
+        restore: ABANDON,
     },
-    Work {
-        name: "schedule, deschedule",
-        nodes: |wheel| {
-            let timer = wheel.schedule(wheel.dated.len() - 1, 0).expect("room");
-            wheel.deschedule(timer, 0).expect("armed");
-        },
-        slices: |slices, timers| slices.schedule_and_deschedule(timers - 1),
-        calls: 2,
-    },
-    Work {
-        name: "start, pull (End)",
-        nodes: |wheel| {
-            wheel.start(black_box(1)).expect("closed");
-            assert_eq!(wheel.pull(), Ok(None));
-        },
-        slices: |slices, _| {
-            slices.start(black_box(1));
-            slices.pull_to_end();
-        },
-        calls: 2,
-    },
+    Work { name: "pull (End)", ready: START, call: |on| assert!(!on.pull()), restore: NOTHING },
+    Work { name: "abandon", ready: START, call: ABANDON, restore: NOTHING },
+    Work { name: "armed count", ready: NOTHING, call: |on| assert_eq!(on.armed_count(), last(on)), restore: NOTHING },
+    Work { name: "next due", ready: ARM, call: |on| assert_eq!(on.next_due(), Some(SOON)), restore: CANCEL },
 ];
 
-/// Microseconds a call, the best round.
-fn best(turns: usize, calls: u32, mut work: impl FnMut()) -> f64 {
-    let round = |_| {
-        let begun = Instant::now();
-        (0..turns).for_each(|_| work());
-        begun.elapsed().as_secs_f64() / (turns as f64 * f64::from(calls))
-    };
-    (0..ROUNDS).map(round).fold(f64::INFINITY, f64::min) * 1e6
+/// Microseconds a turn, the best round; a turn gives the time that it took.
+fn best(turns: usize, mut turn: impl FnMut() -> Duration) -> f64 {
+    let mut round = |_| (0..turns).map(|_| turn()).sum::<Duration>().as_secs_f64() / turns as f64;
+    (0..ROUNDS).map(&mut round).fold(f64::INFINITY, f64::min) * 1e6
 }
 
-/// What the calls cost over nodes and over slices, in turn on one wheel of so many records.
+/// How long it takes.
+fn timed(act: impl FnOnce()) -> Duration {
+    let begun = Instant::now();
+    act();
+    begun.elapsed()
+}
+
+/// A turn of the work: how long its call takes.
+fn turn(work: &Work, on: &mut dyn Calls) -> Duration {
+    (work.ready)(on);
+    let took = timed(|| (work.call)(on));
+    (work.restore)(on);
+    took
+}
+
+/// What the call costs over nodes and over slices, on one wheel of so many records. Both end up with the same records and the same clock.
 fn costs(work: &Work, records: usize) -> [f64; 2] {
     let mut wheel = wheel(records);
     let mut slices = Slices::of(&wheel);
-    let (turns, timers) = (400_000 / records, records - BUCKETS);
-    let over_nodes = best(turns, work.calls, || (work.nodes)(&mut wheel));
-    [over_nodes, best(turns, work.calls, || (work.slices)(&mut slices, timers))]
+    let turns = 400_000 / records;
+    let costs = [best(turns, || turn(work, &mut wheel)), best(turns, || turn(work, &mut slices))];
+    assert_eq!(Slices::of(&wheel), slices, "{}", work.name);
+    costs
 }
 
 /// Whether the work runs in a thread with a stack of so many KiB: tried in a child process, since an overflow ends it.
@@ -115,9 +146,11 @@ fn least_stack(work: usize) -> usize {
     runs
 }
 
+/// The call alone runs in the thread.
 fn run_in_thread(work: usize, kib: usize) {
     let mut wheel = wheel(4_096);
-    let thread = std::thread::Builder::new().stack_size(kib << 10).spawn(move || (WORKS[work].nodes)(&mut wheel));
+    (WORKS[work].ready)(&mut wheel);
+    let thread = std::thread::Builder::new().stack_size(kib << 10).spawn(move || (WORKS[work].call)(&mut wheel));
     thread.expect("a thread").join().expect("no panic");
 }
 
@@ -138,7 +171,7 @@ fn main() {
     for (name, back) in [("nodes into columns", false), ("and back", true)] {
         let costs = SIZES.map(|size| {
             let mut nodes = wheel(size).nodes;
-            best(400_000 / size, 1, || pass(black_box(&mut nodes), back))
+            best(400_000 / size, || timed(|| pass(black_box(&mut nodes), back)))
         });
         println!("{name:22} {:9.2} {:9.2} {:9.2}", costs[0], costs[1], costs[2]);
     }

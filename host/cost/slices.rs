@@ -1,9 +1,11 @@
 //! The same wheel over parallel slices, a column for each field of the nodes, and the calls of the library `bench_slices` on them; and what it costs by itself to read
 //! nodes into such columns, and to write them back.
 
-use juopmorin::{Clock, Node, Wheel, BUCKETS};
+use crate::calls::Calls;
+use juopmorin::{Clock, Handle, Node, Wheel, BUCKETS};
 use std::hint::black_box;
 
+#[derive(Debug, PartialEq)]
 pub struct Slices {
     clock: Clock,
     heads: [usize; BUCKETS],
@@ -22,11 +24,26 @@ pub struct Slices {
 // A slice of the Rattle side is two parameters here, its address and its length.
 #[link(name = "bench_slices", kind = "static")]
 extern "C" {
+    fn slices_enable(
+        heads: *mut usize, h: usize, tails: *mut usize, t: usize, next: *mut usize, n: usize, prev: *mut usize, p: usize,
+        bucket: *mut usize, b: usize, entry: *mut usize, e: usize, generation: *mut u32, g: usize, serial: *mut u64, s: usize,
+        dated: *mut bool, d: usize, deadline: *mut u64, l: usize, stamp: *mut u32, m: usize, clock: Clock,
+    ) -> Clock;
+    fn slices_set_entry(
+        heads: *const usize, h: usize, tails: *const usize, t: usize, next: *const usize, n: usize, prev: *const usize, p: usize,
+        bucket: *const usize, b: usize, entry: *const usize, e: usize, generation: *const u32, g: usize, serial: *const u64, s: usize,
+        dated: *mut bool, d: usize, deadline: *mut u64, l: usize, stamp: *mut u32, m: usize, clock: Clock, of: usize, has: bool, at: u64, stamped: u32,
+    ) -> u64;
     fn slices_armed_count(
         heads: *const usize, h: usize, tails: *const usize, t: usize, next: *const usize, n: usize, prev: *const usize, p: usize,
         bucket: *const usize, b: usize, entry: *const usize, e: usize, generation: *const u32, g: usize, serial: *const u64, s: usize,
         dated: *const bool, d: usize, deadline: *const u64, l: usize, stamp: *const u32, m: usize, clock: Clock,
     ) -> usize;
+    fn slices_next_due(
+        heads: *const usize, h: usize, tails: *const usize, t: usize, next: *const usize, n: usize, prev: *const usize, p: usize,
+        bucket: *const usize, b: usize, entry: *const usize, e: usize, generation: *const u32, g: usize, serial: *const u64, s: usize,
+        dated: *const bool, d: usize, deadline: *const u64, l: usize, stamp: *const u32, m: usize, clock: Clock,
+    ) -> u64;
     fn slices_start(
         heads: *const usize, h: usize, tails: *const usize, t: usize, next: *const usize, n: usize, prev: *const usize, p: usize,
         bucket: *const usize, b: usize, entry: *const usize, e: usize, generation: *const u32, g: usize, serial: *const u64, s: usize,
@@ -42,6 +59,11 @@ extern "C" {
         bucket: *mut usize, b: usize, entry: *mut usize, e: usize, generation: *mut u32, g: usize, serial: *mut u64, s: usize,
         dated: *const bool, d: usize, deadline: *const u64, l: usize, stamp: *const u32, m: usize, clock: Clock, of: usize, stamped: u32,
     ) -> Clock;
+    fn slices_reschedule(
+        heads: *mut usize, h: usize, tails: *mut usize, t: usize, next: *mut usize, n: usize, prev: *mut usize, p: usize,
+        bucket: *mut usize, b: usize, entry: *mut usize, e: usize, generation: *mut u32, g: usize, serial: *mut u64, s: usize,
+        dated: *const bool, d: usize, deadline: *const u64, l: usize, stamp: *const u32, m: usize, clock: Clock, slot: usize, number: u64, stamped: u32,
+    ) -> Clock;
     fn slices_deschedule(
         heads: *mut usize, h: usize, tails: *mut usize, t: usize, next: *mut usize, n: usize, prev: *mut usize, p: usize,
         bucket: *mut usize, b: usize, entry: *mut usize, e: usize, generation: *mut u32, g: usize, serial: *mut u64, s: usize,
@@ -54,17 +76,17 @@ extern "C" {
     ) -> Clock;
 }
 
-/// Calls `$name` with every record lent by `$lend`, the clock, then the further arguments.
+/// Calls `$name` with every slot's record lent by `$lend` and the entries by `$entries`, the clock, then the further arguments.
 macro_rules! call {
-    ($of:ident, $name:ident, $lend:ident $(, $more:expr)*) => {
+    ($of:ident, $name:ident, $lend:ident, $entries:ident $(, $more:expr)*) => {
         // SAFETY: each pair is the address and the length of an array that `self` owns; they do not overlap, mutable ones come from `&mut self`, and the
         // proved function reads and writes them only, for any contents and any lengths.
         unsafe {
             $name(
                 $of.heads.$lend(), BUCKETS, $of.tails.$lend(), BUCKETS, $of.next.$lend(), $of.next.len(), $of.prev.$lend(), $of.prev.len(),
                 $of.bucket.$lend(), $of.bucket.len(), $of.entry.$lend(), $of.entry.len(), $of.generation.$lend(), $of.generation.len(),
-                $of.serial.$lend(), $of.serial.len(), $of.dated.as_ptr(), $of.dated.len(), $of.deadline.as_ptr(), $of.deadline.len(),
-                $of.stamp.as_ptr(), $of.stamp.len(), $of.clock $(, $more)*
+                $of.serial.$lend(), $of.serial.len(), $of.dated.$entries(), $of.dated.len(), $of.deadline.$entries(), $of.deadline.len(),
+                $of.stamp.$entries(), $of.stamp.len(), $of.clock $(, $more)*
             )
         }
     };
@@ -89,34 +111,64 @@ impl Slices {
             stamp: wheel.stamp.clone(),
         }
     }
+}
 
-    pub fn armed_count(&self) -> usize {
-        call!(self, slices_armed_count, as_ptr)
+/// An answer is a clock or a number, so a refusal is seen by the clock that stays; a refused reschedule is seen by the records, which `main` compares with the host's.
+impl Calls for Slices {
+    fn clock(&self) -> Clock {
+        self.clock
     }
 
-    pub fn start(&mut self, reading: u64) {
-        self.clock = call!(self, slices_start, as_ptr, reading);
+    fn set_clock(&mut self, clock: Clock) {
+        self.clock = clock;
+    }
+
+    fn enable(&mut self) {
+        self.clock = call!(self, slices_enable, as_mut_ptr, as_mut_ptr);
+        assert!(self.clock.enabled);
+    }
+
+    fn set_entry(&mut self, entry: usize, deadline: u64) {
+        assert_eq!(call!(self, slices_set_entry, as_ptr, as_mut_ptr, entry, true, deadline, 0), 0);
+    }
+
+    fn schedule(&mut self, entry: usize) {
+        let before = self.clock;
+        self.clock = call!(self, slices_schedule, as_mut_ptr, as_ptr, entry, 0);
+        assert_eq!(self.clock.serial, before.serial + 1);
+    }
+
+    fn reschedule(&mut self, timer: Handle) {
+        self.clock = call!(self, slices_reschedule, as_mut_ptr, as_ptr, timer.slot, timer.serial, 0);
+    }
+
+    fn deschedule(&mut self, timer: Handle) {
+        self.clock = call!(self, slices_deschedule, as_mut_ptr, as_ptr, timer.slot, timer.serial, 0);
+        assert_eq!(self.clock.free, timer.slot);
+    }
+
+    fn start(&mut self, reading: u64) {
+        self.clock = call!(self, slices_start, as_ptr, as_ptr, reading);
         assert!(self.clock.open);
     }
 
-    pub fn abandon(&mut self) {
-        self.clock = call!(self, slices_abandon, as_ptr);
+    fn pull(&mut self) -> bool {
+        self.clock = call!(self, slices_pull, as_mut_ptr, as_ptr);
+        self.clock.open
+    }
+
+    fn abandon(&mut self) {
+        self.clock = call!(self, slices_abandon, as_ptr, as_ptr);
         assert!(!self.clock.open);
     }
 
-    /// Arms the entry, and cancels the timer again: its slot is the first free one, its serial the next.
-    pub fn schedule_and_deschedule(&mut self, entry: usize) {
-        let before = self.clock;
-        self.clock = call!(self, slices_schedule, as_mut_ptr, entry, 0);
-        assert_eq!(self.clock.serial, before.serial + 1);
-        self.clock = call!(self, slices_deschedule, as_mut_ptr, before.free, before.serial, 0);
-        assert_eq!(self.clock.free, before.free);
+    fn armed_count(&mut self) -> usize {
+        call!(self, slices_armed_count, as_ptr, as_ptr)
     }
 
-    /// A pull that ends the advance.
-    pub fn pull_to_end(&mut self) {
-        self.clock = call!(self, slices_pull, as_mut_ptr);
-        assert!(!self.clock.open);
+    fn next_due(&mut self) -> Option<u64> {
+        let due = call!(self, slices_next_due, as_ptr, as_ptr);
+        (due != u64::MAX).then_some(due)
     }
 }
 
