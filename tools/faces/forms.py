@@ -59,7 +59,7 @@ class Function:
     """A function's signature and contract, as its source has them."""
 
     def __init__(self, crate, name):
-        form = r'fn %s\s*\((.*?)\)\s*->\s*(\w+)\s*ensures \{ λ (\w+)\. ⌜(.*?)⌝ \}\s*\{(.*?)\n\}' % name
+        form = r'fn %s\s*\((.*?)\)\s*->\s*(\w+)\s*(?:requires \{[^{}]*\}\s*)?ensures \{ λ (\w+)\. ⌜(.*?)⌝ \}\s*\{(.*?)\n\}' % name
         found = [(path, text, re.search(form, text, re.S)) for path, text in sources(crate)]
         found = [x for x in found if x[2]]
         if len(found) != 1:
@@ -152,6 +152,9 @@ class Walk:
 
     def field(self, local, k):
         return '(load ! (from ! (fld ! refl (stop !))) (look-in ! %d (sub ! %d refl (whole !))))' % (self.at(local), k)
+
+    def copy(self, source, local, why):
+        self.say('assigns ! (of-opd ! %s) (from ! (stop !)) %s $' % (source, self.init(local, why)))
 
     def land(self, local, why):
         self.say('land ! (from ! (stop !)) %s $' % self.init(local, why))

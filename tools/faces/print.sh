@@ -3,7 +3,7 @@
 # With --check it writes nothing, and fails where a proof is not what is printed.
 set -eu
 faces='face_making face_asking face_advancing face_arming'
-exports=''
+exports='exports_making exports_asking exports_advancing exports_arming'
 here=$(cd "$(dirname "$0")" && pwd)
 crates=$(dirname "$(dirname "$here")")/crates
 printed=$(mktemp)

@@ -22,104 +22,12 @@ WORK is covered, requires Holds 4096 of the six columns, and has one clause, ens
 c being the columns at entry and c′ those at exit; where nodes are lent as & there is no c′ and no ns′. It returns a struct of clock and
 answer where clock is lent. ANSWER is an enum.
 What FACE and FOR are called, and what they cite, is taken from the `ghost use` lines of the two files."""
-import os
 import re
 import sys
+from forms import BITS, WIDTH, Function, Walk, cons, down, low, nest, printed
 
-HERE = os.path.dirname(os.path.abspath(__file__))
-CRATES = os.path.join(os.path.dirname(os.path.dirname(HERE)), 'crates')
-WIDTH = {'usize': 'w64', 'u64': 'w64', 'u32': 'w32'}
-BITS = {'w64': 64, 'w32': 32}
 COLUMNS = ['next', 'prev', 'bucket', 'entry', 'generation', 'serial']
 ROOM = 4168
-A6 = 'a₁ a₂ a₃ a₄ a₅ a₆'
-
-
-# ---- text
-
-def low(k):
-    """a number as an index: x₁₂"""
-    return str(k).translate(str.maketrans('0123456789', '₀₁₂₃₄₅₆₇₈₉'))
-
-
-def nest(parts, end='tt', mark=','):
-    """a tuple, or with mark ' ×' its type"""
-    for part in reversed(parts):
-        end = '(%s%s %s)' % (part, mark, end)
-    return end
-
-
-def cons(parts):
-    return ''.join('%s ∷ ' % p for p in parts) + '[]'
-
-
-def down(k):
-    """the k-th of a tuple"""
-    return ' .1' * k + ' .0'
-
-
-# ---- the sources
-
-def sources(crate):
-    """The crate's source files: the module path of each, and its text."""
-    folder = os.path.join(CRATES, crate, 'src')
-    for name in sorted(os.listdir(folder)):
-        if name.endswith('.rt'):
-            with open(os.path.join(folder, name)) as file:
-                yield ([] if name == 'lib.rt' else [name[:-3]]), file.read()
-
-
-def declared(crate, name):
-    """The crate and the module path in which a crate's type is declared: its own, or one that it names by `pub use`."""
-    passed_on = None
-    for path, text in sources(crate):
-        if re.search(r'^pub (struct|enum) %s\b' % name, text, re.M):
-            return crate, '.'.join(path + [name])
-        passed_on = passed_on or re.search(r'^pub use (\w+)(?:::\w+)*::%s;' % name, text, re.M)
-    if not passed_on:
-        sys.exit('thin.py: no type %s in crate %s' % (name, crate))
-    return declared(passed_on.group(1), name)
-
-
-class Function:
-    """A function's signature and contract, as its source has them."""
-
-    def __init__(self, crate, name):
-        form = r'fn %s\s*\((.*?)\)\s*->\s*(\w+)\s*(?:requires \{[^{}]*\}\s*)?ensures \{ λ r\. ⌜(.*?)⌝ \}\s*\{(.*?)\n\}' % name
-        found = [(path, text, re.search(form, text, re.S)) for path, text in sources(crate)]
-        found = [x for x in found if x[2]]
-        if len(found) != 1:
-            sys.exit('thin.py: crate %s has %d functions %s of the form' % (crate, len(found), name))
-        path, self.text, m = found[0]
-        self.crate, self.name = crate, name
-        self.params = [tuple(x.strip() for x in p.split(':', 1)) for p in m.group(1).split(',') if p.strip()]
-        self.answer, self.clause, self.body = m.group(2), ' '.join(m.group(3).split()), m.group(4)
-        self.module = '.'.join(path + [name])
-        self.key = '·'.join([crate] + path + [name]).replace('_', '-')
-
-    def home(self, name):
-        """The crate that the function's file takes a name from."""
-        used = re.search(r'^use (\w+)(?:::\w+)*::%s;' % name, self.text, re.M)
-        return self.crate if not used or used.group(1) == 'crate' else used.group(1)
-
-    def declared(self, name):
-        """The crate and the module path of a type that the file uses or declares."""
-        return declared(self.home(name), name)
-
-    def cited(self):
-        """What the clause cites: (module, name), as another crate names it."""
-        for m in re.finditer(r'ghost use (\S+?)\.\{(.*?)\};', self.text):
-            for name in re.split(r',\s*', m.group(2)):
-                if re.search(r'(?<![\w′])%s(?![\w′])' % re.escape(name), self.clause):
-                    yield m.group(1).replace('·specs.specs.', '.specs.'), name
-
-    def stated(self, entry, exit):
-        """The clause with each parameter's value at entry and at exit in its place."""
-        def value(m):
-            if m.group(3):
-                return entry.get(m.group(3), m.group(3))
-            return (exit if m.group(2) == 'exit' else entry)[m.group(1)]
-        return re.sub(r'\(now \((\w+) \.(entry|exit)\)\)|(?<![\w.′])([A-Za-z_]\w*)(?![\w′])', value, self.clause)
 
 
 # ---- a parameter that is passed on to the work
@@ -167,62 +75,11 @@ class Passed:
         return 'fsep (finally %s (%s .name) %s) (feq ℕ (length %s) (length (%s .now)))' % (self.elem, self.var, self.last, self.last, self.var)
 
 
-# ---- the walk's context, by name: each step moves the entries as the logic's rule does
-
-class Walk:
-    def __init__(self, entries):
-        self.entries, self.lines = list(entries), []
-
-    def at(self, name):
-        return self.entries.index('_%d' % name if isinstance(name, int) else name)
-
-    def say(self, text):
-        self.lines.append(text)
-
-    def note(self, text):
-        self.lines.append('-- ' + text)
-
-    def take(self, *names):
-        """These entries are brought to the head."""
-        spots = [self.at(x) for x in names]
-        self.entries = list(names) + [x for x in self.entries if x not in names]
-        return '' if spots == list(range(len(spots))) else 'move ! (%s) $ ' % cons(spots)
-
-    def head(self, count, *names):
-        """The first entries have become others."""
-        self.entries[:count] = names
-
-    def init(self, local, why):
-        return '(init ! %d refl %s)' % (self.at(local), why)
-
-    def look(self, local):
-        return '(load ! (from ! (stop !)) (look ! %d refl))' % self.at(local)
-
-    def field(self, local, k):
-        return '(load ! (from ! (fld ! refl (stop !))) (look-in ! %d (sub ! %d refl (whole !))))' % (self.at(local), k)
-
-    def copy(self, source, local, why):
-        self.say('assigns ! (of-opd ! %s) (from ! (stop !)) %s $' % (source, self.init(local, why)))
-
-    def land(self, local, why):
-        self.say('land ! (from ! (stop !)) %s $' % self.init(local, why))
-
-    def lend_on(self, local, ref, pair, fits):
-        """&*s of a slice s in a local, made anew in another."""
-        self.say('assigns ! (addr ! (from ! (fld ! refl (hop ! (look-in ! %d (sub ! 0 refl (whole !))) (stop !))))) (from ! (stop !)) %s $' % (self.at(local), self.init(ref, '(tt, tt)')))
-        parts = '(and-then ! %s (and-then ! %s (no-more !)))' % (self.look(ref), self.field(local, 1))
-        self.say('assigns ! (agg ! %s) (from ! (stop !)) %s $' % (parts, self.init(pair, '(tt, (tt, (record { fits = %s }, tt)))' % fits)))
-
-    def text(self, indent):
-        """The lines, with the brackets that are open closed at the end."""
-        bare = re.sub(r'--.*', '', '\n'.join(self.lines))
-        self.lines[-1] += ')' * (bare.count('(') - bare.count(')'))
-        return '\n'.join(indent + line.rstrip() for line in self.lines)
-
-
 # ---- the function
 
 class Thin:
+    ROOM, A6 = ROOM, 'a₁ a₂ a₃ a₄ a₅ a₆'
+
     def __init__(self, crate, name):
         self.crate, self.fn = crate, Function(crate, name)
         called = re.search(r'(\w+_work)\(', self.fn.body)
@@ -476,7 +333,7 @@ class Thin:
         w.say(w.take('toks', 'own') + 'use2 W (raw (%s 𝓤 H A at-mem run .pre %s)) %s $' % (big, ghost, goes))
         w.head(2, 'pre')
         w.say('calls-at ! fm (%s 𝓤 H A at-mem run) known-%s %s' % (big, callee, ghost))
-        w.say(''.join('(and-then ! %s ' % w.look(a) for a in args) + '(no-more !)' + ')' * len(args) + ' (λ %s.' % value)
+        w.say(w.looks(args) + ' (λ %s.' % value)
         w.say(returned)
 
     def together(self, w, token, own):
@@ -626,22 +483,6 @@ class Thin:
         return ['sliceVal (%s, 0) %d ∷ []' % (a, ROOM) for a in spots.split()]
 
 
-def fill(template, thin):
-    """Lines that begin '?NAME ' stand only where NAME is true of the function, '!NAME ' where it is not; «..» is an expression over it."""
-    names = dict(globals(), **{x: getattr(thin, x) for x in dir(thin) if not x.startswith('_')})
-    for line in template.split('\n'):
-        m = re.match(r'([?!])(\w+) (.*)', line)
-        if m and bool(names[m.group(2)]) != (m.group(1) == '?'):
-            continue
-        yield re.sub('«(.*?)»', lambda k: str(eval(k.group(1), names)), m.group(3) if m else line)
-
-
-def main():
-    if len(sys.argv) != 3:
-        sys.exit(__doc__)
-    with open(os.path.join(HERE, 'thin.tmpl')) as file:
-        template = file.read()
-    sys.stdout.write('\n'.join(fill(template, Thin(*sys.argv[1:]))))
-
-
-main()
+if len(sys.argv) != 3:
+    sys.exit(__doc__)
+printed('thin.tmpl', Thin(*sys.argv[1:]))
