@@ -9,7 +9,7 @@ pub trait Calls {
     /// Gives the entry this deadline; its generation is 0, here and in every call.
     fn set_entry(&mut self, entry: usize, deadline: u64);
     fn schedule(&mut self, entry: usize);
-    /// Moves the timer: its entry has a deadline.
+    /// Moves the timer to another bucket: its entry has a deadline there.
     fn reschedule(&mut self, timer: Handle);
     fn deschedule(&mut self, timer: Handle);
     fn start(&mut self, reading: u64);

@@ -25,6 +25,7 @@ const SOON: u64 = 1 << 30;
 fn wheel(records: usize) -> Wheel {
     let timers = records - BUCKETS;
     let mut wheel = Wheel::new(records, timers, 0);
+    assert_eq!(wheel.clock, CREATED);
     Calls::enable(&mut wheel);
     for entry in 0..timers - 1 {
         let deadline = (entry as u64 + 1).wrapping_mul(0x9e37_79b9_7f4a_7c15) >> 14;

@@ -113,7 +113,7 @@ impl Slices {
     }
 }
 
-/// An answer is a clock or a number, so a refusal is seen by the clock that stays; a refused reschedule is seen by the records, which `main` compares with the host's.
+/// An answer is a clock or a number, so a refusal is seen by the clock or the records that stay as they were: after a refused pull by those of the next turn.
 impl Calls for Slices {
     fn clock(&self) -> Clock {
         self.clock
@@ -139,7 +139,9 @@ impl Calls for Slices {
     }
 
     fn reschedule(&mut self, timer: Handle) {
+        let before = self.bucket[timer.slot];
         self.clock = call!(self, slices_reschedule, as_mut_ptr, as_ptr, timer.slot, timer.serial, 0);
+        assert_ne!(self.bucket[timer.slot], before);
     }
 
     fn deschedule(&mut self, timer: Handle) {
