@@ -32,7 +32,7 @@ class Passed:
         self.slice, self.mut = bool(m and m.group(3)), bool(m and m.group(1))
         self.of = m.group(3) or m.group(2) if m else written
         self.inner, self.item = ROWS.get(self.of, self.of), TYPES.get(self.of, 'ℕ')
-        self.known, self.knows = '', None
+        self.known, self.knows, self.vals = '', None, None
         if self.slice:
             self.as_slice('x' + low(j))
         elif m:
@@ -43,7 +43,7 @@ class Passed:
             self.as_bool('t' + low(j))
         else:
             self.as_number('m' + low(j), WIDTH[self.of])
-        self.vals = self.vals if self.of == 'Clock' and not m else self.value + ' ∷ []'
+        self.vals = self.vals or self.value + ' ∷ []'
         self.entry = '(%s .now)' % self.var if m else self.var
 
     def as_slice(self, x):
@@ -144,7 +144,7 @@ class Told:
         lines += ['use %s.{%s}' % (module, ', '.join(sorted(cited[module]))) for module in sorted(cited)]
         lines += ['use Rattle.nodes.proofs.Passing.{passed-on}']
         for short, _, (crate, path) in self.types():
-            lines += ['use %s.%s as %s' % (self.proofs(crate), path, short), 'use %s.%s.Laws as %s′' % (self.proofs(crate), path, short)]
+            lines += ['use %s.%s as %s' % (self.proofs(crate), path, short)] + ['use %s.%s.Laws as %s′' % (self.proofs(crate), path, short)] * (short != 'T')
         for short, path, _ in self.callees():
             lines += ['use %s as %ss' % (path, short), 'use %s.Symbol as %s-def' % (path, short), 'use %s.Symbol.{name as #%s}' % (path, short), 'use %s.Met as %s-thm' % (path, short)]
         own = '%s.%s' % (self.proofs(self.crate), self.fn.module)
