@@ -14,7 +14,7 @@ for crate in $faces $exports; do
     for source in "$crates/$crate"/src/*.rt; do
         for name in $(sed -n 's/^pub .*fn \([a-z_]*\)($/\1/p' "$source"); do
             proof=$crate/proofs/$(basename "$source" .rt)/$name/Proof.antt
-            python3 "$here/$printer" "$crate" "$name" >"$printed"
+            python3 -B "$here/$printer" "$crate" "$name" >"$printed"
             if [ "${1:-}" = --check ]; then
                 cmp -s "$printed" "$crates/$proof" || { echo "print.sh: crates/$proof is not what $printer prints"; differ=1; }
             else
