@@ -1,5 +1,5 @@
 #!/bin/sh
-# print.sh [--check]: prints the proof of each thin function of the crates listed here: by thin.py those over lent nodes, by told.py those that answer in numbers.
+# print.sh [--check]: writes the proof of each thin function of the crates listed here to its place: by thin.py those over lent nodes, by told.py those that answer in numbers.
 # With --check it writes nothing, and fails where a proof is not what is printed.
 set -eu
 faces='face_making face_asking face_advancing face_arming'
