@@ -201,7 +201,7 @@ extern "C" {
     ) -> u64;
 }
 
-/// Calls `$name` with every record lent, the clock and the two ends as `$clock`, `$lend` and the entries as `$entry` say, then the further arguments.
+/// Calls `$name` with every record lent: nodes, heads and tails by `$nodes`, the entries by `$entries`, the clock as `$clock`; then the further arguments.
 /// The answer is the five numbers, or the refusal.
 macro_rules! call {
     ($wheel:ident, $name:ident, $nodes:ident, $clock:expr, $entries:ident $(, $more:expr)*) => {{
@@ -236,7 +236,7 @@ impl Wheel {
         wheel
     }
 
-    /// Begins another wheel over the same records: reading 0, not enabled. Handles of the former one are stale.
+    /// Begins another wheel over the same records: reading 0, not enabled. The former one's timers are gone; the handle of one may be given again.
     pub fn create(&mut self, first: u64) {
         // SAFETY: a number in, a struct out.
         let created = unsafe { wheel_create(first) };

@@ -50,10 +50,11 @@ waitingAt g heads c =
     cond (eqb (c .step) 0) none
     (cond (eqb (getD heads (standsIn g c) 0) (standsIn g c)) none (getD heads (standsIn g c) 0))
 
--- "On entering a bucket, nodes go front to back until the sentinel is last"
+-- where the visit goes on
 abbrev pub nextPosition : Geometry → Clock → Position
 nextPosition g c = onward g (c .previous) (c .reading) (c .level) (c .step)
 
+-- "On entering a bucket, nodes go front to back until the sentinel is last"
 abbrev pub onLinks : Geometry → Links → Clock → Links
 onLinks g a c =
     let r : Position = nextPosition g c in

@@ -1,4 +1,4 @@
-// For proved code only, unchecked: the half of the public calls that works, on records known to be sound, for proved code only; and what the calls answer.
+// For proved code only, unchecked: the half of the public calls that works, on records known to be sound; and what the calls answer.
 pub mod answer; // what the calls answer
 pub mod layout; // lengths, cursors and elements at making
 pub mod unchecked; // the work on sound records

@@ -53,7 +53,8 @@ begun L first = record {
   clock = createdClock first;
 }
 
--- a call on what is lent: some answer r of the call says a, and the call's promise holds of what was lent, of what is lent then and of r
+-- a call on what is lent: some answer r of the call says a, and the call's promise holds of what was lent, of what is lent then and of r. An enable is given k entries, as many in
+-- each of their slices (`Fitting`): one over unequal slices, refused 3, is in no history
 abbrev pub Done : Call → Lent → Lent → Answer → Type 0
 Done (create n) L M a = (a ≡ ok) × (M ≡ begun L n)
 Done (enable m k) L M a = (m ≡ length (L .nodes)) × Fitting k L × (r : Noted) × (a ≡ notedSays r) × FaceEnable (recordsOf L) (recordsOf M) r

@@ -1,4 +1,4 @@
--- What a call over columns answers, in two: the answer without the clock, and the clock from now on, which is the caller's own where none is handed back.
+-- What a call over parallel slices answers, in two: the answer without the clock, and the clock from now on, which is the caller's own where none is handed back.
 -- Assumes nothing.
 use mathlib.Core.Path.{_≡_}
 use Rattle.records.specs.declared.Clock.{Clock}

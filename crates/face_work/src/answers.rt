@@ -1,4 +1,4 @@
-// What the calls over columns answer, in two: the answer without the clock, and the clock from now on, which is the caller's own where none is handed back.
+// What the calls over parallel slices answer, in two: the answer without the clock, and the clock from now on, which is the caller's own where none is handed back.
 // No `requires`.
 ghost use Rattle.face_work.specs.Turns.{TurnsTimed, TurnsScheduled, TurnsRescheduled, TurnsPulled};
 use crate::NotedTurn;

@@ -37,7 +37,7 @@ pub record WalkedFree (next home : List ℕ) (free r : ℕ) : Type 0 where
   pub found : r ≤ none → (xs : List ℕ) × Spares next home free xs × (length xs ≡ r)
   pub bad : none < r → (xs : List ℕ) → Spares next home free xs → ⊥
 
--- the free chain of slots of which none is lent too many
+-- the lengths that the walk of the free chain asks for: as many homes as links, and no more slots than 4,096
 pub record SizesFree (next home : List ℕ) : Type 0 where
   pub home-len : length home ≡ length next
   pub small : length next ≤ none

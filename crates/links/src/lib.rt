@@ -1,4 +1,4 @@
-// For proved code only, unchecked: linked deques and free slots in parallel slices, for proved code only. A caller shows that the records stand for lists (or tests it once with sound).
+// For proved code only, unchecked: linked deques and free slots in parallel slices. A caller shows that the records stand for lists (or tests it once with sound).
 // A record of contracts says for each function what it writes, and what that means for whatever lists the records stand for.
 pub mod change; // link at the back, unlink, turn until a member is last
 pub mod free; // take a free slot, give one back

@@ -1,4 +1,5 @@
-// The node records as 01 lends them: one array of structs, read into six columns, a field in each, and stored back from them. Nothing is assumed of what they hold.
+// The node records as 01 lends them: one array of structs, read into six columns, a field in each, and stored back from them: load and store, unchecked.
+// Nothing is assumed of what the nodes hold.
 ghost use mathlib.Core.Path.{_≡_};
 ghost use Rattle.nodes.specs.Columns.{columns, usedOf, Holds, Loads, Stores};
 

@@ -1,3 +1,3 @@
--- What the contracts of `numbers` cite, and the form that refusals and answers have in every crate. Assumes nothing.
+-- What the contracts of `numbers` cite, and the form that refusals and answers of the sketch have. Assumes nothing.
 pub mod Powers
 pub mod Answers

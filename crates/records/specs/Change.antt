@@ -5,7 +5,7 @@ use mathlib.Core.List.{List}
 use lib.ListN.{length, getD, set}
 use Rattle.links.specs.Chain.{none}
 use Rattle.links.specs.Lists.{Links}
-use Rattle.links.specs.Change.{linkBack, cutOut, moveBack, turnTo}
+use Rattle.links.specs.Change.{linkBack, cutOut, moveBack}
 use Rattle.links.specs.Free.{handBack}
 use Rattle.records.specs.Records.{Nodes}
 
@@ -32,10 +32,6 @@ freedFrom x f N = withLinks (handBack (cutOut (N .links) x) x f) (written x 0 0 
 -- the slot x is unlinked and linked at the back of the bucket b; its payload stays
 abbrev pub movedTo : ℕ → ℕ → Nodes → Nodes
 movedTo b x N = withLinks (moveBack (N .links) b x) N
-
--- the bucket b is entered: its nodes go front to back until its sentinel is last
-abbrev pub enteredAt : ℕ → Nodes → Nodes
-enteredAt b N = withLinks (turnTo (N .links) b b) N
 
 -- the three writes of a payload
 pub record Writes (e g s e′ g′ s′ : List ℕ) (x i h n : ℕ) : Type 0 where

@@ -7,7 +7,7 @@ use mathlib.Core.List.{List, [], _∷_, _++_}
 use Rattle.rules.specs.Geometry.{wheel01, tick}
 use Rattle.rules.specs.Wheel.{Call, create, enable, setEntry, schedule, reschedule, start, pull, abandon, Answer}
 use Rattle.rules.specs.Runs.{Run, answers, after, next}
-use Rattle.rules.specs.Demand3.{Arms, Unchanged, handed, Full, NoneBefore, Demand3}
+use Rattle.rules.specs.Demand3.{Arms, Unchanged, handed, Full, Demand3}
 use Rattle.rules.specs.Worked.{nothing}
 use Rattle.rules.proofs.Demand3.{demand3}
 
@@ -31,7 +31,7 @@ unfolding tick
 met-again = demand3 wheel01 nothing 7 before-20 (reschedule 165 7 0) 165 7 0 20 (refl, refl, refl, refl, refl) (omega arith)
 
 -- A run that leaves it unchanged, with an advance that enters no later tick, one that is abandoned, a clock stepped back, and its deadline set again; then an advance that
--- is read to its end, goes to the deadline or later and enters a later tick. So all of the third part's premises are met, and here it hands the timer out.
+-- is read to its end, goes to the deadline or later and enters a later tick. So the third part's premises on the calls and on the advance are met together, and here it hands the timer out.
 abbrev run-10 : List Call
 run-10 = start 100 ∷ pull ∷ start (2 ^ 31) ∷ abandon ∷ start 3 ∷ pull ∷ setEntry 0 (some 10) 9 ∷ []
 

@@ -74,7 +74,7 @@ pub refusals :
 unfolding tick
 refusals = refl
 
--- 11, "next serial is 2^64 - 1"; 10 comes before it
+-- 11, "next serial is 2^64 - 1"
 pub spent :
     answers wheel01 nothing (create (2 ^ 64 - 1) ∷ enable 166 1 ∷ setEntry 0 (some 9) 0 ∷ schedule 0 0 ∷ []) ≡ ok ∷ ok ∷ ok ∷ refused 11 ∷ []
 unfolding tick

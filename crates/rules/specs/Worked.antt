@@ -35,6 +35,6 @@ firesBefore r d (suc t) = firesAt r d (suc t * 2 ^ 30 - 1) + firesBefore r d t
 abbrev pub isPlaced : ℕ → ℕ → ℕ → ℕ → Bool
 isPlaced r d l i = eqb (placeOf wheel01 r d) (l * 64 + i)
 
--- a deadline armed at a reading fires at the first reading of the tick t, and at no reading in an earlier one
+-- a deadline armed at a reading fires at the first reading of the tick t, and at the last reading of no earlier one
 abbrev pub firesFirst : ℕ → ℕ → ℕ → Bool
 firesFirst r d t = cond (eqb (firesAt r d (t * 2 ^ 30)) 1) (eqb (firesBefore r d t) 0) false

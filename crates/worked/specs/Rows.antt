@@ -7,7 +7,7 @@ use lib.ListN.{replicate}
 pub data Row : Type 0 where
   -- at a reading, a deadline has the place (level, index)
   placed : (reading deadline level index : ℕ) → Row
-  -- armed at a reading, a deadline fires at a reading in this tick, and not before it
+  -- armed at a reading, a deadline fires at the first reading of this tick, and at the last reading of no earlier one
   fires : (reading deadline tick : ℕ) → Row
   -- a sketch of a capacity, on a lent table of as many words as the row has, after increases of these hashes: the words and the size count
   sketched : (capacity : ℕ) (hashes words : List ℕ) (size : ℕ) → Row
