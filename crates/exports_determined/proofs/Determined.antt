@@ -1,0 +1,77 @@
+-- Two results that meet the promise of an exported function coincide: the result, the five lent numbers, every node, head, tail and entry, and the clock. Assumes nothing.
+use Prim.Native.Nat.{ℕ}
+use mathlib.Core.Path.{_≡_, sym, ap, _∙_}
+use mathlib.Core.Bool.{Bool}
+use mathlib.Core.List.{List}
+use lib.ListN.{getD}
+use Rattle.rules.specs.Wheel.{Call, Answer}
+use Rattle.links.proofs.Rows.{Single}
+use Rattle.records.specs.declared.Clock.{Clock}
+use Rattle.records.specs.Records.{Records}
+use Rattle.wheel.specs.Calls.{Meets}
+use Rattle.wheel_history.proofs.Coincide.{met, enable-single, set-single, schedule-single, handle-single, closed-single, open-single, count-single}
+use Rattle.nodes.specs.declared.Node.{Node}
+use Rattle.nodes.specs.Shown.{shown}
+use Rattle.face_determined.proofs.Determined.{Same, shown-one}
+use Rattle.exports_work.specs.Words.{wordsOf}
+use Rattle.exports_work.specs.Exports.{Tells, ExportEnable, ExportSetEntry, ExportSchedule, ExportReschedule, ExportDeschedule, ExportStart, ExportPull, ExportAbandon, ExportArmedCount, ExportNextDue}
+
+-- ---- a promise that is told in numbers determines the result, the numbers and the records
+told : (c : Call) (rows : ℕ → Type 0) (R R₁ R₂ after : Records) (then : Answer) (a b : List ℕ) (r s : ℕ) → Single rows
+    → Tells (λ x. Meets c rows R R₁ x after then) a r → Tells (λ x. Meets c rows R R₂ x after then) b s
+    → (r ≡ s) × (a ≡ b) × (R₁ ≡ R₂)
+told c rows R R₁ R₂ after then a b r s single p q =
+    let u = met c rows R R₁ R₂ after (p .answer) (q .answer) then single (p .meets) (q .meets) in (
+      p .written .number-is ∙ ap (λ (x : Answer). getD (wordsOf x) 0 0) (u .0) ∙ sym (q .written .number-is),
+      p .written .words-are ∙ ap (λ (x : Answer). wordsOf x) (u .0) ∙ sym (q .written .words-are),
+      u .1,
+    )
+
+-- ---- the functions
+module _ (R : Records) (hs ts hs′ ts′ : List ℕ) (ns ns′ : List Node) (d d′ : List Bool) (l m l′ m′ : List ℕ) (c c′ : Clock) (a b : List ℕ) (r s : ℕ) where
+  abbrev S : Records
+  S = shown hs ts ns d l m c
+
+  abbrev S′ : Records
+  S′ = shown hs′ ts′ ns′ d′ l′ m′ c′
+
+  abbrev All : Type 0
+  All = (r ≡ s) × (a ≡ b) × Same hs ts hs′ ts′ ns ns′ d d′ l m l′ m′ c c′
+
+  one : (call : Call) (rows : ℕ → Type 0) (after : Records) (then : Answer) → Single rows
+      → Tells (λ x. Meets call rows R S x after then) a r → Tells (λ x. Meets call rows R S′ x after then) b s → All
+  one call rows after then single p q =
+      let u = told call rows R S S′ after then a b r s single p q in
+      (u .0, u .1, shown-one hs ts hs′ ts′ ns ns′ d d′ l m l′ m′ c c′ (u .2))
+
+  pub enable-told : ExportEnable R S a r → ExportEnable R S′ b s → All
+  enable-told p q = one _ _ _ _ (enable-single R) (p .does) (q .does)
+
+  pub set-told : (e : ℕ) (has : Bool) (due h : ℕ) → ExportSetEntry R S a e has due h r → ExportSetEntry R S′ b e has due h s → All
+  set-told e has due h p q = one _ _ _ _ (set-single R e) (p .does) (q .does)
+
+  pub schedule-told : (e h : ℕ) → ExportSchedule R S a e h r → ExportSchedule R S′ b e h s → All
+  schedule-told e h p q = one _ _ _ _ (schedule-single R e h) (p .does) (q .does)
+
+  pub reschedule-told : (x n h : ℕ) → ExportReschedule R S a x n h r → ExportReschedule R S′ b x n h s → All
+  reschedule-told x n h p q = one _ _ _ _ (handle-single R x n h) (p .does) (q .does)
+
+  pub deschedule-told : (x n h : ℕ) → ExportDeschedule R S a x n h r → ExportDeschedule R S′ b x n h s → All
+  deschedule-told x n h p q = one _ _ _ _ (handle-single R x n h) (p .does) (q .does)
+
+  pub start-told : (until : ℕ) → ExportStart R S a until r → ExportStart R S′ b until s → All
+  start-told until p q = one _ _ _ _ (closed-single R) (p .does) (q .does)
+
+  pub pull-told : ExportPull R S a r → ExportPull R S′ b s → All
+  pull-told p q = one _ _ _ _ (open-single R) (p .does) (q .does)
+
+  pub abandon-told : ExportAbandon R S a r → ExportAbandon R S′ b s → All
+  abandon-told p q = one _ _ _ _ (open-single R) (p .does) (q .does)
+
+-- the two counts change no record
+module _ (R : Records) (a b : List ℕ) (r s : ℕ) where
+  pub count-told : ExportArmedCount R a r → ExportArmedCount R b s → (r ≡ s) × (a ≡ b)
+  count-told p q = let u = told _ _ R R R _ _ a b r s (count-single R) (p .does) (q .does) in (u .0, u .1)
+
+  pub due-told : ExportNextDue R a r → ExportNextDue R b s → (r ≡ s) × (a ≡ b)
+  due-told p q = let u = told _ _ R R R _ _ a b r s (closed-single R) (p .does) (q .does) in (u .0, u .1)
