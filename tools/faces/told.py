@@ -12,7 +12,7 @@ It reads the function and the two that it calls from the crates' src/ folders; t
     }
 
 PARAMETERS are slices (& or &mut) of Node, usize, u64, u32 and bool, `clock: &mut Clock` or `clock: Clock`, and usize, u64, u32 and bool.
-CALL returns an enum, has no `requires` and one clause, a record with a field `meets`. TELL is covered, has no `requires`, and its clause is
+CALL returns an enum, has no `requires` and one clause, which EXPORT's `does .meets` is. TELL is covered, has no `requires`, and its clause is
 what EXPORT's `does .written` says. What they are called, and what they cite, is taken from the `ghost use` lines of the files."""
 import re
 import sys

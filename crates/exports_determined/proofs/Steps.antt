@@ -21,9 +21,9 @@ module _ (R R′ : Records) (a : List ℕ) (r : ℕ) where
   Steps c = (w : Wheel) → Standing R w → Writes (wordsOf (step wheel01 w c .0)) a r × Standing R′ (step wheel01 w c .1)
 
   -- a promise told in numbers is that step, where it is the wheel's promise of the call
-  pub told-step-is : (c : Call) (promise : Answer → Type 0) → ((x : Answer) → promise x → Promised c R R′ x) → Tells promise a r → Steps c
-  told-step-is c promise is p w T =
-      let u = step-is c R R′ (p .answer) w T (is (p .answer) (p .meets)) in (
+  pub told-step-is : {U : Type 0} (says : U → Answer) (c : Call) (promise : U → Type 0) → ((x : U) → promise x → Promised c R R′ (says x)) → Tells says promise a r → Steps c
+  told-step-is says c promise is p w T =
+      let u = step-is c R R′ (says (p .answer)) w T (is (p .answer) (p .meets)) in (
         record {
           words-are = p .written .words-are ∙ ap (λ (x : Answer). wordsOf x) (u .0);
           number-is = p .written .number-is ∙ ap (λ (x : Answer). getD (wordsOf x) 0 0) (u .0);
@@ -34,33 +34,33 @@ module _ (R R′ : Records) (a : List ℕ) (r : ℕ) where
   -- the wheel is enabled for as many nodes and entries as are lent
   pub enable-step : Parallel (length (R .nodes .links .next)) (length (R .entries .dated)) R → ExportEnable R R′ a r
       → Steps (enable (length (R .nodes .links .next)) (length (R .entries .dated)))
-  enable-step f p = told-step-is (enable (length (R .nodes .links .next)) (length (R .entries .dated))) _ (λ x m. (f, m)) (p .does)
+  enable-step f p = told-step-is _ (enable (length (R .nodes .links .next)) (length (R .entries .dated))) _ (λ x m. (f, m .meets)) (p .does)
 
   pub set-step : (e : ℕ) (has : Bool) (due h : ℕ) → ExportSetEntry R R′ a e has due h r → Steps (setEntry e (cond has (some due) none) h)
-  set-step e has due h p = told-step-is (setEntry e (cond has (some due) none) h) _ (λ x m. (has, due, m)) (p .does)
+  set-step e has due h p = told-step-is _ (setEntry e (cond has (some due) none) h) _ (λ x m. (has, due, m .meets)) (p .does)
 
   pub schedule-step : (e h : ℕ) → ExportSchedule R R′ a e h r → Steps (schedule e h)
-  schedule-step e h p = told-step-is (schedule e h) _ (λ x m. m) (p .does)
+  schedule-step e h p = told-step-is _ (schedule e h) _ (λ x m. m .meets) (p .does)
 
   pub reschedule-step : (x n h : ℕ) → ExportReschedule R R′ a x n h r → Steps (reschedule x n h)
-  reschedule-step x n h p = told-step-is (reschedule x n h) _ (λ y m. m) (p .does)
+  reschedule-step x n h p = told-step-is _ (reschedule x n h) _ (λ y m. m .meets) (p .does)
 
   pub deschedule-step : (x n h : ℕ) → ExportDeschedule R R′ a x n h r → Steps (deschedule x n h)
-  deschedule-step x n h p = told-step-is (deschedule x n h) _ (λ y m. m) (p .does)
+  deschedule-step x n h p = told-step-is _ (deschedule x n h) _ (λ y m. m .meets) (p .does)
 
   pub start-step : (q : ℕ) → ExportStart R R′ a q r → Steps (start q)
-  start-step q p = told-step-is (start q) _ (λ x m. m) (p .does)
+  start-step q p = told-step-is _ (start q) _ (λ x m. m .meets) (p .does)
 
   pub pull-step : ExportPull R R′ a r → Steps pull
-  pull-step p = told-step-is pull _ (λ x m. m) (p .does)
+  pull-step p = told-step-is _ pull _ (λ x m. m .meets) (p .does)
 
   pub abandon-step : ExportAbandon R R′ a r → Steps abandon
-  abandon-step p = told-step-is abandon _ (λ x m. m) (p .does)
+  abandon-step p = told-step-is _ abandon _ (λ x m. m .meets) (p .does)
 
 -- the two counts change no record
 module _ (R : Records) (a : List ℕ) (r : ℕ) where
   pub count-step : ExportArmedCount R a r → Steps R R a r armedCount
-  count-step p = told-step-is R R a r armedCount _ (λ x m. (refl, m)) (p .does)
+  count-step p = told-step-is R R a r _ armedCount _ (λ x m. (refl, m .meets)) (p .does)
 
   pub due-step : ExportNextDue R a r → Steps R R a r nextDue
-  due-step p = told-step-is R R a r nextDue _ (λ x m. (refl, m)) (p .does)
+  due-step p = told-step-is R R a r _ nextDue _ (λ x m. (refl, m .meets)) (p .does)

@@ -116,7 +116,7 @@ module _ {M : Type 1} (𝓤 : URA M) (H : Heap 𝓤) (A : Atoms 𝓤) (W : Given
   exits ws u does vs k written y =
       qed W (‵ (lasts calls.ended (κ₀, (κ₁, (κ₂, (κ₃, (κ₄, (κ₅, (κ₆, tt))))))) given ws) ∷ ‵ (lasts tells.ended (κ₇, tt) (telling u) vs) ∷ Tokens ∷ (‵ (flft κ₇ q₇) ⊛ ‵ ftrue) ∷ ‵ (u64 .own k (y ∷ [])) ∷ []) ∵
       suffices ! _ (ends-at 𝓤 H A told.ended stayed (told.clauses 𝓤 H A at-mem run) W (((κ₀, (κ₁, (κ₂, (κ₃, (κ₄, (κ₅, (κ₆, (κ₇, tt)))))))), (q₀, (q₁, (q₂, (q₃, (q₄, (q₅, (q₆, (q₇, tt)))))))), tt, x, at), tt) y k (ws .0, (ws .1 .0, (ws .1 .1 .0, (ws .1 .1 .1 .0, (ws .1 .1 .1 .1 .0, (ws .1 .1 .1 .1 .1 .0, (ws .1 .1 .1 .1 .1 .1 .0, (ws .1 .1 .1 .1 .1 .1 .1 .0, (vs .1 .0, tt))))))))) (tt, (tt, (tt, (tt, (tt, (tt, (tt, (tt, (tt, tt)))))))))) $
-      says ! (record { does = record { answer = _; meets = does .meets; written = written } }) $
+      says ! (record { does = record { answer = u; meets = does; written = written } }) $
       move ! (2 ∷ []) $ split ! $ move ! (1 ∷ []) $ split ! $ move ! (1 ∷ []) $ split ! $ move ! (1 ∷ []) $ split ! $ move ! (1 ∷ []) $ split ! $ move ! (1 ∷ []) $ split ! $ move ! (1 ∷ []) $ split ! $ move ! (1 ∷ []) $ drop ! $ move ! (9 ∷ []) $ split ! $ move ! (1 ∷ []) $ drop ! $
       nothing ! $ move ! (1 ∷ 0 ∷ []) $ join ! $ move ! (1 ∷ 0 ∷ []) $ join ! $ move ! (1 ∷ 0 ∷ []) $ join ! $ move ! (1 ∷ 0 ∷ []) $ join ! $ move ! (1 ∷ 0 ∷ []) $ join ! $ move ! (1 ∷ 0 ∷ []) $ join ! $ move ! (1 ∷ 0 ∷ []) $ join ! $ move ! (1 ∷ 0 ∷ []) $ join ! $ frame ! $
       fsplit ! $ move ! (1 ∷ []) $ fsplit ! $ move ! (1 ∷ []) $ fsplit ! $ move ! (1 ∷ []) $ fsplit ! $ move ! (1 ∷ []) $ fsplit ! $ move ! (1 ∷ []) $ fsplit ! $ move ! (1 ∷ []) $ fsplit ! $ move ! (1 ∷ []) $ fsplit ! $ move ! (1 ∷ []) $ drop ! $ move ! (8 ∷ []) $ fsplit ! $ move ! (1 ∷ []) $ fsplit ! $ move ! (1 ∷ []) $ drop ! $
