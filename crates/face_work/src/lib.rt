@@ -42,3 +42,10 @@ pub struct NotedTurn {
     pub clock: Clock,
     pub answer: Noted,
 }
+
+// What enable leaves beside the nodes: the same, and whether they are to be laid out.
+pub struct LaidTurn {
+    pub clock: Clock,
+    pub answer: Noted,
+    pub laid: bool,
+}
