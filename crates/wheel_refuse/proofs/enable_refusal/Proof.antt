@@ -1,5 +1,5 @@
 -- `enable_refusal` meets its contract. Assumes nothing.
-use Rattle.wheel_refuse.proofs.Refusing.{enable-exits}
+use Rattle.wheel_refuse.proofs.Refusing.{enable-stop, enable-exits}
 use borrow.Author.Needs.{needs}
 use Rattle.wheel_refuse.proofs.enable_refusal.Statement.{statement}
 use Rattle.wheel_refuse.proofs.enable_refusal.Tie as tie
@@ -8,7 +8,7 @@ around-refusal-requires : tie.Need-around-refusal-requires
 around-refusal-requires c κs = search needs
 
 returns : tie.Need-returns
-returns c = search enable-exits
+returns c = enable-stop _ _ _ _ _ _ _ _ _ _ _ _ _ (c .before .around-refusal .ensures) (c .if1 .taken)
 
 nodes-lent-requires : tie.Need-nodes-lent-requires
 nodes-lent-requires c κs = search needs

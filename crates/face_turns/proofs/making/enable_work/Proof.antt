@@ -8,7 +8,7 @@ around-refusal-requires : tie.Need-around-refusal-requires
 around-refusal-requires c κs = search needs
 
 returns : tie.Need-returns
-returns c = search enable-refused
+returns c = enable-refused _ _ _ _ _ _ _ _ (c .before .around-refusal .ensures) (c .if1 .taken)
 
 lay-out-around-requires : tie.Need-lay-out-around-requires
 lay-out-around-requires c κs = search enable-asks

@@ -29,7 +29,7 @@ same-length-5 : tie.Need-same-length-5
 same-length-5 c = search needs
 
 returns : tie.Need-returns
-returns c = search laid-around
+returns c = laid-around _ _ _ _ _ _ _ _ _ _ _ _ _ (c .before .before .before .before .before .before .before .before .before .before .before .before .before .before .before .before .before .enabled .ensures) (c .before .before .before .before .before .before .before .before .before .before .before .before .before .before .seat-ends .ensures) (c .before .before .before .before .before .before .clear-entries .ensures)
 
 pub lay-out-around-spec : {M : Type 1} → statement M
 lay-out-around-spec =
