@@ -1,15 +1,15 @@
 -- Why enable's work meets its promise, whatever nodes are lent: refused by the numbers alone, and answered. Assumes nothing.
-use Prim.Native.Nat.{ℕ, _≤_}
+use Prim.Native.Nat.{ℕ}
 use native.Mathlib.Omega.{arith}
 use mathlib.Core.Path.{_≡_, refl, sym, ap, subst, _∙_}
 use mathlib.Core.Bool.{Bool, true, false}
 use mathlib.Core.List.{List}
 use lib.ListN.{length, length-map}
-use Rattle.rules.specs.Geometry.{wheel01, buckets}
+use Rattle.rules.specs.Geometry.{wheel01}
 use Rattle.rules.specs.Wheel.{enable, ok}
 use Rattle.records.specs.declared.Clock.{Clock}
 use Rattle.records.specs.Records.{Records, records, nodes, entries}
-use Rattle.records.specs.Layout.{bareLinks, bareNodes, bareEntries, enabledWith, LayReady}
+use Rattle.records.specs.Layout.{bareLinks, bareNodes, enabledWith, LayReady}
 use Rattle.records.specs.Around.{AroundReady, LaysAround}
 use Rattle.records.proofs.Bare.{bare-lays}
 use Rattle.wheel_sound.specs.Clauses.{NodesLengths}
@@ -24,7 +24,7 @@ use Rattle.wheel.specs.Calls.{Meets}
 use Rattle.nodes.specs.declared.Node.{Node}
 use Rattle.nodes.specs.Shown.{nexts, prevs, entryNumbers, generations, serials, shown}
 use Rattle.nodes.specs.Shown.{buckets as homes}
-use Rattle.nodes.specs.Columns.{Columns, columnsOf}
+use Rattle.nodes.specs.Columns.{columnsOf}
 use Rattle.nodes.specs.Laid.{columnsIn, Laid}
 use Rattle.face_work.specs.Faces.{FaceEnable}
 use Rattle.face_work.specs.Works.{EnableFor}

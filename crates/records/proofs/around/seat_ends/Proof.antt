@@ -1,7 +1,6 @@
 -- `seat_ends` meets its contract. Assumes nothing.
 use borrow.Author.Needs.{needs}
 use Rattle.records.proofs.Ends.{SeatingEnds, ends-begin, ends-again, ends-end}
-use native.Mathlib.Omega.{arith}
 use Prim.Native.Nat.{_-_}
 use lib.ListN.{length}
 use Rattle.records.proofs.around.seat_ends.Statement.{statement}
