@@ -1,5 +1,6 @@
 #!/bin/sh
-# print.sh [--check]: writes the proof of each thin function of the crates listed here to its place: by thin.py those over lent nodes, by told.py those that answer in numbers.
+# print.sh [--check]: writes the proof of each thin function of the crates listed here to its place: by thin.py those over lent nodes, by laid.py the one
+# that lays them out, by told.py those that answer in numbers.
 # With --check it writes nothing, and fails where a proof is not what is printed.
 set -eu
 faces='face_making face_asking face_advancing face_arming'
@@ -10,7 +11,7 @@ printed=$(mktemp)
 trap 'rm -f "$printed"' EXIT
 differ=0
 for crate in $faces $exports; do
-    case $crate in exports_*) printer=told.py ;; *) printer=thin.py ;; esac
+    case $crate in exports_*) printer=told.py ;; face_making) printer=laid.py ;; *) printer=thin.py ;; esac
     for source in "$crates/$crate"/src/*.rt; do
         for name in $(sed -n 's/^pub .*fn \([a-z_]*\)($/\1/p' "$source"); do
             proof=$crate/proofs/$(basename "$source" .rt)/$name/Proof.antt

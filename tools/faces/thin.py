@@ -156,8 +156,12 @@ class Thin:
     def proofs(self, crate):
         return 'Rattle.%s.proofs' % crate if crate == self.crate else 'Rattle.%s.proofs' % crate
 
+    def cites(self):
+        """What the proof cites beside what the clauses do."""
+        return {'Rattle.nodes.specs.Columns': {'Columns', 'columns', 'Loads'} | ({'Stores'} if self.mut_nodes else set())}
+
     def imports(self):
-        cited = {'Rattle.nodes.specs.Columns': {'Columns', 'columns', 'Loads'} | ({'Stores'} if self.mut_nodes else set())}
+        cited = self.cites()
         for module, name in self.work.cited():
             cited.setdefault(module.replace('Rattle.%s.specs' % self.crate, self.specs(self.crate)), set()).add(name)
         lines = ['use %s.declared.%s.{%s}' % (self.specs(crate), path, name) for _, name, (crate, path) in self.types]
@@ -190,11 +194,14 @@ class Thin:
             text = 'fsep (%s) (%s)' % (p.said(), text)
         return text
 
+    def rest_last(self):
+        return '‵ (Rest-last ls c ws)'
+
     def kept(self):
         """What the walk ends with: the names of the entries, and the entries."""
         nodes = [('nodes-last', '‵ (fsep (finally T.the-row γ zs) (feq ℕ (length zs) n))')]
         clock = [('clock-obs', '‵ (fobs γ₁ (K.the-row .coded .code (u .clock)))'), ('clock-bor', '‵ (fbor κ₁ (Body (mem K.the-row) b₁ o₁ γ₁))')]
-        rest = [('rest', '‵ (Rest-last ls c ws)'), ('nodes-tok', '‵ (flft κ₀ q₀)')]
+        rest = [('rest', self.rest_last()), ('nodes-tok', '‵ (flft κ₀ q₀)')]
         return nodes * self.mut_nodes + clock * self.mut_clock + rest + [('clock-tok', '‵ (flft κ₁ q₁)')] * self.mut_clock + [('tokens', 'Tokens')]
 
     def exit_steps(self):
@@ -223,19 +230,13 @@ class Thin:
 
     def walk(self):
         w = Walk([x for j in range(self.count - 1, -1, -1) for x in ('_%d' % j, 'd%d' % j)] + ['tokens', 'owned'])
-        self.enters(w)
-        self.takes_apart(w)
-        if self.mut_clock:
-            self.opens_clock(w)
-        self.makes_columns(w)
-        self.loads(w)
-        self.works(w)
-        if self.mut_clock:
-            self.puts_clock(w)
-        if self.mut_nodes:
-            self.stores(w)
-        self.leaves(w)
+        for part in self.parts():
+            part(w)
         return w.text(' ' * 8)
+
+    def parts(self):
+        before, after = [self.opens_clock] * self.mut_clock, [self.puts_clock] * self.mut_clock + [self.stores] * self.mut_nodes
+        return [self.enters, self.takes_apart] + before + [self.makes_columns, self.loads, self.works] + after + [self.leaves]
 
     def values(self):
         return cons(['s', 'vptr b₁ o₁' if self.mut_clock else 'only (vals h)'] + [p.value for p in self.passed])
@@ -377,14 +378,7 @@ class Thin:
     def works(self, w):
         w.note('`%s`' % self.work.name)
         self.column_refs(w, self.to_work)
-        w.copy(w.field(1, 1), self.length, '(tt, record { fits = room .0 })')
-        if self.mut_clock:
-            w.copy('(load ! (from ! (hop ! (look ! %d refl) (stop !))) (look-raw ! %d refl))' % (w.at(2), w.at('clock-cell')), self.clock, '(LL.lawful K.the-type K′.the-laws 𝓤 H A W .typed h _ was .0)')
-        for p in self.passed:
-            if p.mut:
-                w.lend_on(p.local, p.ref, p.pair, p.fits)
-        w.say(w.take('rest') + 'owned ! K.the-row (Is K.the-row) (LL.makes K.the-type K′.the-plain 𝓤 H A) h _ was $ fjoin ! $ owned ! usize (Is usize) (uint-makes 𝓤 H A W w64) n _ (refl, room .0) $ fjoin ! $')
-        w.head(1, 'others')
+        self.takes_numbers(w)
         self.lend_columns(w, self.mut_nodes, 'c', 'full', 'ks', 'Tokens', 'Others', ['tokens', 'others'])
         w.entries[w.at('with')], w.entries[w.at('lent-cols')] = 'toks', 'own'
         at, row = '%s ks c' % self.spots, self.made_row
@@ -404,6 +398,21 @@ class Thin:
         else:
             self.columns_back(w, 'c', 'full', 'ks', 'Tokens')
             w.head(2, 'cols', 'tokens')
+        self.lands(w)
+
+    def takes_numbers(self, w):
+        """What the work takes after the columns."""
+        w.copy(w.field(1, 1), self.length, '(tt, record { fits = room .0 })')
+        if self.mut_clock:
+            w.copy('(load ! (from ! (hop ! (look ! %d refl) (stop !))) (look-raw ! %d refl))' % (w.at(2), w.at('clock-cell')), self.clock, '(LL.lawful K.the-type K′.the-laws 𝓤 H A W .typed h _ was .0)')
+        for p in self.passed:
+            if p.mut:
+                w.lend_on(p.local, p.ref, p.pair, p.fits)
+        w.say(w.take('rest') + 'owned ! K.the-row (Is K.the-row) (LL.makes K.the-type K′.the-plain 𝓤 H A) h _ was $ fjoin ! $ owned ! usize (Is usize) (uint-makes 𝓤 H A W w64) n _ (refl, room .0) $ fjoin ! $')
+        w.head(1, 'others')
+
+    def lands(self, w):
+        """What the work returns is in its local."""
         if self.made:
             w.land(self.result, '(LL.lawful U.the-type U′.the-laws 𝓤 H A W .typed u _ is .0)')
             w.say('rewrite ! %d (λ (y : Val). ‵ (fat fullShare U′.mir l%s 0 y)) (ap only (LL.tells U.the-type U′.the-laws u _ is)) refl $' % (w.at(self.result), low(self.result)))
@@ -445,23 +454,30 @@ class Thin:
         w.say('forget ! %d refl $' % w.at(self.unit))
         w.land(self.unit, '(nothing-lawful 𝓤 H A W .typed none′ _ isy .0)')
 
-    def leaves(self, w):
+    def returns(self, w):
         if self.made:
             w.copy(w.field(self.result, self.fields.index('answer')), 0, '(EL.lawful E.the-type E′.the-laws 𝓤 H A W tt .typed (u .answer) _ (is-answer u is) .0)')
         w.say('returns ! (look ! %d refl) $' % w.at(0))
+
+    def leaves(self, w):
+        self.returns(w)
         c, full = ('(after %s ks c ws)' % self.spots, 'full′') if self.mut_nodes else ('c', 'full')
         rooms = ' ⊛ '.join('‵ (froom (tyArray (tyInt %s) %d) l%s 0)' % (u, ROOM, low(a)) for a, u in zip(self.arrays, ('w64', 'w64', 'w64', 'w64', 'w32', 'w64')))
         w.say(w.take('cols') + 'use1 W (%s) (six-rooms 𝓤 H A W %d %s %s %s) $ split ! $ %s' % (rooms, ROOM, self.spots, c, full, 'move ! (1 ∷ []) $ split ! $ ' * 4))
         w.head(1, *('_%d' % self.arrays[i] for i in (4, 5, 3, 2, 1, 0)))
-        w.say(' '.join('forget ! %d refl $' % w.at(j) for j in range(self.count) if j not in self.arrays))
+        self.frees(w, [j for j in range(self.count) if j not in self.arrays])
+        stored = ' (zs .0) stored' if self.mut_nodes else ''
+        w.say('by ! (exits %s ks c loaded ws u works-for%s %s' % (self.spots, stored, '(is-answer u is)' if self.made else 'z is'))
+
+    def frees(self, w, held):
+        """The locals are freed, those that hold a value with it, and what is left is put in order."""
+        w.say(' '.join('forget ! %d refl $' % w.at(j) for j in held))
         text = ''
         for j in range(self.count):
             text += w.take('_%d' % j, 'd%d' % j) + 'free1 ! $ '
             w.head(2)
         w.say(text + 'free0 ! $')
         w.say('keep ! (%s) $' % cons(w.at(name) for name, _ in self.kept()))
-        stored = ' (zs .0) stored' if self.mut_nodes else ''
-        w.say('by ! (exits %s ks c loaded ws u works-for%s %s' % (self.spots, stored, '(is-answer u is)' if self.made else 'z is'))
 
     # ---- tuples over the columns
 
@@ -483,6 +499,7 @@ class Thin:
         return ['sliceVal (%s, 0) %d ∷ []' % (a, ROOM) for a in spots.split()]
 
 
-if len(sys.argv) != 3:
-    sys.exit(__doc__)
-printed('thin.tmpl', Thin(*sys.argv[1:]))
+if __name__ == '__main__':
+    if len(sys.argv) != 3:
+        sys.exit(__doc__)
+    printed('thin.tmpl', Thin(*sys.argv[1:]))

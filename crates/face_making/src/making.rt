@@ -3,9 +3,7 @@ ghost use Rattle.nodes.specs.Shown.{shown};
 ghost use Rattle.face_work.specs.Faces.{FaceEnable};
 use face_turns::making::enable_work;
 use nodes::Node;
-use nodes::ROOM;
-use nodes::load;
-use nodes::store;
+use nodes::laying::lay;
 use records::Clock;
 use wheel::Noted;
 
@@ -21,37 +19,8 @@ pub fn enable(
 ) -> Noted
     ensures { λ r. ⌜ FaceEnable (shown (now (heads .entry)) (now (tails .entry)) (now (nodes .entry)) (now (dated .entry)) (now (deadline .entry)) (now (stamp .entry)) (now (clock .entry))) (shown (now (heads .exit)) (now (tails .exit)) (now (nodes .exit)) (now (dated .exit)) (now (deadline .exit)) (now (stamp .exit)) (now (clock .exit))) r ⌝ }
 {
-    let mut next = [0usize; ROOM];
-    let mut prev = [0usize; ROOM];
-    let mut bucket = [0usize; ROOM];
-    let mut entry = [0usize; ROOM];
-    let mut generation = [0u32; ROOM];
-    let mut serial = [0u64; ROOM];
-    load(
-        nodes,
-        &mut next,
-        &mut prev,
-        &mut bucket,
-        &mut entry,
-        &mut generation,
-        &mut serial,
-    );
-    let turn = enable_work(
-        &mut next,
-        &mut prev,
-        &mut bucket,
-        &mut entry,
-        &mut generation,
-        &mut serial,
-        nodes.len(),
-        *clock,
-        heads,
-        tails,
-        dated,
-        deadline,
-        stamp,
-    );
+    let turn = enable_work(nodes.len(), *clock, heads, tails, dated, deadline, stamp);
     *clock = turn.clock;
-    store(nodes, &next, &prev, &bucket, &entry, &generation, &serial);
+    lay(nodes, turn.laid);
     turn.answer
 }

@@ -1,20 +1,13 @@
-// The work of enable. For proved code only, unchecked: it hands over columns that are long enough.
-ghost use Rattle.nodes.specs.Columns.{Holds, columns};
+// The work of enable, over what is lent beside the nodes: the nodes themselves are laid out in place, where it says so. No `requires`.
 ghost use Rattle.face_work.specs.Works.{EnableFor};
-use face_work::NotedTurn;
-use face_work::answers::timed;
-use face_work::refusals::crowded_enable;
+use face_work::LaidTurn;
 use records::Clock;
+use records::around::lay_out_around;
 use wheel::Noted;
+use wheel_refuse::around_refusal;
 
-// Enable: sentinels placed, the other slots free, each entry without a deadline, whatever the records held. Refuses (2, 3).
+// Enable over n nodes: sentinels placed, the other slots free, each entry without a deadline, whatever the records held. Refuses (2, 3).
 pub fn enable_work(
-    next: &mut [usize],
-    prev: &mut [usize],
-    bucket: &mut [usize],
-    entry: &mut [usize],
-    generation: &mut [u32],
-    serial: &mut [u64],
     n: usize,
     clock: Clock,
     heads: &mut [usize],
@@ -22,30 +15,29 @@ pub fn enable_work(
     dated: &mut [bool],
     deadline: &mut [u64],
     stamp: &mut [u32],
-) -> NotedTurn
-    requires { ⌜ Holds 4096 (columns (now next) (now prev) (now bucket) (now entry) (now generation) (now serial)) ⌝ }
-    ensures { λ r. ⌜ EnableFor (columns (now (next .entry)) (now (prev .entry)) (now (bucket .entry)) (now (entry .entry)) (now (generation .entry)) (now (serial .entry))) (columns (now (next .exit)) (now (prev .exit)) (now (bucket .exit)) (now (entry .exit)) (now (generation .exit)) (now (serial .exit))) n clock (now (heads .entry)) (now (tails .entry)) (now (heads .exit)) (now (tails .exit)) (now (dated .entry)) (now (deadline .entry)) (now (stamp .entry)) (now (dated .exit)) (now (deadline .exit)) (now (stamp .exit)) r ⌝ }
+) -> LaidTurn
+    ensures { λ r. ⌜ EnableFor n clock (now (heads .entry)) (now (tails .entry)) (now (heads .exit)) (now (tails .exit)) (now (dated .entry)) (now (deadline .entry)) (now (stamp .entry)) (now (dated .exit)) (now (deadline .exit)) (now (stamp .exit)) r ⌝ }
 {
-    if 4096 < n {
-        let no = crowded_enable(clock);
-        return NotedTurn {
+    let no = around_refusal(
+        clock.enabled,
+        heads.len(),
+        tails.len(),
+        n,
+        dated.len(),
+        deadline.len(),
+        stamp.len(),
+    );
+    if no != 0 {
+        return LaidTurn {
             clock,
             answer: Noted::Refused(no),
+            laid: false,
         };
     }
-    let told = wheel::enable(
-        heads,
-        tails,
-        &mut next[..n],
-        &mut prev[..n],
-        &mut bucket[..n],
-        &mut entry[..n],
-        &mut generation[..n],
-        &mut serial[..n],
-        dated,
-        deadline,
-        stamp,
-        clock,
-    );
-    timed(clock, told)
+    let after = lay_out_around(heads, tails, dated, deadline, stamp, n, clock);
+    LaidTurn {
+        clock: after,
+        answer: Noted::Done,
+        laid: true,
+    }
 }

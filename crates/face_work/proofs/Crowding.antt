@@ -9,11 +9,11 @@ use lib.ListN.{length, length-map}
 use Rattle.rules.specs.Wheel.{Call, Answer, refused}
 use Rattle.records.specs.declared.Clock.{Clock}
 use Rattle.records.specs.Records.{Records}
-use Rattle.wheel_refuse.specs.Refuse.{standing, enableRows}
+use Rattle.wheel_refuse.specs.Refuse.{standing}
 use Rattle.wheel.specs.Calls.{Meets}
 use Rattle.nodes.specs.declared.Node.{Node}
 use Rattle.nodes.specs.Shown.{shown}
-use Rattle.face_work.specs.Crowded.{crowdedNumber, crowdedEnable}
+use Rattle.face_work.specs.Crowded.{crowdedNumber}
 
 -- a refusal by a number that is not 0
 no : (c : Call) (rows : ℕ → Type 0) (R after : Records) (then : Answer) (k : ℕ) → rows k → (k ≡ 0 → ⊥) → Meets c rows R R (refused k) after then
@@ -50,21 +50,3 @@ module _ (h t : List ℕ) (ns : List Node) (d : List Bool) (l m : List ℕ) (c :
   pub crowd-no : (q : Call) (more : ℕ → Type 0) (after : Records) (then : Answer) (k : ℕ) → k ≡ crowdedNumber c
       → Meets q (standing crowd more) crowd crowd (refused k) after then
   crowd-no q more after then k e = no q (standing crowd more) crowd after then k (numbered more k e) (numbered-some k e)
-
-  -- nor may a wheel be enabled over them
-  numbered-enable : (k : ℕ) → k ≡ crowdedEnable c → enableRows crowd k
-  numbered-enable k e = go (c .enabled) refl e
-    where
-      go : (b : Bool) → b ≡ c .enabled → k ≡ cond b 2 3 → enableRows crowd k
-      go true on i = inl ((λ s. differ (sym s ∙ sym on)), i)
-      go false off i = inr (sym off, inl ((λ s. too-many (s .ranges .nodes-most)), i))
-
-  enable-some : (k : ℕ) → k ≡ crowdedEnable c → k ≡ 0 → ⊥
-  enable-some k e z = go (c .enabled) e
-    where
-      go : (b : Bool) → k ≡ cond b 2 3 → ⊥
-      go true i = omega (arith, i, z)
-      go false i = omega (arith, i, z)
-
-  pub crowd-enable-no : (q : Call) (after : Records) (then : Answer) (k : ℕ) → k ≡ crowdedEnable c → Meets q (enableRows crowd) crowd crowd (refused k) after then
-  crowd-enable-no q after then k e = no q (enableRows crowd) crowd after then k (numbered-enable k e) (enable-some k e)

@@ -17,7 +17,7 @@ use Rattle.wheel_plain.specs.declared.Counted.the-variants.{Refused as CountedR
 use Rattle.wheel_plain.specs.declared.Due.{Due}
 use Rattle.wheel_plain.specs.declared.Due.the-variants.{Refused as DueRefused}
 use Rattle.wheel.specs.Answers.{timedClock, scheduledClock, rescheduledClock, pulledClock}
-use Rattle.wheel.specs.Calls.{Meets, Enable, SetEntry, Schedule, Reschedule, Deschedule, Start, Pull, Abandon, ArmedCount, NextDue}
+use Rattle.wheel.specs.Calls.{Meets, SetEntry, Schedule, Reschedule, Deschedule, Start, Pull, Abandon, ArmedCount, NextDue}
 use Rattle.nodes.specs.Columns.{Columns, front}
 use Rattle.face_work.specs.declared.NotedTurn.{NotedTurn}
 use Rattle.face_work.specs.declared.answers.ScheduledTurn.{ScheduledTurn}
@@ -26,12 +26,12 @@ use Rattle.face_work.specs.declared.answers.PulledTurn.{PulledTurn}
 use Rattle.face_work.specs.declared.Scheduled.the-variants.{Refused as ScheduledRefused}
 use Rattle.face_work.specs.declared.Rescheduled.the-variants.{Refused as RescheduledRefused}
 use Rattle.face_work.specs.declared.Pulled.the-variants.{Refused as PulledRefused}
-use Rattle.face_work.specs.Crowded.{crowdedNumber, crowdedEnable}
+use Rattle.face_work.specs.Crowded.{crowdedNumber}
 use Rattle.face_work.specs.Turns.{TurnsTimed, TurnsScheduled, TurnsRescheduled, TurnsPulled}
-use Rattle.face_work.specs.Faces.{FaceEnable, FaceSetEntry, FaceSchedule, FaceReschedule, FaceDeschedule, FaceStart, FacePull, FaceAbandon, FaceArmedCount, FaceNextDue}
-use Rattle.face_work.specs.Works.{EnableFor, SetEntryFor, ScheduleFor, RescheduleFor, DescheduleFor, StartFor, PullFor, AbandonFor, ArmedCountFor, NextDueFor}
+use Rattle.face_work.specs.Faces.{FaceSetEntry, FaceSchedule, FaceReschedule, FaceDeschedule, FaceStart, FacePull, FaceAbandon, FaceArmedCount, FaceNextDue}
+use Rattle.face_work.specs.Works.{SetEntryFor, ScheduleFor, RescheduleFor, DescheduleFor, StartFor, PullFor, AbandonFor, ArmedCountFor, NextDueFor}
 use Rattle.face_work.proofs.Loading.{held, reads, writes, stays, stays-stored}
-use Rattle.face_work.proofs.Crowding.{crowd-no, crowd-enable-no}
+use Rattle.face_work.proofs.Crowding.{crowd-no}
 
 -- the same promise of an answer that says the same
 said : (c : Call) (rows : ℕ → Type 0) (R R′ after : Records) (then a b : Answer) → b ≡ a → Meets c rows R R′ a after then → Meets c rows R R′ b after then
@@ -114,26 +114,6 @@ module _ {k : Columns} {n : ℕ} {c : Clock} {hs ts : List ℕ} {d : List Bool} 
       record {
         meets =
             writes (λ R R′. FacePull R R′ (v .answer)) k n hs ts d l m c fits (w .clock-is) b
-            (record { meets = said _ _ _ _ _ _ _ _ (w .says) (s .meets) });
-      }
-
-  -- ---- enable
-  pub enable-crowded : {i : ℕ} {k′ : Columns} → 4096 < n → i ≡ crowdedEnable c
-      → EnableFor k k′ n c hs ts hs ts d l m d l m (record { clock = c; answer = NotedRefused i })
-  enable-crowded {i} many z =
-      record {
-        meets =
-            stays-stored (λ R R′. FaceEnable R R′ (NotedRefused i)) k n hs ts d l m c many
-            (λ ns f. record { meets = crowd-enable-no hs ts ns d l m c f _ _ _ i z });
-      }
-
-  pub enable-done : {v : NotedTurn} {r : Timed} {k′ j : Columns} {hs′ ts′ : List ℕ} {d′ : List Bool} {l′ m′ : List ℕ} → n ≤ 4096 → front n k′ ≡ j
-      → Enable (held hs ts (front n k) d l m c) (held hs′ ts′ j d′ l′ m′ (timedClock c r)) r → TurnsTimed c r v
-      → EnableFor k k′ n c hs ts hs′ ts′ d l m d′ l′ m′ v
-  enable-done {v} fits b s w =
-      record {
-        meets =
-            writes (λ R R′. FaceEnable R R′ (v .answer)) k n hs ts d l m c fits (w .clock-is) b
             (record { meets = said _ _ _ _ _ _ _ _ (w .says) (s .meets) });
       }
 

@@ -3,3 +3,4 @@ pub mod Turning
 pub mod Loading
 pub mod Crowding
 pub mod Facing
+pub mod Enabling

@@ -9,10 +9,12 @@ use Rattle.records.specs.declared.Clock.{Clock}
 use Rattle.nodes.specs.declared.Node.{Node}
 use Rattle.nodes.specs.Shown.{shown}
 use Rattle.nodes.specs.Columns.{Columns, Loads, Stores}
+use Rattle.nodes.specs.Laid.{Laid}
 use Rattle.wheel_plain.specs.declared.Noted.{Noted}
 use Rattle.wheel_plain.specs.declared.Counted.{Counted}
 use Rattle.wheel_plain.specs.declared.Due.{Due}
 use Rattle.face_work.specs.declared.NotedTurn.{NotedTurn}
+use Rattle.face_work.specs.declared.LaidTurn.{LaidTurn}
 use Rattle.face_work.specs.declared.answers.ScheduledTurn.{ScheduledTurn}
 use Rattle.face_work.specs.declared.answers.RescheduledTurn.{RescheduledTurn}
 use Rattle.face_work.specs.declared.answers.PulledTurn.{PulledTurn}
@@ -27,12 +29,6 @@ abbrev pub OfStored : Columns → Columns → ℕ → (List Node → List Node �
 OfStored c c′ n P = (ns ns′ : List Node) → length ns ≡ n → Loads ns c → Stores ns c′ ns′ → P ns ns′
 
 -- ---- calls that write nodes
-pub record EnableFor (c c′ : Columns) (n : ℕ) (clock : Clock) (heads tails heads′ tails′ : List ℕ) (dated : List Bool) (deadline stamp : List ℕ) (dated′ : List Bool)
-    (deadline′ stamp′ : List ℕ) (r : NotedTurn) : Type 0 where
-  pub meets :
-      OfStored c c′ n
-      (λ ns ns′. FaceEnable (shown heads tails ns dated deadline stamp clock) (shown heads′ tails′ ns′ dated′ deadline′ stamp′ (r .clock)) (r .answer))
-
 pub record ScheduleFor (c c′ : Columns) (n : ℕ) (clock : Clock) (heads tails heads′ tails′ : List ℕ) (dated : List Bool) (deadline stamp : List ℕ) (e h : ℕ)
     (r : ScheduledTurn) : Type 0 where
   pub meets :
@@ -56,6 +52,13 @@ pub record PullFor (c c′ : Columns) (n : ℕ) (clock : Clock) (heads tails hea
   pub meets :
       OfStored c c′ n
       (λ ns ns′. FacePull (shown heads tails ns dated deadline stamp clock) (shown heads′ tails′ ns′ dated deadline stamp (r .clock)) (r .answer))
+
+-- ---- enable, which reads no node: whatever n nodes are lent, and what they are once they are laid out in place, or left
+pub record EnableFor (n : ℕ) (clock : Clock) (heads tails heads′ tails′ : List ℕ) (dated : List Bool) (deadline stamp : List ℕ) (dated′ : List Bool)
+    (deadline′ stamp′ : List ℕ) (r : LaidTurn) : Type 0 where
+  pub meets :
+      (ns ns′ : List Node) → length ns ≡ n → Laid ns (r .laid) ns′ →
+      FaceEnable (shown heads tails ns dated deadline stamp clock) (shown heads′ tails′ ns′ dated′ deadline′ stamp′ (r .clock)) (r .answer)
 
 -- ---- calls that write no node: the lent ones stay
 pub record SetEntryFor (c : Columns) (n : ℕ) (clock : Clock) (heads tails : List ℕ) (dated : List Bool) (deadline stamp : List ℕ) (dated′ : List Bool)

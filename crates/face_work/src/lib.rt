@@ -1,4 +1,4 @@
-// The work of the wheel's calls over lent nodes, behind the functions that lend them: the fields of n lent nodes come as the first n numbers of six columns. Where more
+// The work of the wheel's calls over lent nodes, behind the functions that lend them: the fields of n lent nodes come as the first n numbers of six columns; to enable's, which reads none, comes n alone. Where more
 // than 4,096 are lent the columns say nothing of them, and the call is refused. For proved code only, unchecked: it hands over columns of 4,096 numbers or more.
 // What every work stands on, and start and abandon; the others are in face_asks, face_timers and face_turns.
 pub mod answers; // what the calls over columns answer, without the clock
@@ -41,4 +41,11 @@ pub enum Pulled {
 pub struct NotedTurn {
     pub clock: Clock,
     pub answer: Noted,
+}
+
+// What enable leaves beside the nodes: the same, and whether they are to be laid out.
+pub struct LaidTurn {
+    pub clock: Clock,
+    pub answer: Noted,
+    pub laid: bool,
 }

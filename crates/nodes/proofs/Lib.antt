@@ -6,4 +6,5 @@ pub mod Using
 pub mod Passing
 pub mod Lending
 pub mod Six
+pub mod InPlace
 mod CallsUsed

@@ -3,6 +3,8 @@
 ghost use mathlib.Core.Path.{_≡_};
 ghost use Rattle.nodes.specs.Columns.{columns, usedOf, Holds, Loads, Stores};
 
+pub mod laying; // the nodes as enabling lays them out, written in place
+
 // The length of a column: 72 more than are used, so that equal places of two columns do not fall into the same set of the cache.
 pub const ROOM: usize = 4168;
 

@@ -7,4 +7,6 @@ pub mod Setting
 pub mod Counting
 pub mod Clearing
 pub mod Seating
+pub mod Bare
+pub mod Ends
 pub mod Serving

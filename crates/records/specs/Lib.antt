@@ -8,3 +8,4 @@ pub mod Moments
 pub mod Counts
 pub mod Settings
 pub mod Layout
+pub mod Around

@@ -43,7 +43,7 @@ fn clear(entry: &mut [usize], generation: &mut [u32], serial: &mut [u64])
 }
 
 // Makes every entry one without a deadline, of generation 0.
-fn clear_entries(dated: &mut [bool], deadline: &mut [u64], generation: &mut [u32])
+pub fn clear_entries(dated: &mut [bool], deadline: &mut [u64], generation: &mut [u32])
     requires { ⌜ (length (now deadline) ≡ length (now dated)) × (length (now generation) ≡ length (now dated)) ⌝ }
     ensures { λ _. ⌜ ClearsEntries (now (dated .entry)) (now (deadline .entry)) (now (generation .entry)) (now (dated .exit)) (now (deadline .exit)) (now (generation .exit)) ⌝ }
 {
@@ -57,7 +57,7 @@ fn clear_entries(dated: &mut [bool], deadline: &mut [u64], generation: &mut [u32
 }
 
 // The clock of a wheel just enabled.
-fn enabled(clock: Clock, total: usize, nodes: usize, entries: usize) -> Clock
+pub fn enabled(clock: Clock, total: usize, nodes: usize, entries: usize) -> Clock
     ensures { λ r. ⌜ r ≡ enabledWith total nodes entries clock ⌝ }
 {
     let mut after = end(clock);

@@ -5,6 +5,7 @@
 pub mod payload; // the payload of a slot
 pub mod timers; // arming, disarming, rearming
 pub mod layout; // the records as enabling lays them out
+pub mod around; // all but the node records, as enabling lays them out
 pub mod settings; // setting an entry
 pub mod counts; // armed count, next due
 pub mod moments; // start, end, abandon

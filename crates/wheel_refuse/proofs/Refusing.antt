@@ -1,7 +1,7 @@
 -- Why each way out of the refusals is right, and what a call that is not refused may rely on. Assumes nothing.
 use Prim.Native.Nat.{ℕ, _-_, _*_, _^_, _≤_, _<_}
 use native.Mathlib.Omega.{arith}
-use mathlib.Core.Path.{_≡_, refl, sym, ap, _∙_}
+use mathlib.Core.Path.{_≡_, refl, sym, ap, subst, _∙_}
 use mathlib.Core.Logic.{_⊎_, inl, inr, ⊎-elim}
 use mathlib.Core.Bool.{Bool, true, false, false≢true, not}
 use mathlib.Core.List.{List}
@@ -14,13 +14,14 @@ use mir.Val.{Fits}
 use Rattle.links.specs.Chain.{none}
 use Rattle.links.specs.Lists.{homeOf}
 use Rattle.rules.specs.Geometry.{wheel01, buckets}
+use Rattle.rules.proofs.Cases.{same?}
 use Rattle.records.specs.declared.Clock.{Clock}
 use Rattle.records.specs.Records.{Records}
 use Rattle.wheel_sound.specs.Decides.{Decides}
 use Rattle.wheel_sound.specs.Clauses.{Ranges, EndsLengths, NodesLengths, EntriesLengths}
 use Rattle.wheel_sound.specs.Sound.{SoundWith, SoundRecords}
 use Rattle.wheel_refuse.specs.Lent.{lent}
-use Rattle.wheel_refuse.specs.Refuse.{unless, answered, roomy, Live, Lendable, IsLast, RefusesEnable, RefusesCount, RefusesClosed, RefusesOpen, RefusesSet, RefusesSchedule, RefusesHandle}
+use Rattle.wheel_refuse.specs.Refuse.{unless, answered, roomy, making, Live, Lendable, LendableAround, IsLast, RefusesEnable, RefusesAround, RefusesCount, RefusesClosed, RefusesOpen, RefusesSet, RefusesSchedule, RefusesHandle}
 use Rattle.wheel_refuse.proofs.Rows.{past, standing-stops, closed-stops, entered-stops, standing-past, closed-past}
 
 -- ---- standing: 1, 4
@@ -221,44 +222,69 @@ module _ (h t n p b ee g s : List ℕ) (d : List Bool) (l m : List ℕ) (c : Clo
   pub generation-index : x < length g
   generation-index = omega (arith, i, slices .lengths .nodes .next-len, slices .lengths .nodes .generation-len)
 
--- ---- enable: 2, 3
-module _ (h t n p b e g s : List ℕ) (d : List Bool) (l m : List ℕ) (c : Clock) where
-  pub enable-2 : c .enabled ≡ true → RefusesEnable (lent h t n p b e g s d l m c) 2
-  enable-2 i = record { by = inl ((λ j. false≢true (sym j ∙ i)), refl) }
+-- ---- enable, by numbers alone: 2, 3
+module _ (on : Bool) (h t n d l m : ℕ) where
+  pub around-2 : on ≡ true → RefusesAround on h t n d l m 2
+  around-2 i = record { by = inl ((λ j. false≢true (sym j ∙ i)), refl) }
 
-  module _ (i : c .enabled ≡ false) where
-    three : (Lendable (lent h t n p b e g s d l m c) → ⊥) → RefusesEnable (lent h t n p b e g s d l m c) 3
-    three f = record { by = inr (i, inl (f, refl)) }
+  module _ (i : on ≡ false) where
+    around-3 : (LendableAround h t n d l m → ⊥) → RefusesAround on h t n d l m 3
+    around-3 f = record { by = inr (i, inl (f, refl)) }
 
-    pub enable-ranges : (r : Bool) → Decides (Ranges 165 (length n) (length d)) r → not r ≡ true → RefusesEnable (lent h t n p b e g s d l m c) 3
-    enable-ranges r k f = three (λ z. false≢true (sym (not-true r f) ∙ k .complete (z .ranges)))
+    pub around-ranges : (r : Bool) → Decides (Ranges 165 n d) r → not r ≡ true → RefusesAround on h t n d l m 3
+    around-ranges r k f = around-3 (λ z. false≢true (sym (not-true r f) ∙ k .complete (z .ranges)))
 
-    pub enable-ends : (r : Bool) → Decides (EndsLengths 165 (length h) (length t)) r → not r ≡ true → RefusesEnable (lent h t n p b e g s d l m c) 3
-    enable-ends r k f = three (λ z. false≢true (sym (not-true r f) ∙ k .complete (z .ends)))
+    pub around-ends : (r : Bool) → Decides (EndsLengths 165 h t) r → not r ≡ true → RefusesAround on h t n d l m 3
+    around-ends r k f = around-3 (λ z. false≢true (sym (not-true r f) ∙ k .complete (z .ends)))
 
-    pub enable-nodes : (r : Bool) → Decides (NodesLengths (length n) (length n) (length p) (length b) (length e) (length g) (length s)) r → not r ≡ true → RefusesEnable (lent h t n p b e g s d l m c) 3
-    enable-nodes r k f = three (λ z. false≢true (sym (not-true r f) ∙ k .complete (z .nodes)))
+    pub around-entries : (r : Bool) → Decides (EntriesLengths d d l m) r → not r ≡ true → RefusesAround on h t n d l m 3
+    around-entries r k f = around-3 (λ z. false≢true (sym (not-true r f) ∙ k .complete (z .entries)))
 
-    pub enable-entries : (r : Bool) → Decides (EntriesLengths (length d) (length d) (length l) (length m)) r → not r ≡ true → RefusesEnable (lent h t n p b e g s d l m c) 3
-    enable-entries r k f = three (λ z. false≢true (sym (not-true r f) ∙ k .complete (z .entries)))
-
-    pub enable-0 : (u v w r : Bool) → Decides (Ranges 165 (length n) (length d)) u → not u ≡ false → Decides (EndsLengths 165 (length h) (length t)) v → not v ≡ false
-        → Decides (NodesLengths (length n) (length n) (length p) (length b) (length e) (length g) (length s)) w → not w ≡ false
-        → Decides (EntriesLengths (length d) (length d) (length l) (length m)) r → not r ≡ false → RefusesEnable (lent h t n p b e g s d l m c) 0
-    enable-0 u v w r a a′ y y′ k k′ o o′ =
+    pub around-0 : (u v r : Bool) → Decides (Ranges 165 n d) u → not u ≡ false → Decides (EndsLengths 165 h t) v → not v ≡ false
+        → Decides (EntriesLengths d d l m) r → not r ≡ false → RefusesAround on h t n d l m 0
+    around-0 u v r a a′ y y′ o o′ =
         record {
-          by = inr (
-            i,
-            inr (
-              record {
-                ranges = a .sound (not-false u a′);
-                ends = y .sound (not-false v y′);
-                nodes = k .sound (not-false w k′);
-                entries = o .sound (not-false r o′);
-              },
-              refl,
-            ),
-          );
+          by = inr (i, inr (record { ranges = a .sound (not-false u a′); ends = y .sound (not-false v y′); entries = o .sound (not-false r o′) }, refl));
         }
 
-pub ruleset enable-exits = (enable-2, enable-ranges, enable-ends, enable-nodes, enable-entries, enable-0)
+pub ruleset around-exits = (around-2, around-ranges, around-ends, around-entries, around-0)
+
+-- ---- enable: 2, 3
+module _ (h t n p b e g s : List ℕ) (d : List Bool) (l m : List ℕ) (c : Clock) (k : ℕ)
+    (f : RefusesAround (c .enabled) (length h) (length t) (length n) (length d) (length l) (length m) k) where
+  abbrev Given : Records
+  Given = lent h t n p b e g s d l m c
+
+  abbrev Same : Type 0
+  Same = NodesLengths (length n) (length n) (length p) (length b) (length e) (length g) (length s)
+
+  pub enable-stop : (k ≡ 0 → ⊥) → RefusesEnable Given k
+  enable-stop x = record { by = go (f .by) }
+    where
+      go : making (c .enabled) (LendableAround (length h) (length t) (length n) (length d) (length l) (length m)) answered k → making (c .enabled) (Lendable Given) answered k
+      go (inl u) = inl u
+      go (inr (i, inl (u, z))) = inr (i, inl ((λ y. u (record { ranges = y .ranges; ends = y .ends; entries = y .entries })), z))
+      go (inr (i, inr (u, z))) = absurd (x z)
+
+  around-past : k ≡ 0 → (c .enabled ≡ false) × LendableAround (length h) (length t) (length n) (length d) (length l) (length m)
+  around-past z =
+      let u = past 2 k (f .by) (λ i. omega (arith, z, i)) in
+      (u .0, past 3 k (u .1) (λ i. omega (arith, z, i)) .0)
+
+  pub enable-nodes : (r : Bool) → k ≡ 0 → Decides Same r → not r ≡ true → RefusesEnable Given 3
+  enable-nodes r z o x = record { by = inr (around-past z .0, inl ((λ y. false≢true (sym (not-true r x) ∙ o .complete (y .nodes))), refl)) }
+
+  pub enable-of : k ≡ 0 → Same → RefusesEnable Given 0
+  enable-of z y =
+      let u = around-past z in
+      record { by = inr (u .0, inr (record { ranges = u .1 .ranges; ends = u .1 .ends; nodes = y; entries = u .1 .entries }, refl)) }
+
+  pub enable-0 : (r : Bool) → k ≡ 0 → Decides Same r → not r ≡ false → RefusesEnable Given 0
+  enable-0 r z o x = enable-of z (o .sound (not-false r x))
+
+  -- where the node records are of one length, by the numbers alone
+  pub enable-around : Same → RefusesEnable Given k
+  enable-around y =
+      ⊎-elim (λ (z : k ≡ 0). subst (RefusesEnable Given) (sym z) (enable-of z y)) (λ (x : k ≡ 0 → ⊥). enable-stop x) (same? k 0)
+
+pub ruleset enable-exits = (enable-stop, enable-nodes, enable-0)

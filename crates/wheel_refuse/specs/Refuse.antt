@@ -59,13 +59,19 @@ pub record Lendable (R : Records) : Type 0 where
   pub entries :
       EntriesLengths (length (R .entries .dated)) (length (R .entries .dated)) (length (R .entries .deadline)) (length (R .entries .generation))
 
--- 2 "enabled already"
-abbrev pub making : Records → (ℕ → Type 0) → ℕ → Type 0
-making R more = unless (R .clock .enabled ≡ false) 2 (unless (Lendable R) 3 more)
+-- the same, but for the slices of the node records: of these there are so many
+pub record LendableAround (heads tails nodes dated deadline stamp : ℕ) : Type 0 where
+  pub ranges : Ranges (buckets wheel01) nodes dated
+  pub ends : EndsLengths (buckets wheel01) heads tails
+  pub entries : EntriesLengths dated dated deadline stamp
+
+-- 2 "enabled already"; 3 where what is lent is not so
+abbrev pub making : Bool → Type 0 → (ℕ → Type 0) → ℕ → Type 0
+making enabled lendable more = unless (enabled ≡ false) 2 (unless lendable 3 more)
 
 -- ---- the rows of each call (create has none)
 abbrev pub enableRows : Records → ℕ → Type 0
-enableRows R = making R answered
+enableRows R = making (R .clock .enabled) (Lendable R) answered
 
 abbrev pub setRows : Records → ℕ → ℕ → Type 0
 setRows R e = entered R e answered
@@ -92,6 +98,9 @@ countRows R = standing R answered
 -- ---- r is the number that the rows give
 pub record RefusesEnable (R : Records) (r : ℕ) : Type 0 where
   pub by : enableRows R r
+
+pub record RefusesAround (enabled : Bool) (heads tails nodes dated deadline stamp r : ℕ) : Type 0 where
+  pub by : making enabled (LendableAround heads tails nodes dated deadline stamp) answered r
 
 pub record RefusesSet (R : Records) (e r : ℕ) : Type 0 where
   pub by : setRows R e r

@@ -1,7 +1,7 @@
 // Which refusal applies: the lowest number of 01 whose row holds, or 0. Each stage adds its rows to those of the stage before. All read the records and change nothing.
 // No `requires`.
 ghost use Rattle.wheel_refuse.specs.Lent.{lent};
-ghost use Rattle.wheel_refuse.specs.Refuse.{IsLast, RefusesEnable, RefusesCount, RefusesClosed, RefusesOpen, RefusesSet, RefusesSchedule, RefusesHandle};
+ghost use Rattle.wheel_refuse.specs.Refuse.{IsLast, RefusesEnable, RefusesAround, RefusesCount, RefusesClosed, RefusesOpen, RefusesSet, RefusesSchedule, RefusesHandle};
 use links::NONE;
 use records::Clock;
 use wheel_sound::is_sound;
@@ -290,6 +290,33 @@ pub fn handle_refusal(
     0
 }
 
+// Enable, by numbers alone: 2, 3. It leaves out whether the slices of the node records are of one length.
+pub fn around_refusal(
+    enabled: bool,
+    heads: usize,
+    tails: usize,
+    nodes: usize,
+    dated: usize,
+    deadline: usize,
+    stamp: usize,
+) -> u64
+    ensures { λ r. ⌜ RefusesAround enabled heads tails nodes dated deadline stamp r ⌝ }
+{
+    if enabled {
+        return 2;
+    }
+    if !ranged(BUCKETS, nodes, dated) {
+        return 3;
+    }
+    if !ends_lent(BUCKETS, heads, tails) {
+        return 3;
+    }
+    if !entries_lent(dated, dated, deadline, stamp) {
+        return 3;
+    }
+    0
+}
+
 // Enable: 2, 3.
 pub fn enable_refusal(
     heads: &[usize],
@@ -307,14 +334,17 @@ pub fn enable_refusal(
 ) -> u64
     ensures { λ r. ⌜ RefusesEnable (lent (now (heads .entry)) (now (tails .entry)) (now (next .entry)) (now (prev .entry)) (now (bucket .entry)) (now (entry .entry)) (now (generation .entry)) (now (serial .entry)) (now (dated .entry)) (now (deadline .entry)) (now (stamp .entry)) clock) r ⌝ }
 {
-    if clock.enabled {
-        return 2;
-    }
-    if !ranged(BUCKETS, next.len(), dated.len()) {
-        return 3;
-    }
-    if !ends_lent(BUCKETS, heads.len(), tails.len()) {
-        return 3;
+    let no = around_refusal(
+        clock.enabled,
+        heads.len(),
+        tails.len(),
+        next.len(),
+        dated.len(),
+        deadline.len(),
+        stamp.len(),
+    );
+    if no != 0 {
+        return no;
     }
     if !nodes_lent(
         next.len(),
@@ -325,9 +355,6 @@ pub fn enable_refusal(
         generation.len(),
         serial.len(),
     ) {
-        return 3;
-    }
-    if !entries_lent(dated.len(), dated.len(), deadline.len(), stamp.len()) {
         return 3;
     }
     0

@@ -1,50 +1,23 @@
 -- `enable_refusal` meets its contract. Assumes nothing.
-use Rattle.wheel_refuse.proofs.Refusing.{enable-exits}
+use Rattle.wheel_refuse.proofs.Refusing.{enable-stop, enable-exits}
 use borrow.Author.Needs.{needs}
 use Rattle.wheel_refuse.proofs.enable_refusal.Statement.{statement}
 use Rattle.wheel_refuse.proofs.enable_refusal.Tie as tie
 
+around-refusal-requires : tie.Need-around-refusal-requires
+around-refusal-requires c κs = search needs
+
 returns : tie.Need-returns
-returns c = search enable-exits
-
-ranged-requires : tie.Need-ranged-requires
-ranged-requires c κs = search needs
-
-returns-2 : tie.Need-returns-2
-returns-2 c = search enable-exits
-
-ends-lent-requires : tie.Need-ends-lent-requires
-ends-lent-requires c κs = search needs
-
-returns-3 : tie.Need-returns-3
-returns-3 c = search enable-exits
+returns c = enable-stop _ _ _ _ _ _ _ _ _ _ _ _ _ (c .before .around-refusal .ensures) (c .if1 .taken)
 
 nodes-lent-requires : tie.Need-nodes-lent-requires
 nodes-lent-requires c κs = search needs
 
-returns-4 : tie.Need-returns-4
-returns-4 c = search enable-exits
+returns-2 : tie.Need-returns-2
+returns-2 c = search enable-exits
 
-entries-lent-requires : tie.Need-entries-lent-requires
-entries-lent-requires c κs = search needs
-
-returns-5 : tie.Need-returns-5
-returns-5 c = search enable-exits
-
-returns-6 : tie.Need-returns-6
-returns-6 c = search enable-exits
+returns-3 : tie.Need-returns-3
+returns-3 c = search enable-exits
 
 pub enable-refusal-spec : {M : Type 1} → statement M
-enable-refusal-spec =
-    tie.close
-    (tie.spec
-    returns
-    ranged-requires
-    returns-2
-    ends-lent-requires
-    returns-3
-    nodes-lent-requires
-    returns-4
-    entries-lent-requires
-    returns-5
-    returns-6)
+enable-refusal-spec = tie.close (tie.spec around-refusal-requires returns nodes-lent-requires returns-2 returns-3)
