@@ -1,3 +1,4 @@
 -- What the contracts over lent node structs cite. Assumes nothing.
 pub mod Shown
 pub mod Columns
+pub mod Blocks
