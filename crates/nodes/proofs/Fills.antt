@@ -1,7 +1,6 @@
 -- A list that is written from the front, one element a turn: what a loop `while i < n { xs[i] = f(i); i += 1 }` makes of it.
 --     fills f xs i     xs with f 0 … f (i − 1) at its first i places
 --     length-fills     it is as long as xs
---     fills-front      the front of a longer xs, once a field of each of ys is written there
 --     fills-field      a field of all of xs, once each is written with one that has the field from a longer ys
 -- Assumes nothing.
 use mathlib.Core.Path.{_≡_, refl, _∙_, ap}
@@ -21,12 +20,6 @@ length-fills f xs (suc i) = length-set (fills f xs i) i (f i) ∙ length-fills f
 shift : {X : Type 0} (f : ℕ → X) (x : X) (xs : List X) (i : ℕ) → fills f (x ∷ xs) (suc i) ≡ f zero ∷ fills (λ k. f (suc k)) xs i
 shift f x xs zero = refl
 shift f x xs (suc i) = ap (λ l. set l (suc i) (f (suc i))) (shift f x xs i)
-
-pub fills-front : {A X : Type 0} (g : A → X) (d : A) (ys : List A) (xs : List X) → length ys ≤ length xs → take (length ys) (fills (λ i. g (getD ys i d)) xs (length ys)) ≡ map g ys
-fills-front g d [] [] l = refl
-fills-front g d [] (x ∷ xs) l = refl
-fills-front g d (y ∷ ys) [] l = absurd (not-suc-le-zero l)
-fills-front g d (y ∷ ys) (x ∷ xs) l = ap (take (suc (length ys))) (shift (λ i. g (getD (y ∷ ys) i d)) x xs (length ys)) ∙ ap (λ l. g y ∷ l) (fills-front g d ys xs (le-of-suc-le-suc l))
 
 pub fills-field : {A X : Type 0} (g : A → X) (f : ℕ → A) (d : X) (ys : List X) (xs : List A) → ((i : ℕ) → g (f i) ≡ getD ys i d) → length xs ≤ length ys → map g (fills f xs (length xs)) ≡ take (length xs) ys
 fills-field g f d [] [] h l = refl

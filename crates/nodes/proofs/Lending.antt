@@ -1,4 +1,4 @@
--- A local array of numbers, `[u; n]`, lent whole to a call as a slice, for a lifetime of its own.
+-- A row of n numbers, of a local array `[u; n]` or of a slice that is opened, lent whole to a call as a slice, for a lifetime of its own.
 --     zeros-typed, zeros-row       the local holds `[0; n]`  ⊢  the row of some n numbers
 --     lends-row, row-back          the row  ⊢ ⇛  a `&mut` slice of it, its lifetime's token, and the lender's part; and back, at the last numbers
 --     shares-row, row-unshared     the row  ⊢ ⇛  a `&` slice of it, likewise; and back
@@ -36,9 +36,12 @@ use denote.Index.{row, whole-in, whole-out}
 use denote.Steps.{owned}
 use Rattle.nodes.proofs.Arrays.{row-of, whole-of}
 
--- a reference to the numbers xs of the local at b
+-- a reference to the numbers xs at (b, o); and of the local at b
+abbrev pub ref-at : ℕ → ℕ → GName → List ℕ → RefT (List ℕ)
+ref-at b o γ xs = record { ptr = (b, o); name = γ; now = xs }
+
 abbrev pub ref-to : ℕ → GName → List ℕ → RefT (List ℕ)
-ref-to b γ xs = record { ptr = (b, 0); name = γ; now = xs }
+ref-to b = ref-at b 0
 
 -- what a lent array stands under: a lifetime, and the name of its numbers
 pub record Lease : Type 0 where
@@ -52,8 +55,8 @@ module _ {M : Type 1} (𝓤 : URA M) (H : Heap 𝓤) (A : Atoms 𝓤) (W : Given
   abbrev R : RattleType
   R = UInt u
 
-  abbrev at-row : List ℕ → ℕ → SProp 𝓤
-  at-row xs b = sem 𝓤 H A (row R fullShare xs b 0)
+  abbrev at-row : List ℕ → ℕ → ℕ → SProp 𝓤
+  at-row xs b o = sem 𝓤 H A (row R fullShare xs b o)
 
   -- ---- `[0; n]`
   abbrev zeros : ℕ → Val
@@ -70,37 +73,37 @@ module _ {M : Type 1} (𝓤 : URA M) (H : Heap 𝓤) (A : Atoms 𝓤) (W : Given
     pub zeros-typed : (n : ℕ) → Holds (hasTy (tyArray (tyInt u) n) (zeros n)) × WT (zeros n)
     zeros-typed n = array-lawful 𝓤 H A W R (uint-lawful 𝓤 H A W u) n .typed (replicate n 0) _ (are-zeros n) .0
 
-    pub zeros-row : (n b : ℕ) → ent 𝓤 (H .at fullShare (tyArray (tyInt u) n) b 0 (zeros n)) (ex 𝓤 (λ (xs : List ℕ). guard 𝓤 (length xs ≡ n) (at-row xs b)))
+    pub zeros-row : (n b : ℕ) → ent 𝓤 (H .at fullShare (tyArray (tyInt u) n) b 0 (zeros n)) (ex 𝓤 (λ (xs : List ℕ). guard 𝓤 (length xs ≡ n) (at-row xs b 0)))
     zeros-row n b =
         qed W (‵ (fat fullShare (tyArray (tyInt u) n) b 0 (zeros n)) ∷ []) ∵
         owned ! (Array R n) (Is (Array R n)) (array-makes 𝓤 H A W R (uint-makes 𝓤 H A W u) n) (replicate n 0) _ (are-zeros n) $ move ! (1 ∷ 0 ∷ []) $
         use2 W (‵ (row R fullShare (replicate n 0) b 0)) (row-of 𝓤 H A W R n tt (replicate n 0) (zeros n) b) $
-        show ! (λ (xs : List ℕ). guard 𝓤 (length xs ≡ n) (at-row xs b)) (replicate n 0) $ check ! (length-replicate n 0) $ done !
+        show ! (λ (xs : List ℕ). guard 𝓤 (length xs ≡ n) (at-row xs b 0)) (replicate n 0) $ check ! (length-replicate n 0) $ done !
 
-  pub row-room : (n : ℕ) (xs : List ℕ) (b : ℕ) → length xs ≡ n → ent 𝓤 (at-row xs b) (H .room (tyArray (tyInt u) n) b 0)
+  pub row-room : (n : ℕ) (xs : List ℕ) (b : ℕ) → length xs ≡ n → ent 𝓤 (at-row xs b 0) (H .room (tyArray (tyInt u) n) b 0)
   row-room n xs b l =
       qed W (‵ (row R fullShare xs b 0) ∷ []) ∵
       use1 W (some (λ (v : Val). ‵ (fat fullShare (tyArray (tyInt u) n) b 0 v) ⊛ ‵ (Array R n .own xs (v ∷ [])))) (whole-of 𝓤 H A W R n xs l b) $ pick ! (λ v. split ! $
       use1 W (‵ (froom (tyArray (tyInt u) n) b 0)) (W .laws .at-room (tyArray (tyInt u) n) b 0 v) $ keep ! (0 ∷ []) $ done !)
 
-  module _ (n : ℕ) (room : Room R n) (ℓ : Lifetime) (xs : List ℕ) (b : ℕ) (l : length xs ≡ n) where
+  module _ (n : ℕ) (room : Room R n) (ℓ : Lifetime) (xs : List ℕ) (b o : ℕ) (l : length xs ≡ n) where
     -- ---- as `&mut`
     abbrev pub Lent : Lease → Item 𝓤
-    Lent w = ‵ (flft (lft-of w) fullShare) ⊛ ‵ (MutSlice ℓ (lft-of w) R .own (ref-to b (w .name) xs) (sliceVal (b, 0) n ∷ [])) ⊛ ‵ (flent (lft-of w) (Held R n b 0 (w .name)))
+    Lent w = ‵ (flft (lft-of w) fullShare) ⊛ ‵ (MutSlice ℓ (lft-of w) R .own (ref-at b o (w .name) xs) (sliceVal (b, o) n ∷ [])) ⊛ ‵ (flent (lft-of w) (Held R n b o (w .name)))
 
-    pub lends-row : ent 𝓤 (at-row xs b) (H .⇛ (ex 𝓤 (λ (w : Lease). mean 𝓤 H A (Lent w))))
+    pub lends-row : ent 𝓤 (at-row xs b o) (H .⇛ (ex 𝓤 (λ (w : Lease). mean 𝓤 H A (Lent w))))
     lends-row = subst (λ (m : ℕ). Room R m → Lending m) l lends room
       where
         at-length : ℕ → Lease → SProp 𝓤
-        at-length m w = mean 𝓤 H A (‵ (flft (lft-of w) fullShare) ⊛ ‵ (MutSlice ℓ (lft-of w) R .own (ref-to b (w .name) xs) (sliceVal (b, 0) m ∷ [])) ⊛ ‵ (flent (lft-of w) (Held R m b 0 (w .name))))
+        at-length m w = mean 𝓤 H A (‵ (flft (lft-of w) fullShare) ⊛ ‵ (MutSlice ℓ (lft-of w) R .own (ref-at b o (w .name) xs) (sliceVal (b, o) m ∷ [])) ⊛ ‵ (flent (lft-of w) (Held R m b o (w .name))))
 
         Lending : ℕ → Type 1
-        Lending m = ent 𝓤 (at-row xs b) (H .⇛ (ex 𝓤 (at-length m)))
+        Lending m = ent 𝓤 (at-row xs b o) (H .⇛ (ex 𝓤 (at-length m)))
 
         lends : Room R (length xs) → Lending (length xs)
         lends g =
-            qed W (‵ (row R fullShare xs b 0) ∷ []) ∵ updating ! $ use1 W (‵ (cells (mem R) xs b 0)) (whole-in 𝓤 H A W R xs b 0) $ lft-new ! tt (λ α. move ! (1 ∷ []) $
-            use1 W (later (some (λ (γ : GName). ‵ (MutSlice ℓ (α ∷ []) R .own (ref-to b γ xs) (sliceVal (b, 0) (length xs) ∷ [])) ⊛ ‵ (flent (α ∷ []) (Held R (length xs) b 0 γ))))) (lends-slice 𝓤 H A W R ℓ (α ∷ []) xs b 0 g) $
+            qed W (‵ (row R fullShare xs b o) ∷ []) ∵ updating ! $ use1 W (‵ (cells (mem R) xs b o)) (whole-in 𝓤 H A W R xs b o) $ lft-new ! tt (λ α. move ! (1 ∷ []) $
+            use1 W (later (some (λ (γ : GName). ‵ (MutSlice ℓ (α ∷ []) R .own (ref-at b o γ xs) (sliceVal (b, o) (length xs) ∷ [])) ⊛ ‵ (flent (α ∷ []) (Held R (length xs) b o γ))))) (lends-slice 𝓤 H A W R ℓ (α ∷ []) xs b o g) $
             await ! tt $ pick ! (λ γ. split ! $ move ! (2 ∷ 0 ∷ 1 ∷ []) $ at-once ! $ show ! (at-length (length xs)) (record { life = α; name = γ }) $ done !))
 
     -- what a call says of it at exit: its last numbers, as many
@@ -108,34 +111,34 @@ module _ {M : Type 1} (𝓤 : URA M) (H : Heap 𝓤) (A : Atoms 𝓤) (W : Given
     Last w zs = fsep (finally R (w .name) zs) (feq ℕ (length zs) (length xs))
 
     pub row-back : (w : Lease) (zs : List ℕ)
-        → ent 𝓤 (sep 𝓤 (A .lft (lft-of w) fullShare) (sep 𝓤 (A .lent (lft-of w) (Held R n b 0 (w .name))) (sem 𝓤 H A (Last w zs)))) (H .⇛ (guard 𝓤 (length zs ≡ n) (at-row zs b)))
+        → ent 𝓤 (sep 𝓤 (A .lft (lft-of w) fullShare) (sep 𝓤 (A .lent (lft-of w) (Held R n b o (w .name))) (sem 𝓤 H A (Last w zs)))) (H .⇛ (guard 𝓤 (length zs ≡ n) (at-row zs b o)))
     row-back w zs =
-        qed W (‵ (flft (lft-of w) fullShare) ∷ ‵ (flent (lft-of w) (Held R n b 0 (w .name))) ∷ ‵ (Last w zs) ∷ []) ∵ updating ! $ lft-end ! tt $ move ! (2 ∷ []) $ fsplit ! $ move ! (2 ∷ 3 ∷ 0 ∷ []) $
-        use3 W (later (‵ (Arr (mem R) n .lies zs b 0))) (slice-back 𝓤 H A W R (lft-of w) (w .name) zs n b 0) $ await ! tt $ fsplit ! $ drop ! $ use1 W (‵ (row R fullShare zs b 0)) (whole-out 𝓤 H A W R zs b 0) $
+        qed W (‵ (flft (lft-of w) fullShare) ∷ ‵ (flent (lft-of w) (Held R n b o (w .name))) ∷ ‵ (Last w zs) ∷ []) ∵ updating ! $ lft-end ! tt $ move ! (2 ∷ []) $ fsplit ! $ move ! (2 ∷ 3 ∷ 0 ∷ []) $
+        use3 W (later (‵ (Arr (mem R) n .lies zs b o))) (slice-back 𝓤 H A W R (lft-of w) (w .name) zs n b o) $ await ! tt $ fsplit ! $ drop ! $ use1 W (‵ (row R fullShare zs b o)) (whole-out 𝓤 H A W R zs b o) $
         move ! (1 ∷ []) $ feqL ! (λ e. at-once ! $ check ! (e ∙ l) $ done !)
 
     -- ---- as `&`
     abbrev pub Shared : Lease → Item 𝓤
-    Shared w = ‵ (flft (lft-of w) fullShare) ⊛ ‵ (ShrSlice ℓ (lft-of w) R .own (ref-to b (w .name) xs) (sliceVal (b, 0) n ∷ [])) ⊛ ‵ (flent (lft-of w) (arr-parts (shares R) n .part fullShare xs b 0))
+    Shared w = ‵ (flft (lft-of w) fullShare) ⊛ ‵ (ShrSlice ℓ (lft-of w) R .own (ref-at b o (w .name) xs) (sliceVal (b, o) n ∷ [])) ⊛ ‵ (flent (lft-of w) (arr-parts (shares R) n .part fullShare xs b o))
 
-    pub shares-row : ent 𝓤 (at-row xs b) (H .⇛ (ex 𝓤 (λ (w : Lease). mean 𝓤 H A (Shared w))))
+    pub shares-row : ent 𝓤 (at-row xs b o) (H .⇛ (ex 𝓤 (λ (w : Lease). mean 𝓤 H A (Shared w))))
     shares-row = subst (λ (m : ℕ). Room R m → Sharing m) l shared room
       where
         at-length : ℕ → Lease → SProp 𝓤
-        at-length m w = mean 𝓤 H A (‵ (flft (lft-of w) fullShare) ⊛ ‵ (ShrSlice ℓ (lft-of w) R .own (ref-to b (w .name) xs) (sliceVal (b, 0) m ∷ [])) ⊛ ‵ (flent (lft-of w) (arr-parts (shares R) m .part fullShare xs b 0)))
+        at-length m w = mean 𝓤 H A (‵ (flft (lft-of w) fullShare) ⊛ ‵ (ShrSlice ℓ (lft-of w) R .own (ref-at b o (w .name) xs) (sliceVal (b, o) m ∷ [])) ⊛ ‵ (flent (lft-of w) (arr-parts (shares R) m .part fullShare xs b o)))
 
         Sharing : ℕ → Type 1
-        Sharing m = ent 𝓤 (at-row xs b) (H .⇛ (ex 𝓤 (at-length m)))
+        Sharing m = ent 𝓤 (at-row xs b o) (H .⇛ (ex 𝓤 (at-length m)))
 
         shared : Room R (length xs) → Sharing (length xs)
         shared g =
-            qed W (‵ (row R fullShare xs b 0) ∷ []) ∵ updating ! $ lft-new ! tt (λ α. move ! (1 ∷ []) $ feqI ! ℕ (length xs) (length xs) refl $ fjoin ! $
-            use1 W (later (some (λ (γ : GName). ‵ (ShrSlice ℓ (α ∷ []) R .own (ref-to b γ xs) (sliceVal (b, 0) (length xs) ∷ [])) ⊛ ‵ (flent (α ∷ []) (arr-parts (shares R) (length xs) .part fullShare xs b 0))))) (lends-shr-slice 𝓤 H A W R ℓ (α ∷ []) fullShare xs b 0 g) $
+            qed W (‵ (row R fullShare xs b o) ∷ []) ∵ updating ! $ lft-new ! tt (λ α. move ! (1 ∷ []) $ feqI ! ℕ (length xs) (length xs) refl $ fjoin ! $
+            use1 W (later (some (λ (γ : GName). ‵ (ShrSlice ℓ (α ∷ []) R .own (ref-at b o γ xs) (sliceVal (b, o) (length xs) ∷ [])) ⊛ ‵ (flent (α ∷ []) (arr-parts (shares R) (length xs) .part fullShare xs b o))))) (lends-shr-slice 𝓤 H A W R ℓ (α ∷ []) fullShare xs b o g) $
             await ! tt $ pick ! (λ γ. split ! $ move ! (2 ∷ 0 ∷ 1 ∷ []) $ at-once ! $ show ! (at-length (length xs)) (record { life = α; name = γ }) $ done !))
 
-    pub row-unshared : (w : Lease) → ent 𝓤 (sep 𝓤 (A .lft (lft-of w) fullShare) (A .lent (lft-of w) (arr-parts (shares R) n .part fullShare xs b 0))) (H .⇛ (at-row xs b))
+    pub row-unshared : (w : Lease) → ent 𝓤 (sep 𝓤 (A .lft (lft-of w) fullShare) (A .lent (lft-of w) (arr-parts (shares R) n .part fullShare xs b o))) (H .⇛ (at-row xs b o))
     row-unshared w =
-        qed W (‵ (flft (lft-of w) fullShare) ∷ ‵ (flent (lft-of w) (arr-parts (shares R) n .part fullShare xs b 0)) ∷ []) ∵ updating ! $ lft-end ! tt $ lent-back ! tt $ fsplit ! $ drop ! $ at-once ! $ done !
+        qed W (‵ (flft (lft-of w) fullShare) ∷ ‵ (flent (lft-of w) (arr-parts (shares R) n .part fullShare xs b o)) ∷ []) ∵ updating ! $ lft-end ! tt $ lent-back ! tt $ fsplit ! $ drop ! $ at-once ! $ done !
 
 module _ {M : Type 1} {𝓤 : URA M} {H : Heap 𝓤} {A : Atoms 𝓤} {K : Type 0} {W : Given 𝓤 H A} {Γ : List (Item 𝓤)} {E : Env 𝓤 H} where
   pub length-lit : K → {u : Width} {n : ℕ} → Fits u n → Opd K W Γ E (intBig u n) (vint u n)

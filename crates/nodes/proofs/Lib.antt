@@ -1,6 +1,8 @@
 -- What the proofs of this crate share. Assumes nothing.
 pub mod Counts
 pub mod Fills
+mod Written
+mod Reading
 pub mod Arrays
 pub mod Using
 pub mod Passing
@@ -8,3 +10,5 @@ pub mod Lending
 pub mod Six
 pub mod InPlace
 mod CallsUsed
+mod CallsEnd
+mod CallsReader

@@ -94,7 +94,7 @@ module _ {M : Type 1} (𝓤 : URA M) (H : Heap 𝓤) (A : Atoms 𝓤) (W : Given
     lends-before : ent 𝓤 (mean 𝓤 H A (‵ (row (UInt u) fullShare xs b 0) ⊛ T ⊛ (‵ P ⊛ ‵ Q))) (H .⇛ (ex 𝓤 (λ (w : Lease). mean 𝓤 H A (before w))))
     lends-before =
         qed W (‵ (row (UInt u) fullShare xs b 0) ∷ T ∷ (‵ P ⊛ ‵ Q) ∷ []) ∵ updating ! $
-        use1 W (later (some (λ (w : Lease). ‵ (flft (lft-of w) fullShare) ⊛ ‵ (MutSlice (named 0) (lft-of w) (UInt u) .own (ref-to b (w .name) xs) (sliceVal (b, 0) n ∷ [])) ⊛ ‵ (flent (lft-of w) (Held (UInt u) n b 0 (w .name)))))) (lends-row 𝓤 H A W u n room (named 0) xs b l) $ await ! tt $ pick ! (λ w.
+        use1 W (later (some (λ (w : Lease). ‵ (flft (lft-of w) fullShare) ⊛ ‵ (MutSlice (named 0) (lft-of w) (UInt u) .own (ref-to b (w .name) xs) (sliceVal (b, 0) n ∷ [])) ⊛ ‵ (flent (lft-of w) (Held (UInt u) n b 0 (w .name)))))) (lends-row 𝓤 H A W u n room (named 0) xs b 0 l) $ await ! tt $ pick ! (λ w.
         -- [the token, the slice and the lender's part; T; P and Q]
         split ! $ move ! (1 ∷ []) $ split ! $ move ! (4 ∷ []) $ split ! $
         -- [P; Q; the slice; the lender's part; the token; T]
@@ -106,7 +106,7 @@ module _ {M : Type 1} (𝓤 : URA M) (H : Heap 𝓤) (A : Atoms 𝓤) (W : Given
     shares-before : ent 𝓤 (mean 𝓤 H A (‵ (row (UInt u) fullShare xs b 0) ⊛ T ⊛ (‵ P ⊛ ‵ Q))) (H .⇛ (ex 𝓤 (λ (w : Lease). mean 𝓤 H A (seen-before w))))
     shares-before =
         qed W (‵ (row (UInt u) fullShare xs b 0) ∷ T ∷ (‵ P ⊛ ‵ Q) ∷ []) ∵ updating ! $
-        use1 W (later (some (λ (w : Lease). ‵ (flft (lft-of w) fullShare) ⊛ ‵ (ShrSlice (named 0) (lft-of w) (UInt u) .own (ref-to b (w .name) xs) (sliceVal (b, 0) n ∷ [])) ⊛ ‵ (flent (lft-of w) (arr-parts (shares (UInt u)) n .part fullShare xs b 0))))) (shares-row 𝓤 H A W u n room (named 0) xs b l) $ await ! tt $ pick ! (λ w.
+        use1 W (later (some (λ (w : Lease). ‵ (flft (lft-of w) fullShare) ⊛ ‵ (ShrSlice (named 0) (lft-of w) (UInt u) .own (ref-to b (w .name) xs) (sliceVal (b, 0) n ∷ [])) ⊛ ‵ (flent (lft-of w) (arr-parts (shares (UInt u)) n .part fullShare xs b 0))))) (shares-row 𝓤 H A W u n room (named 0) xs b 0 l) $ await ! tt $ pick ! (λ w.
         split ! $ move ! (1 ∷ []) $ split ! $ move ! (4 ∷ []) $ split ! $
         move ! (3 ∷ 1 ∷ []) $ fjoin ! $ move ! (2 ∷ 1 ∷ []) $ fjoin ! $ move ! (2 ∷ 3 ∷ []) $ join ! $ at-once ! $ show ! (λ (v : Lease). mean 𝓤 H A (seen-before v)) w $ done !)
 
@@ -117,7 +117,7 @@ module _ {M : Type 1} (𝓤 : URA M) (H : Heap 𝓤) (A : Atoms 𝓤) (W : Given
         qed W ((‵ (flft (lft-of w) fullShare) ⊛ T) ∷ ‵ (fsep (flent (lft-of w) (Held (UInt u) n b 0 (w .name))) Q) ∷ ‵ (fsep (fsep (finally (UInt u) (w .name) zs) (feq ℕ (length zs) (length xs))) P) ∷ []) ∵ updating ! $
         split ! $ move ! (2 ∷ []) $ fsplit ! $ move ! (4 ∷ []) $ fsplit ! $
         -- [what is said at exit; P; the lender's part; Q; the token; T]
-        move ! (4 ∷ 2 ∷ 0 ∷ []) $ use3 W (later (given (length zs ≡ n) (‵ (row (UInt u) fullShare zs b 0)))) (row-back 𝓤 H A W u n room (named 0) xs b l w zs) $ await ! tt $ learn ! (λ e.
+        move ! (4 ∷ 2 ∷ 0 ∷ []) $ use3 W (later (given (length zs ≡ n) (‵ (row (UInt u) fullShare zs b 0)))) (row-back 𝓤 H A W u n room (named 0) xs b 0 l w zs) $ await ! tt $ learn ! (λ e.
         -- [the row; P; Q; T]
         at-once ! $ check ! e $ move ! (3 ∷ 2 ∷ 1 ∷ []) $ done !)
 
@@ -127,7 +127,7 @@ module _ {M : Type 1} (𝓤 : URA M) (H : Heap 𝓤) (A : Atoms 𝓤) (W : Given
     unshared-before w =
         qed W ((‵ (flft (lft-of w) fullShare) ⊛ T) ∷ ‵ (fsep (flent (lft-of w) (arr-parts (shares (UInt u)) n .part fullShare xs b 0)) Q) ∷ []) ∵ updating ! $
         split ! $ move ! (2 ∷ []) $ fsplit ! $ move ! (2 ∷ 0 ∷ []) $
-        use2 W (later (‵ (row (UInt u) fullShare xs b 0))) (row-unshared 𝓤 H A W u n room (named 0) xs b l w) $ await ! tt $ at-once ! $ move ! (2 ∷ 1 ∷ []) $ done !
+        use2 W (later (‵ (row (UInt u) fullShare xs b 0))) (row-unshared 𝓤 H A W u n room (named 0) xs b 0 l w) $ await ! tt $ at-once ! $ move ! (2 ∷ 1 ∷ []) $ done !
 
   module _ (n b₁ b₂ b₃ b₄ b₅ b₆ : ℕ) (room₈ : Room (UInt w64) n) (room₄ : Room (UInt w32) n) (c : Columns) (full : Full n c) (T : Item 𝓤) (P : Fml) where
     pub lends-six : ent 𝓤 (mean 𝓤 H A (‵ (Rows n b₁ b₂ b₃ b₄ b₅ b₆ c) ⊛ T ⊛ ‵ P)) (H .⇛ (ex 𝓤 (λ (ws : Leases). mean 𝓤 H A (Tokens ws T ⊛ ‵ (Owned n b₁ b₂ b₃ b₄ b₅ b₆ ws c P) ⊛ ‵ (Lenders n b₁ b₂ b₃ b₄ b₅ b₆ ws)))))

@@ -2,3 +2,4 @@
 pub mod Shown
 pub mod Columns
 pub mod Laid
+pub mod Blocks

@@ -175,9 +175,9 @@ module _ {M : Type 1} (𝓤 : URA M) (H : Heap 𝓤) (A : Atoms 𝓤) (W : Given
     abbrev Left : Out → SProp 𝓤
     Left = afterBlock 𝓤 H (afterSeq 𝓤 H (Wp 𝓤 H C Λ E mir.t-5 (atReturn 𝓤 H E Post)) (atReturn 𝓤 H E Post))
 
-    more : (i : ℕ) (X : SProp 𝓤) → i < m → ent 𝓤 (⋆ 𝓤 H A (At (suc i))) X → ent 𝓤 (⋆ 𝓤 H A (At i)) (Wp 𝓤 H C Λ E mir.turn-1 (afterTurn 𝓤 H X Left))
+    more : (i : ℕ) (X : SProp 𝓤) → 0 ≤ i → i < m → ent 𝓤 (⋆ 𝓤 H A (At (suc i))) X → ent 𝓤 (⋆ 𝓤 H A (At i)) (Wp 𝓤 H C Λ E mir.turn-1 (afterTurn 𝓤 H X Left))
     unfolding afterTurn
-    more i X l k =
+    more i X _ l k =
         qed W (At i) ∵ exec ! C Λ E mir.turn-1 (anyQ (afterTurn 𝓤 H X Left)) $
         assigns ! (bin ! (load ! (from ! (stop !)) (look ! 7 refl)) (load ! (from ! (stop !)) (look ! 37 refl)) tt) (from ! (stop !)) (init ! 8 refl (tt, tt)) $
         rewrite ! 8 (λ (t : Bool). ‵ (fat fullShare tyBool l₁₁ 0 (vbool t))) (yes-less i m l) refl $ stays ! (load ! (from ! (stop !)) (look ! 8 refl)) $
@@ -311,8 +311,8 @@ module _ {M : Type 1} (𝓤 : URA M) (H : Heap 𝓤) (A : Atoms 𝓤) (W : Given
         move ! (23 ∷ 19 ∷ []) $ looks-slice ! tt u64 (Is u64) (shows 𝓤 H A u64) (uint-vals w64) (uint-tells w64) (uint-copy 𝓤 H A W w64) (c₆ .now) (c₆ .ptr .0) (c₆ .ptr .1) (λ s₆.
         first ! $ blocks ! $
         keep ! (18 ∷ 15 ∷ 12 ∷ 9 ∷ 6 ∷ 3 ∷ 0 ∷ 82 ∷ 78 ∷ 76 ∷ 74 ∷ 72 ∷ 70 ∷ 68 ∷ 66 ∷ 64 ∷ 62 ∷ 60 ∷ 58 ∷ 56 ∷ 54 ∷ 52 ∷ 50 ∷ 48 ∷ 46 ∷ 44 ∷ 42 ∷ 40 ∷ 38 ∷ 36 ∷ 98 ∷ 96 ∷ 94 ∷ 92 ∷ 90 ∷ 88 ∷ 86 ∷ 84 ∷ 100 ∷ 80 ∷ 19 ∷ 20 ∷ 21 ∷ 16 ∷ 17 ∷ 35 ∷ 34 ∷ 13 ∷ 14 ∷ 33 ∷ 32 ∷ 10 ∷ 11 ∷ 31 ∷ 30 ∷ 7 ∷ 8 ∷ 29 ∷ 28 ∷ 4 ∷ 5 ∷ 27 ∷ 26 ∷ 1 ∷ 2 ∷ 24 ∷ 23 ∷ 101 ∷ 99 ∷ 97 ∷ 95 ∷ 93 ∷ 91 ∷ 89 ∷ 87 ∷ 85 ∷ 83 ∷ 81 ∷ 79 ∷ 77 ∷ 75 ∷ 73 ∷ 71 ∷ 69 ∷ 67 ∷ 65 ∷ 63 ∷ 61 ∷ 59 ∷ 57 ∷ 55 ∷ 53 ∷ 51 ∷ 49 ∷ 47 ∷ 45 ∷ 43 ∷ 41 ∷ 39 ∷ 37 ∷ []) $
-        by ! (counts 𝓤 H (W .laws) 𝓣 _ mir.turn-1 (Left 𝓣 s₁ s₂ s₃ s₄ s₅ s₆ l₀ l₁ l₂ l₃ l₄ l₅ l₆ l₇ l₈ l₉ l₁₀ l₁₁ l₁₂ l₁₃ l₁₄ l₁₅ l₁₆ l₁₇ l₁₈ l₁₉ l₂₀ l₂₁ l₂₂ l₂₃ l₂₄ l₂₅ l₂₆ l₂₇ l₂₈ l₂₉ l₃₀ l₃₁ l₃₂) m (λ i. ⋆ 𝓤 H A (At 𝓣 s₁ s₂ s₃ s₄ s₅ s₆ l₀ l₁ l₂ l₃ l₄ l₅ l₆ l₇ l₈ l₉ l₁₀ l₁₁ l₁₂ l₁₃ l₁₄ l₁₅ l₁₆ l₁₇ l₁₈ l₁₉ l₂₀ l₂₁ l₂₂ l₂₃ l₂₄ l₂₅ l₂₆ l₂₇ l₂₈ l₂₉ l₃₀ l₃₁ l₃₂ i))
-        (more 𝓣 s₁ s₂ s₃ s₄ s₅ s₆ l₀ l₁ l₂ l₃ l₄ l₅ l₆ l₇ l₈ l₉ l₁₀ l₁₁ l₁₂ l₁₃ l₁₄ l₁₅ l₁₆ l₁₇ l₁₈ l₁₉ l₂₀ l₂₁ l₂₂ l₂₃ l₂₄ l₂₅ l₂₆ l₂₇ l₂₈ l₂₉ l₃₀ l₃₁ l₃₂) (last 𝓣 s₁ s₂ s₃ s₄ s₅ s₆ l₀ l₁ l₂ l₃ l₄ l₅ l₆ l₇ l₈ l₉ l₁₀ l₁₁ l₁₂ l₁₃ l₁₄ l₁₅ l₁₆ l₁₇ l₁₈ l₁₉ l₂₀ l₂₁ l₂₂ l₂₃ l₂₄ l₂₅ l₂₆ l₂₇ l₂₈ l₂₉ l₃₀ l₃₁ l₃₂)))))))))))))))))))))))))))))))))))))))))))))
+        by ! (counts 𝓤 H (W .laws) 𝓣 _ mir.turn-1 (Left 𝓣 s₁ s₂ s₃ s₄ s₅ s₆ l₀ l₁ l₂ l₃ l₄ l₅ l₆ l₇ l₈ l₉ l₁₀ l₁₁ l₁₂ l₁₃ l₁₄ l₁₅ l₁₆ l₁₇ l₁₈ l₁₉ l₂₀ l₂₁ l₂₂ l₂₃ l₂₄ l₂₅ l₂₆ l₂₇ l₂₈ l₂₉ l₃₀ l₃₁ l₃₂) 0 m (λ i. ⋆ 𝓤 H A (At 𝓣 s₁ s₂ s₃ s₄ s₅ s₆ l₀ l₁ l₂ l₃ l₄ l₅ l₆ l₇ l₈ l₉ l₁₀ l₁₁ l₁₂ l₁₃ l₁₄ l₁₅ l₁₆ l₁₇ l₁₈ l₁₉ l₂₀ l₂₁ l₂₂ l₂₃ l₂₄ l₂₅ l₂₆ l₂₇ l₂₈ l₂₉ l₃₀ l₃₁ l₃₂ i))
+        (more 𝓣 s₁ s₂ s₃ s₄ s₅ s₆ l₀ l₁ l₂ l₃ l₄ l₅ l₆ l₇ l₈ l₉ l₁₀ l₁₁ l₁₂ l₁₃ l₁₄ l₁₅ l₁₆ l₁₇ l₁₈ l₁₉ l₂₀ l₂₁ l₂₂ l₂₃ l₂₄ l₂₅ l₂₆ l₂₇ l₂₈ l₂₉ l₃₀ l₃₁ l₃₂) (last 𝓣 s₁ s₂ s₃ s₄ s₅ s₆ l₀ l₁ l₂ l₃ l₄ l₅ l₆ l₇ l₈ l₉ l₁₀ l₁₁ l₁₂ l₁₃ l₁₄ l₁₅ l₁₆ l₁₇ l₁₈ l₁₉ l₂₀ l₂₁ l₂₂ l₂₃ l₂₄ l₂₅ l₂₆ l₂₇ l₂₈ l₂₉ l₃₀ l₃₁ l₃₂) (omega arith)))))))))))))))))))))))))))))))))))))))))))))
 
 module _ {M : Type 1} (𝓤 : URA M) (H : Heap 𝓤) (A : Atoms 𝓤) (W : Given 𝓤 H A) (mem : Memory → SProp 𝓤) (run : Routine → Fun 𝓤) where
   store-walks : (𝓣 : Tables 𝓤 H) → Triple 𝓤 (𝓣 .C #nodes·used) (Used 𝓤 H A mem run) → Walks 𝓤 H A store′.ended stayed (WpFn 𝓤 H (𝓣 .C) (𝓣 .Λ) code.function) (store′.clauses 𝓤 H A mem run)
