@@ -52,7 +52,7 @@ fn go_on(
         };
     }
     let b = bucket_at(to.level, clock.previous, to.step - 1);
-    links::change::turn(heads, tails, next, prev, bucket, b, b);
+    links_change::change::turn(heads, tails, next, prev, bucket, b, b);
     let mut after = clock;
     after.level = to.level;
     after.step = to.step;
