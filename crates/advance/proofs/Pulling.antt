@@ -13,8 +13,9 @@ use Rattle.records.specs.declared.Clock.{Clock}
 use Rattle.records.specs.Records.{Nodes, entries, records}
 use Rattle.records.specs.Shows.{Shows}
 use Rattle.records.specs.Timers.{Ready}
-use Rattle.advance.specs.declared.turns.Turn.{Turn}
-use Rattle.advance.specs.Turns.{told, left, turnNodes, turnTurn, TurnReady, Outcome, Turned}
+use Rattle.popping.specs.declared.pop.Turn.{Turn}
+use Rattle.popping.specs.Pop.{told, left, TurnReady, Outcome}
+use Rattle.turns.specs.Turns.{turnNodes, turnTurn, Turned}
 use Rattle.advance.specs.Pull.{Step, turns, pullStep, Pulls}
 
 -- the lent lengths stay

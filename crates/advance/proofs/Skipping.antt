@@ -16,15 +16,16 @@ use Rattle.rules.proofs.Cases.{not-both}
 use Rattle.records.specs.declared.Clock.{Clock}
 use Rattle.records.specs.Records.{Nodes}
 use Rattle.records.specs.Clocks.{standing}
-use Rattle.advance.specs.declared.position.Position.{Position}
-use Rattle.advance.specs.declared.turns.Turn.{Turn}
-use Rattle.advance.specs.Position.{at, onward}
-use Rattle.advance.specs.Turns.{goes, standsIn, waitingAt, left, TurnReady, OnReady, Waits, Turned}
+use Rattle.popping.specs.declared.position.Position.{Position}
+use Rattle.popping.specs.declared.pop.Turn.{Turn}
+use Rattle.popping.specs.Position.{at, onward}
+use Rattle.popping.specs.Pop.{goes, standsIn, waitingAt, left, TurnReady}
+use Rattle.turns.specs.Turns.{OnReady, Waits, Turned}
 use Rattle.advance.specs.Skips.{aloneIn, comesNext, oneOn, Lent, PassReady, IdleReady, TellsAlone, Passable, Passes, stays, over}
-use Rattle.advance.proofs.Positions.{onward-here}
-use Rattle.advance.proofs.Waiting.{wait-none}
-use Rattle.advance.proofs.Going.{on-goes, enter-asks}
-use Rattle.advance.proofs.Taking.{turn-on, on-turned}
+use Rattle.popping.proofs.Positions.{onward-here}
+use Rattle.popping.proofs.Waiting.{wait-none}
+use Rattle.turns.proofs.Going.{on-goes, enter-asks}
+use Rattle.turns.proofs.Taking.{turn-on, on-turned}
 use Rattle.advance.proofs.Pulling.{Pulling, pull-asks, pull-less, pull-again}
 
 -- ---- the test of one bucket

@@ -10,9 +10,10 @@ use Rattle.rules.specs.Sound.{Sound}
 use Rattle.records.specs.declared.Clock.{Clock}
 use Rattle.records.specs.Records.{Nodes, entries, records}
 use Rattle.records.specs.Shows.{Shows}
-use Rattle.advance.specs.declared.turns.Pulled.{Pulled}
-use Rattle.advance.specs.declared.turns.Turn.{Turn}
-use Rattle.advance.specs.Turns.{told, goes, turnNodes, turnTurn, left}
+use Rattle.popping.specs.declared.pop.Pulled.{Pulled}
+use Rattle.popping.specs.declared.pop.Turn.{Turn}
+use Rattle.popping.specs.Pop.{told, goes, left}
+use Rattle.turns.specs.Turns.{turnNodes, turnTurn}
 
 -- the node records after so many turns, and the last turn
 pub record Step : Type 0 where

@@ -10,7 +10,7 @@ use Rattle.rules.specs.Geometry.{Geometry, buckets}
 use Rattle.rules.specs.Visits.{visitedAt, bucketAt}
 use Rattle.records.specs.declared.Clock.{Clock}
 use Rattle.records.specs.Clocks.{standing}
-use Rattle.advance.specs.Turns.{waitingAt}
+use Rattle.popping.specs.Pop.{waitingAt}
 
 -- the sentinel of the bucket b is the first of its list, and none comes after it
 abbrev pub aloneIn : List ℕ → List ℕ → ℕ → Bool

@@ -1,12 +1,12 @@
 // For proved code only, unchecked: a pull. It does no more than reach its answer.
 ghost use Rattle.rules.specs.Geometry.{wheel01};
 ghost use Rattle.records.specs.Records.{nodes};
-ghost use Rattle.advance.specs.Turns.{TurnReady};
+ghost use Rattle.popping.specs.Pop.{TurnReady};
 ghost use Rattle.advance.specs.Pull.{Pulls};
 use crate::skips::pass_over;
-use crate::turns::Pulled;
-use crate::turns::take_turn;
+use popping::pop::Pulled;
 use records::Clock;
+use turns::turns::take_turn;
 
 // The answer, and the clock then.
 pub struct Answered {

@@ -3,12 +3,12 @@
 ghost use Rattle.rules.specs.Geometry.{wheel01};
 ghost use Rattle.records.specs.Clocks.{standing};
 ghost use Rattle.advance.specs.Skips.{Lent, TellsAlone, PassReady, IdleReady, Passes};
-use crate::turns::waiting;
 use links::read::following;
 use links::read::front;
 use place::visits::bucket_at;
 use place::visits::visited;
 use records::Clock;
+use turns::turns::waiting;
 
 // Whether the bucket b holds its sentinel alone: that is both first and last.
 fn alone(heads: &[usize], next: &[usize], b: usize) -> bool

@@ -19,8 +19,8 @@ use Rattle.records.specs.Timers.{ArmReady, SlotReady, Arms, Disarms}
 use Rattle.records.specs.Settings.{EntryReady, Sets}
 use Rattle.records.specs.Moments.{Starts}
 use Rattle.records.proofs.Serving.{heads-are, slots-are, buckets-are, entry-ready, is-armed}
-use Rattle.advance.specs.declared.turns.Pulled.{Pulled}
-use Rattle.advance.specs.Turns.{TurnReady}
+use Rattle.popping.specs.declared.pop.Pulled.{Pulled}
+use Rattle.popping.specs.Pop.{TurnReady}
 use Rattle.advance.specs.Pull.{Pulls}
 use Rattle.wheel_sound.specs.Decides.{Decides}
 use Rattle.wheel_sound.specs.Sound.{SoundWith}

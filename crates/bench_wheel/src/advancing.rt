@@ -3,8 +3,8 @@ ghost use Rattle.wheel_refuse.specs.Lent.{lent};
 ghost use Rattle.bench_wheel.specs.Kept.{Works, Kept, Fewer};
 use crate::steps::note;
 use advance::pull::pull;
-use advance::turns::Pulled;
 use links::NONE;
+use popping::pop::Pulled;
 use records::Clock;
 use records::moments::start;
 

@@ -6,8 +6,8 @@ ghost use Rattle.deque_sound.specs.State.{state};
 ghost use Rattle.deque_sound.specs.Sound.{DequesOk, NodesOk, IsLent, StandsOk, Judged};
 use crate::NONE;
 use crate::PAST_END;
-use links::walk::walk;
-use links::walk::walk_free;
+use links_sound::walk::walk;
+use links_sound::walk::walk_free;
 
 // Whether the parallel slices have equal lengths, 1 to 256 for the deques and 1 to 4,096 for the nodes.
 pub fn lent(

@@ -12,11 +12,11 @@ use crate::NONE;
 use crate::PAST_END;
 use crate::answer::Looked;
 use crate::answer::Popped;
-use links::change::link_back;
-use links::change::send_back;
-use links::change::unlink;
 use links::free::give_back;
 use links::free::take;
+use links_change::change::link_back;
+use links_change::change::send_back;
+use links_change::change::unlink;
 
 // Where the cursor goes from the node s: to the node after it, or past the end.
 fn moved_on(next: &[usize], s: usize) -> usize

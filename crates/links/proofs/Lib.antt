@@ -5,16 +5,12 @@ pub mod Arrays
 pub mod Swap
 pub mod Linking
 pub mod Cutting
-pub mod Moving
 pub mod Turning
 pub mod Freeing
 pub mod Reading
 pub mod Counting
 pub mod Laying
-pub mod Walking
-pub mod WalkingFree
 pub mod Judging
-pub mod Verdicts
 pub mod Unique
 pub mod Members
 pub mod TurnRule

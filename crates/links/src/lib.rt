@@ -1,11 +1,8 @@
-// For proved code only, unchecked: linked deques and free slots in parallel slices. A caller shows that the records stand for lists (or tests it once with sound).
+// For proved code only, unchecked: linked deques and free slots in parallel slices. A caller shows that the records stand for lists (or tests it once with `links_sound`).
 // A record of contracts says for each function what it writes, and what that means for whatever lists the records stand for.
-pub mod change; // link at the back, unlink, turn until a member is last
 pub mod free; // take a free slot, give one back
 pub mod layout; // all deques empty, all slots free
 pub mod read; // the ends of a deque, the slot after a slot, the deque of a slot
-pub mod sound; // the test of links and free chain; assumes nothing
-pub mod walk; // how many slots a deque and the free chain have, for tests
 
 // No slot: one past the last that may be lent.
 pub const NONE: usize = 4096;

@@ -7,7 +7,7 @@ ghost use Rattle.records.specs.Records.{nodes, entries};
 ghost use Rattle.records.specs.Layout.{enabledWith, SeatReady, Seats, Clears, ClearsEntries, LayReady, Lays};
 use crate::Clock;
 use crate::moments::end;
-use links::change::link_back;
+use links_change::change::link_back;
 
 // Links each sentinel alone in its bucket; the slots after the sentinels are free, in ascending order.
 fn seat(

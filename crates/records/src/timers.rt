@@ -5,11 +5,11 @@ ghost use Rattle.records.specs.Records.{nodes};
 ghost use Rattle.records.specs.Timers.{ArmReady, SlotReady, MoveReady, Arms, Disarms, Rearms};
 use crate::Clock;
 use crate::payload::write;
-use links::change::link_back;
-use links::change::move_back;
-use links::change::unlink;
 use links::free::give_back;
 use links::free::take;
+use links_change::change::link_back;
+use links_change::change::move_back;
+use links_change::change::unlink;
 use place::bucket_of;
 
 // The handle of the timer armed, slot and serial, and the clock then.

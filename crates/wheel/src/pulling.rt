@@ -3,17 +3,17 @@ ghost use Rattle.wheel_refuse.specs.Lent.{lent};
 ghost use Rattle.wheel_plain.specs.Answers.{pulledClock, TellsEvent};
 ghost use Rattle.wheel_plain.specs.Calls.{Pull};
 use advance::pull;
-use advance::turns;
+use popping::pop;
 use records::Clock;
 use wheel_plain::Pulled;
 use wheel_refuse::open_refusal;
 
 // The event or End, and the clock then, as an answer.
-fn told(event: turns::Pulled, clock: Clock) -> Pulled
+fn told(event: pop::Pulled, clock: Clock) -> Pulled
     ensures { λ r. ⌜ TellsEvent event clock r ⌝ }
 {
     match event {
-        turns::Pulled::Expired {
+        pop::Pulled::Expired {
             entry,
             serial,
             deadline,
@@ -23,7 +23,7 @@ fn told(event: turns::Pulled, clock: Clock) -> Pulled
             deadline,
             clock,
         },
-        turns::Pulled::Rescheduled {
+        pop::Pulled::Rescheduled {
             entry,
             serial,
             place,
@@ -33,7 +33,7 @@ fn told(event: turns::Pulled, clock: Clock) -> Pulled
             place,
             clock,
         },
-        turns::Pulled::End => Pulled::End(clock),
+        pop::Pulled::End => Pulled::End(clock),
     }
 }
 

@@ -13,11 +13,12 @@ use Rattle.rules.specs.Visits.{visitedAt}
 use Rattle.records.specs.declared.Clock.{Clock}
 use Rattle.records.specs.Records.{Nodes, Records}
 use Rattle.records.specs.Clocks.{setFree, counted, started, ended, abandoned, standing}
-use Rattle.advance.specs.declared.position.Position.{Position}
-use Rattle.advance.specs.declared.turns.Turn.{Turn}
-use Rattle.advance.specs.declared.turns.Pulled.the-variants.{Expired, Rescheduled, End}
-use Rattle.advance.specs.Position.{at, over, onward}
-use Rattle.advance.specs.Turns.{goes, stops, waitingAt, nextPosition, onTurn, popTurn, turnNodes, turnTurn, left}
+use Rattle.popping.specs.declared.position.Position.{Position}
+use Rattle.popping.specs.declared.pop.Turn.{Turn}
+use Rattle.popping.specs.declared.pop.Pulled.the-variants.{Expired, Rescheduled, End}
+use Rattle.popping.specs.Position.{at, over, onward}
+use Rattle.popping.specs.Pop.{goes, stops, waitingAt, nextPosition, popTurn, left}
+use Rattle.turns.specs.Turns.{onTurn, turnNodes, turnTurn}
 use Rattle.advance.specs.Pull.{Step, turns, pullStep}
 use Rattle.wheel_sound.specs.Sound.{SoundRecords, InRange}
 use Rattle.wheel_refuse.specs.Refuse.{Lendable}

@@ -27,7 +27,7 @@ use Rattle.records.specs.Timers.{Ready, ArmReady, SlotReady, MoveReady}
 use Rattle.records.specs.Counts.{DueReady}
 use Rattle.records.specs.Settings.{EntryReady}
 use Rattle.records.specs.Layout.{LayReady}
-use Rattle.advance.specs.Turns.{TurnReady}
+use Rattle.popping.specs.Pop.{TurnReady}
 use Rattle.wheel_sound.specs.Clauses.{Armed}
 use Rattle.wheel_sound.specs.Sound.{SoundRecords}
 use Rattle.wheel_sound.specs.Shown.{shown}

@@ -24,9 +24,9 @@ use Rattle.records.specs.Counts.{Counts, dueTold, FindsDue}
 use Rattle.records.specs.Settings.{settled, Sets}
 use Rattle.records.specs.Moments.{Starts, Abandons}
 use Rattle.records.specs.Layout.{Lays}
-use Rattle.advance.specs.declared.turns.Pulled.{Pulled as Event}
-use Rattle.advance.specs.declared.turns.Pulled.the-variants.{Expired as ExpiredEvent, Rescheduled as PlacedEvent, End as EndEvent}
-use Rattle.advance.specs.Turns.{told}
+use Rattle.popping.specs.declared.pop.Pulled.{Pulled as Event}
+use Rattle.popping.specs.declared.pop.Pulled.the-variants.{Expired as ExpiredEvent, Rescheduled as PlacedEvent, End as EndEvent}
+use Rattle.popping.specs.Pop.{told}
 use Rattle.advance.specs.Pull.{Pulls}
 use Rattle.wheel_plain.specs.declared.Pulled.{Pulled}
 use Rattle.wheel_plain.specs.declared.Pulled.the-variants.{Expired, Moved as Placed, End, Refused as PulledRefused}

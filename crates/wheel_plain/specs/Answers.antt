@@ -6,8 +6,8 @@ use Rattle.rules.specs.Wheel.{Answer, refused, ok, handle, removed, end, expire
 use Rattle.records.specs.declared.Clock.{Clock}
 use Rattle.records.specs.declared.counts.Due.{Due as Found}
 use Rattle.records.specs.Counts.{dueTold}
-use Rattle.advance.specs.declared.turns.Pulled.{Pulled as Event}
-use Rattle.advance.specs.Turns.{told}
+use Rattle.popping.specs.declared.pop.Pulled.{Pulled as Event}
+use Rattle.popping.specs.Pop.{told}
 use Rattle.wheel_plain.specs.declared.Timed.{Timed}
 use Rattle.wheel_plain.specs.declared.Timed.the-variants.{Done, Refused as TimedRefused}
 use Rattle.wheel_plain.specs.declared.Noted.{Noted}

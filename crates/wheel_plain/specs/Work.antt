@@ -15,7 +15,7 @@ use Rattle.records.specs.Clocks.{setFree, counted, started, abandoned}
 use Rattle.records.specs.Change.{armedIn, freedFrom, movedTo}
 use Rattle.records.specs.Counts.{armedAmong, leastAmong}
 use Rattle.records.specs.Settings.{settled}
-use Rattle.advance.specs.Turns.{told}
+use Rattle.popping.specs.Pop.{told}
 use Rattle.advance.specs.Pull.{Step, pullStep}
 use Rattle.records.specs.Layout.{bareNodes, bareEntries, enabledWith}
 

@@ -10,7 +10,7 @@ pub mod serials; // unchecked: whether armed serials differ
 pub mod slots; // unchecked: what is asked of each slot by itself
 
 use lengths::lengths_kept;
-use links::sound::sound;
+use links_sound::sound::sound;
 use position::advance_stands;
 use records::Clock;
 use serials::serials_differ;

@@ -2,7 +2,7 @@
 use borrow.Author.Tests.{not-true, not-false}
 use Rattle.rules.specs.Geometry.{wheel01}
 use Rattle.records.specs.Records.{nodes}
-use Rattle.advance.specs.Turns.{left}
+use Rattle.popping.specs.Pop.{left}
 use Rattle.advance.proofs.Pulling.{Pulling, pull-begins, pull-asks, pull-ends, pull-kept}
 use Rattle.advance.proofs.Skipping.{skip-asks, skip-less, skip-again}
 use native.Mathlib.Omega.{arith}

@@ -2,7 +2,7 @@
 use Prim.Native.Nat.{_-_}
 use borrow.Author.Needs.{needs}
 use borrow.Author.Tests.{not-false}
-use Rattle.advance.proofs.Positions.{bucketAt-in}
+use Rattle.popping.proofs.Positions.{bucketAt-in}
 use Rattle.advance.proofs.Skipping.{Passing, passing-begins, bucket-lent, passing-on}
 use Rattle.advance.proofs.skips.step_past.Statement.{statement}
 use Rattle.advance.proofs.skips.step_past.Tie as tie

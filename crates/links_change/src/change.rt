@@ -1,0 +1,126 @@
+// For proved code only, unchecked: link at the back, unlink, move to the back, turn until a member is last. Each takes constant time.
+ghost use Rattle.links.specs.Lists.{links};
+ghost use Rattle.links.specs.Change.{CanPut, Puts, Linkable, LinksBack, Held, CutsOut, Movable, MovesBack, HeldBy, Ahead, Turns};
+use links::NONE;
+
+// The slot after p in the deque d is q from now on: the head, where p is NONE. With tails and prev: the slot before p.
+fn put(ends: &mut [usize], next: &mut [usize], d: usize, p: usize, q: usize)
+    requires { ⌜ CanPut (now ends) (now next) d p ⌝ }
+    ensures { λ _. ⌜ Puts (now (ends .entry)) (now (next .entry)) (now (ends .exit)) (now (next .exit)) d p q ⌝ }
+{
+    if p == NONE {
+        ends[d] = q;
+    } else {
+        next[p] = q;
+    }
+}
+
+// Links the loose slot s at the back of the deque d.
+pub fn link_back(
+    heads: &mut [usize],
+    tails: &mut [usize],
+    next: &mut [usize],
+    prev: &mut [usize],
+    home: &mut [usize],
+    d: usize,
+    s: usize,
+)
+    requires { ⌜ Linkable (links (now heads) (now tails) (now next) (now prev) (now home)) d s ⌝ }
+    ensures { λ _. ⌜ LinksBack (links (now (heads .entry)) (now (tails .entry)) (now (next .entry)) (now (prev .entry)) (now (home .entry))) (links (now (heads .exit)) (now (tails .exit)) (now (next .exit)) (now (prev .exit)) (now (home .exit))) d s ⌝ }
+{
+    let t = tails[d];
+    tails[d] = s;
+    prev[s] = t;
+    next[s] = NONE;
+    home[s] = d;
+    put(heads, next, d, t, s);
+}
+
+// Takes the slot s out of its deque. It is loose then.
+pub fn unlink(
+    heads: &mut [usize],
+    tails: &mut [usize],
+    next: &mut [usize],
+    prev: &mut [usize],
+    home: &mut [usize],
+    s: usize,
+)
+    requires { ⌜ Held (links (now heads) (now tails) (now next) (now prev) (now home)) s ⌝ }
+    ensures { λ _. ⌜ CutsOut (links (now (heads .entry)) (now (tails .entry)) (now (next .entry)) (now (prev .entry)) (now (home .entry))) (links (now (heads .exit)) (now (tails .exit)) (now (next .exit)) (now (prev .exit)) (now (home .exit))) s ⌝ }
+{
+    let d = home[s];
+    let p = prev[s];
+    let q = next[s];
+    put(heads, next, d, p, q);
+    put(tails, prev, d, q, p);
+    home[s] = NONE;
+}
+
+// Moves the slot s from its deque to the back of the deque d, which may be the same.
+pub fn move_back(
+    heads: &mut [usize],
+    tails: &mut [usize],
+    next: &mut [usize],
+    prev: &mut [usize],
+    home: &mut [usize],
+    d: usize,
+    s: usize,
+)
+    requires { ⌜ Movable (links (now heads) (now tails) (now next) (now prev) (now home)) d s ⌝ }
+    ensures { λ _. ⌜ MovesBack (links (now (heads .entry)) (now (tails .entry)) (now (next .entry)) (now (prev .entry)) (now (home .entry))) (links (now (heads .exit)) (now (tails .exit)) (now (next .exit)) (now (prev .exit)) (now (home .exit))) d s ⌝ }
+{
+    unlink(heads, tails, next, prev, home, s);
+    link_back(heads, tails, next, prev, home, d, s);
+}
+
+// Moves the slot s, which is not last, to the back of its own deque d: what `move_back` writes, with no home read or written and no choice but at the front.
+pub fn send_back(
+    heads: &mut [usize],
+    tails: &mut [usize],
+    next: &mut [usize],
+    prev: &mut [usize],
+    home: &[usize],
+    d: usize,
+    s: usize,
+)
+    requires { ⌜ Ahead (links (now heads) (now tails) (now next) (now prev) (now home)) d s ⌝ }
+    ensures { λ _. ⌜ MovesBack (links (now (heads .entry)) (now (tails .entry)) (now (next .entry)) (now (prev .entry)) (now (home .entry))) (links (now (heads .exit)) (now (tails .exit)) (now (next .exit)) (now (prev .exit)) (now (home .entry))) d s ⌝ }
+{
+    let p = prev[s];
+    let q = next[s];
+    let t = tails[d];
+    prev[q] = p;
+    put(heads, next, d, p, q);
+    next[s] = NONE;
+    next[t] = s;
+    prev[s] = t;
+    tails[d] = s;
+}
+
+// Turns the deque d until its member s is last: what stood after s, what stood before it, s. The records are those of moving nodes from front to back
+// one by one. No home changes.
+pub fn turn(
+    heads: &mut [usize],
+    tails: &mut [usize],
+    next: &mut [usize],
+    prev: &mut [usize],
+    home: &[usize],
+    d: usize,
+    s: usize,
+)
+    requires { ⌜ HeldBy (links (now heads) (now tails) (now next) (now prev) (now home)) d s ⌝ }
+    ensures { λ _. ⌜ Turns (links (now (heads .entry)) (now (tails .entry)) (now (next .entry)) (now (prev .entry)) (now (home .entry))) (links (now (heads .exit)) (now (tails .exit)) (now (next .exit)) (now (prev .exit)) (now (home .entry))) d s ⌝ }
+{
+    let q = next[s];
+    if next.len() <= q {
+        return;
+    }
+    let h = heads[d];
+    let t = tails[d];
+    next[t] = h;
+    prev[h] = t;
+    next[s] = NONE;
+    prev[q] = NONE;
+    heads[d] = q;
+    tails[d] = s;
+}

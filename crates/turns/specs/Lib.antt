@@ -1,0 +1,2 @@
+-- What the contracts of the turns cite. Assumes nothing.
+pub mod Turns
