@@ -20,14 +20,14 @@ use Rattle.rules.proofs.Cases.{not-both}
 use Rattle.place.specs.declared.Place.{Place}
 use Rattle.place.specs.Promises.{Found}
 use Rattle.records.specs.declared.Clock.{Clock}
-use Rattle.records.specs.Records.{Nodes, Entries, entries, records}
+use Rattle.records.specs.Records.{Nodes, Entries, entries, records, join, withLinks}
 use Rattle.records.specs.Shows.{nodeAt, entryAt, Shows}
 use Rattle.records.specs.Clocks.{setFree}
 use Rattle.records.specs.Counts.{armedAmong}
 use Rattle.links.specs.Chain.{none as nowhere}
 use Rattle.popping.proofs.Fewer.{fewer}
-use Rattle.records.specs.Change.{join, withLinks, freedFrom, movedTo}
-use Rattle.records.specs.Timers.{Ready, SlotReady, MoveReady, Disarms, Rearms}
+use Rattle.arming.specs.Change.{freedFrom, movedTo}
+use Rattle.arming.specs.Timers.{Ready, SlotReady, MoveReady, Disarms, Rearms}
 use Rattle.popping.specs.declared.pop.Pulled.the-variants.{Expired, Rescheduled, End}
 use Rattle.popping.specs.Pop.{Nears, left, told, goes, stops, popNodes, popTurn, TurnReady, PopReady, Outcome, Pops}
 use Rattle.popping.proofs.Turning.{after, turn-skip, turn-expire, turn-move, popped-armed, unlink-pop, freed-sound}

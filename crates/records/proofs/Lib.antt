@@ -1,12 +1,7 @@
 -- Laws that the proofs of this crate and of those above it cite. Assumes nothing.
 pub mod Showing
 pub mod Tying
-pub mod Timing
 pub mod Retiming
 pub mod Setting
 pub mod Counting
-pub mod Clearing
-pub mod Seating
-pub mod Bare
-pub mod Ends
 pub mod Serving

@@ -18,9 +18,8 @@ use Rattle.rules.specs.Lists.{Bucket, Node, Lists, whole, newNode, placedIn, fr
 use Rattle.rules.specs.Sound.{SoundLists}
 use Rattle.rules.proofs.Cases.{same?, below?, not-both}
 use Rattle.rules.proofs.Counting.{hit-is, hit-not, hit-most, update-is, update-not}
-use Rattle.records.specs.Records.{Nodes}
+use Rattle.records.specs.Records.{Nodes, join}
 use Rattle.records.specs.Shows.{nodeAt}
-use Rattle.records.specs.Change.{join}
 
 -- ---- one bucket
 whole-pushed : (z x : ℕ) (B : Bucket) → whole z B ++ (x ∷ []) ≡ whole z (pushed x B)

@@ -2,10 +2,6 @@
 pub mod Records
 pub mod Shows
 pub mod Clocks
-pub mod Change
-pub mod Timers
 pub mod Moments
 pub mod Counts
 pub mod Settings
-pub mod Layout
-pub mod Around

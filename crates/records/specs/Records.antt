@@ -15,6 +15,14 @@ pub record Nodes : Type 0 where
 abbrev pub nodes : List ℕ → List ℕ → List ℕ → List ℕ → List ℕ → List ℕ → List ℕ → List ℕ → Nodes
 nodes h t n p b e g s = record { links = links h t n p b; entry = e; generation = g; serial = s }
 
+-- links and payload together
+abbrev pub join : Links → List ℕ → List ℕ → List ℕ → Nodes
+join a e g s = record { links = a; entry = e; generation = g; serial = s }
+
+-- the same payload with other links
+abbrev pub withLinks : Links → Nodes → Nodes
+withLinks a N = join a (N .entry) (N .generation) (N .serial)
+
 -- "entries beside it (deadline or none, 32-bit generation)": whether there is a deadline, which, and the generation
 pub record Entries : Type 0 where
   pub dated : List Bool

@@ -2,10 +2,6 @@
 // sound. The records are parallel slices: heads and tails of the buckets; next, prev, bucket, entry, generation and serial of the slots;
 // dated, deadline and generation of the entries. The clock goes in by value and is handed back.
 
-pub mod payload; // the payload of a slot
-pub mod timers; // arming, disarming, rearming
-pub mod layout; // the records as enabling lays them out
-pub mod around; // all but the node records, as enabling lays them out
 pub mod settings; // setting an entry
 pub mod counts; // armed count, next due
 pub mod moments; // start, end, abandon

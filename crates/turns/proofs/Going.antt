@@ -23,10 +23,9 @@ use Rattle.rules.specs.Sound.{Sound}
 use Rattle.rules.proofs.Cases.{not-both}
 use Rattle.rules.proofs.SoundLists.{sound-enter}
 use Rattle.records.specs.declared.Clock.{Clock}
-use Rattle.records.specs.Records.{Entries, records}
+use Rattle.records.specs.Records.{Entries, records, join}
 use Rattle.records.specs.Shows.{Shows}
 use Rattle.records.specs.Clocks.{standing}
-use Rattle.records.specs.Change.{join}
 use Rattle.records.specs.Counts.{armedAmong}
 use Rattle.records.specs.Moments.{EndsAdvance}
 use Rattle.records.proofs.Showing.{tied-enter}

@@ -10,8 +10,7 @@ use borrow.Author.Tests.{lt-ltb, le-ltb}
 use Rattle.links.specs.Lists.{Links, links}
 use Rattle.rules.specs.Geometry.{wheel01}
 use Rattle.records.specs.declared.Clock.{Clock}
-use Rattle.records.specs.Records.{Nodes, nodes, entries}
-use Rattle.records.specs.Change.{join}
+use Rattle.records.specs.Records.{Nodes, nodes, entries, join}
 use Rattle.popping.specs.declared.pop.Turn.{Turn}
 use Rattle.popping.specs.Pop.{waitingAt, popNodes, popTurn, TurnReady, PopReady, Pops}
 use Rattle.turns.specs.Turns.{WaitReady, OnReady, Waits, GoesOn, Turned}

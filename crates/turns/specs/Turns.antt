@@ -12,10 +12,9 @@ use Rattle.rules.specs.Visits.{bucketAt}
 use Rattle.rules.specs.Wheel.{Wheel}
 use Rattle.rules.specs.Sound.{Sound}
 use Rattle.records.specs.declared.Clock.{Clock}
-use Rattle.records.specs.Records.{Nodes, Entries, entries, records}
+use Rattle.records.specs.Records.{Nodes, Entries, entries, records, join, withLinks}
 use Rattle.records.specs.Shows.{Shows}
 use Rattle.records.specs.Clocks.{standing, ended}
-use Rattle.records.specs.Change.{join, withLinks}
 use Rattle.popping.specs.declared.position.Position.{Position}
 use Rattle.popping.specs.declared.pop.Pulled.the-variants.{End}
 use Rattle.popping.specs.declared.pop.Turn.{Turn}

@@ -20,13 +20,12 @@ use Rattle.rules.specs.Lists.{Node}
 use Rattle.rules.specs.Wheel.{Entry, Wheel}
 use Rattle.rules.specs.Sound.{Sound}
 use Rattle.records.specs.declared.Clock.{Clock}
-use Rattle.records.specs.Records.{Nodes, Entries, Records, records, nodes, entries}
+use Rattle.records.specs.Records.{Nodes, Entries, Records, records, nodes, entries, join}
 use Rattle.records.specs.Shows.{nodeAt, entryAt, Shows}
-use Rattle.records.specs.Change.{join}
-use Rattle.records.specs.Timers.{Ready, ArmReady, SlotReady, MoveReady}
+use Rattle.arming.specs.Timers.{Ready, ArmReady, SlotReady, MoveReady}
 use Rattle.records.specs.Counts.{DueReady}
 use Rattle.records.specs.Settings.{EntryReady}
-use Rattle.records.specs.Layout.{LayReady}
+use Rattle.enabling.specs.Layout.{LayReady}
 use Rattle.popping.specs.Pop.{TurnReady}
 use Rattle.wheel_sound.specs.Clauses.{Armed}
 use Rattle.wheel_sound.specs.Sound.{SoundRecords}

@@ -1,0 +1,3 @@
+-- What the contracts of arming cite. Assumes nothing.
+pub mod Change
+pub mod Timers
