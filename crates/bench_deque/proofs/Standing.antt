@@ -10,12 +10,13 @@ use Rattle.links.specs.Chain.{none, In, first, rest}
 use Rattle.links.specs.Lists.{homeOf}
 use Rattle.deque_sound.specs.State.{State, state, nodes}
 use Rattle.deque_sound.specs.Sound.{Judged}
-use Rattle.deque_work.specs.Step.{frontOf}
+use Rattle.deque_plain.specs.Step.{frontOf}
 use Rattle.deque_sound.specs.Ready.{DequeReady, PushReady, NodeReady}
-use Rattle.deque_work.specs.Work.{Pushes, Drops, Moves, Steps}
-use Rattle.deque_work.proofs.Keeping.{stepped-shows, front-in}
+use Rattle.deque_plain.specs.Work.{Steps}
+use Rattle.deque_work.specs.Work.{Pushes, Drops, Moves}
+use Rattle.deque_plain.proofs.Keeping.{stepped-shows, front-in}
 use Rattle.deque_sound.proofs.Sounding.{sound-shows}
-use Rattle.deque_work.specs.declared.answer.Looked.{Looked}
+use Rattle.deque_plain.specs.declared.answer.Looked.{Looked}
 use Rattle.bench_deque.specs.Ready.{Ready, Leaves, Full, Lacks, Tested}
 
 module _ (a : State) (free : ℕ) where

@@ -3,27 +3,30 @@ use Prim.Native.Nat.{ℕ}
 use native.Mathlib.Omega.{arith}
 use mathlib.Core.Path.{_≡_, refl, sym, ap, _∙_}
 use mathlib.Core.Logic.{⊎-elim}
-use mathlib.Core.List.{List, [], _∷_}
 use Rattle.links.proofs.Slots.{same?}
 use Rattle.links.proofs.Rows.{Single, none-left, row}
 use Rattle.deque_sound.specs.State.{State}
-use Rattle.deque_work.specs.Answer.{Told, refused, nothing, values, madeTold, pushedTold, poppedTold, lookedTold, droppedTold, countedTold, doneTold}
+use Rattle.deque_plain.specs.Answer.{Told, refused, madeTold, pushedTold, poppedTold, lookedTold, droppedTold, countedTold, doneTold}
 use Rattle.deque_sound.specs.Refuse.{answered, makeRows, dequeRows, pushRows, nodeRows}
-use Rattle.deque.specs.Calls.{Meets, Make, PushBack, PopFront, LookFront, LookBack, MoveToBack, UnlinkAndDrop, LengthIs, NextByCursor, ResetCursor}
-use Rattle.deque_work.specs.declared.answer.Made.{Made}
-use Rattle.deque_work.specs.declared.answer.Made.the-variants.{First, Refused as MadeRefused}
-use Rattle.deque_work.specs.declared.answer.Pushed.{Pushed}
-use Rattle.deque_work.specs.declared.answer.Pushed.the-variants.{At, Refused as PushedRefused}
-use Rattle.deque_work.specs.declared.answer.Popped.{Popped}
-use Rattle.deque_work.specs.declared.answer.Popped.the-variants.{Node as PoppedNode, Nothing as PoppedNothing, Refused as PoppedRefused}
-use Rattle.deque_work.specs.declared.answer.Looked.{Looked}
-use Rattle.deque_work.specs.declared.answer.Looked.the-variants.{Node as LookedNode, Nothing as LookedNothing, Refused as LookedRefused}
-use Rattle.deque_work.specs.declared.answer.Dropped.{Dropped}
-use Rattle.deque_work.specs.declared.answer.Dropped.the-variants.{Element, Refused as DroppedRefused}
-use Rattle.deque_work.specs.declared.answer.Counted.{Counted}
-use Rattle.deque_work.specs.declared.answer.Counted.the-variants.{Length, Refused as CountedRefused}
-use Rattle.deque_work.specs.declared.answer.Done.{Done}
-use Rattle.deque_work.specs.declared.answer.Done.the-variants.{Done as Did, Refused as DoneRefused}
+use Rattle.deque_plain.specs.Meets.{Meets}
+use Rattle.deque_making.specs.Calls.{Make}
+use Rattle.deque_asking.specs.Calls.{LookFront, LookBack, LengthIs, NextByCursor, ResetCursor}
+use Rattle.deque_linking.specs.Calls.{PushBack, MoveToBack}
+use Rattle.deque_freeing.specs.Calls.{PopFront, UnlinkAndDrop}
+use Rattle.deque_plain.specs.declared.answer.Made.{Made}
+use Rattle.deque_plain.specs.declared.answer.Made.the-variants.{First, Refused as MadeRefused}
+use Rattle.deque_plain.specs.declared.answer.Pushed.{Pushed}
+use Rattle.deque_plain.specs.declared.answer.Pushed.the-variants.{At, Refused as PushedRefused}
+use Rattle.deque_plain.specs.declared.answer.Popped.{Popped}
+use Rattle.deque_plain.specs.declared.answer.Popped.the-variants.{Node as PoppedNode, Nothing as PoppedNothing, Refused as PoppedRefused}
+use Rattle.deque_plain.specs.declared.answer.Looked.{Looked}
+use Rattle.deque_plain.specs.declared.answer.Looked.the-variants.{Node as LookedNode, Nothing as LookedNothing, Refused as LookedRefused}
+use Rattle.deque_plain.specs.declared.answer.Dropped.{Dropped}
+use Rattle.deque_plain.specs.declared.answer.Dropped.the-variants.{Element, Refused as DroppedRefused}
+use Rattle.deque_plain.specs.declared.answer.Counted.{Counted}
+use Rattle.deque_plain.specs.declared.answer.Counted.the-variants.{Length, Refused as CountedRefused}
+use Rattle.deque_plain.specs.declared.answer.Done.{Done}
+use Rattle.deque_plain.specs.declared.answer.Done.the-variants.{Done as Did, Refused as DoneRefused}
 
 -- ---- rows give one number
 make-single : (a : State) → Single (makeRows a)

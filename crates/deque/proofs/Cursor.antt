@@ -1,30 +1,29 @@
 -- What the looks, the length and the cursor say of the lists. Assumes nothing.
-use Prim.Native.Nat.{ℕ, _+_, _≤_, _<_}
+use Prim.Native.Nat.{ℕ, _<_}
 use native.Mathlib.Omega.{arith}
 use mathlib.Core.Path.{_≡_, refl, sym, ap, subst, _∙_}
 use mathlib.Core.Logic.{_⊎_, inl, inr, ⊎-elim}
-use mathlib.Core.Bool.{Bool, true, false, cond}
-use mathlib.Core.List.{List, [], _∷_, _++_}
-use lib.ListN.{length, getD, set}
+use mathlib.Core.Bool.{cond}
+use mathlib.Core.List.{List, [], _∷_}
+use lib.ListN.{length, getD}
 use lib.Seq.{getD-set-same}
 use lib.Dec.{eqb}
 use borrow.Author.Tests.{eq-eqb, ne-eqb}
-use Rattle.links.specs.Chain.{none, In, first, last, following}
-use Rattle.links.specs.Lists.{Lists, homeOf, deq}
-use Rattle.links.proofs.Slots.{same?}
-use Rattle.links.proofs.Members.{in-home, home-in}
+use Rattle.links.specs.Chain.{none, In, first, last}
+use Rattle.links.specs.Lists.{Lists, deq}
 use Rattle.links.proofs.Reading.{head-is, tail-is, next-is}
-use Rattle.deque_sound.specs.State.{State, deques, nodes, Shows, pastEnd}
-use Rattle.deque_sound.specs.Sound.{Sound}
-use Rattle.deque_work.specs.Step.{frontOf, backOf, lengthOf, cursorOf, elementOf, movedOn, stepOff, cursorNode, released, movedBack, shifted, withCursor, stepped}
-use Rattle.deque_work.specs.Answer.{Told, refused, nothing, values, lookedTold, countedTold, lookTold, nextTold}
+use Rattle.deque_sound.specs.State.{State, Shows, pastEnd}
+use Rattle.deque_plain.specs.Step.{backOf, cursorOf, elementOf, movedOn, cursorNode, withCursor, stepped}
+use Rattle.deque_work.specs.Step.{stepOff, released, movedBack}
+use Rattle.deque_plain.specs.Answer.{Told, nothing, values, lookedTold, countedTold, lookTold, nextTold}
 use Rattle.deque_sound.specs.Refuse.{dequeRows}
-use Rattle.deque.specs.Calls.{Meets, LookFront, LookBack, LengthIs, NextByCursor, UnlinkAndDrop, MoveToBack}
+use Rattle.deque_plain.specs.Meets.{Meets}
+use Rattle.deque_asking.specs.Calls.{LookFront, LookBack, LengthIs, NextByCursor}
 use Rattle.deque.specs.History.{moveOn}
-use Rattle.deque_work.specs.declared.answer.Looked.{Looked}
-use Rattle.deque_work.specs.declared.answer.Counted.{Counted}
+use Rattle.deque_plain.specs.declared.answer.Looked.{Looked}
+use Rattle.deque_plain.specs.declared.answer.Counted.{Counted}
 use Rattle.deque_sound.proofs.Sounding.{shows-sound}
-use Rattle.deque_work.proofs.Keeping.{in-cursors, stepped-shows}
+use Rattle.deque_plain.proofs.Keeping.{in-cursors, stepped-shows}
 
 -- on a sound state a deque that exists is not refused
 answers : (a b after : State) (free d : ℕ) (v : Lists) (t then : Told) → Shows a free v → d < v .count → Meets (dequeRows a free d) a b t after then → (t ≡ then) × (b ≡ after)

@@ -1,34 +1,33 @@
 -- Make gives sound records, and every call leaves sound records sound, refused or not; so 4 is never given while only these calls write. Assumes nothing.
-use Prim.Native.Nat.{ℕ, _<_}
-use native.Mathlib.Omega.{arith}
-use mathlib.Core.Path.{_≡_, refl, sym, ap, subst, _∙_}
-use mathlib.Core.Logic.{_⊎_, inl, inr, ⊎-elim}
-use mathlib.Core.List.{List, [], _∷_}
-use Rattle.links.specs.Chain.{none}
+use Prim.Native.Nat.{ℕ}
+use mathlib.Core.Path.{_≡_, sym, subst}
+use mathlib.Core.Logic.{⊎-elim}
 use Rattle.links.specs.Lists.{Lists}
 use Rattle.links.specs.Listed.{listed}
 use Rattle.links.proofs.Slots.{same?}
 use Rattle.deque_sound.specs.State.{State, Shows}
 use Rattle.deque_sound.specs.Sound.{Sound}
-use Rattle.deque_work.specs.Step.{frontOf, backOf}
-use Rattle.deque_work.specs.Answer.{Told, refused, nothing, values, madeTold, pushedTold, poppedTold, lookedTold, droppedTold, countedTold, doneTold}
-use Rattle.deque_sound.specs.Refuse.{dequeRows, pushRows, nodeRows}
-use Rattle.deque.specs.Calls.{Meets, Make, PushBack, PopFront, LookFront, LookBack, MoveToBack, UnlinkAndDrop, LengthIs, NextByCursor, ResetCursor}
+use Rattle.deque_plain.specs.Step.{frontOf, backOf}
+use Rattle.deque_plain.specs.Answer.{refused, pushedTold, poppedTold, lookedTold, droppedTold, countedTold, doneTold}
+use Rattle.deque_making.specs.Calls.{Make}
+use Rattle.deque_asking.specs.Calls.{LookFront, LookBack, LengthIs, NextByCursor, ResetCursor}
+use Rattle.deque_linking.specs.Calls.{PushBack, MoveToBack}
+use Rattle.deque_freeing.specs.Calls.{PopFront, UnlinkAndDrop}
 use Rattle.deque.specs.History.{pushedFree, poppedFree, droppedFree}
-use Rattle.deque_work.specs.declared.answer.Made.the-variants.{First}
-use Rattle.deque_work.specs.declared.answer.Pushed.{Pushed}
-use Rattle.deque_work.specs.declared.answer.Pushed.the-variants.{At, Refused as PushedRefused}
-use Rattle.deque_work.specs.declared.answer.Popped.{Popped}
-use Rattle.deque_work.specs.declared.answer.Popped.the-variants.{Node as PoppedNode, Nothing as PoppedNothing, Refused as PoppedRefused}
-use Rattle.deque_work.specs.declared.answer.Looked.{Looked}
-use Rattle.deque_work.specs.declared.answer.Dropped.{Dropped}
-use Rattle.deque_work.specs.declared.answer.Dropped.the-variants.{Element, Refused as DroppedRefused}
-use Rattle.deque_work.specs.declared.answer.Counted.{Counted}
-use Rattle.deque_work.specs.declared.answer.Done.{Done}
-use Rattle.deque_work.specs.declared.answer.Done.the-variants.{Done as Did, Refused as DoneRefused}
+use Rattle.deque_plain.specs.declared.answer.Made.the-variants.{First}
+use Rattle.deque_plain.specs.declared.answer.Pushed.{Pushed}
+use Rattle.deque_plain.specs.declared.answer.Pushed.the-variants.{At, Refused as PushedRefused}
+use Rattle.deque_plain.specs.declared.answer.Popped.{Popped}
+use Rattle.deque_plain.specs.declared.answer.Popped.the-variants.{Node as PoppedNode, Nothing as PoppedNothing, Refused as PoppedRefused}
+use Rattle.deque_plain.specs.declared.answer.Looked.{Looked}
+use Rattle.deque_plain.specs.declared.answer.Dropped.{Dropped}
+use Rattle.deque_plain.specs.declared.answer.Dropped.the-variants.{Element, Refused as DroppedRefused}
+use Rattle.deque_plain.specs.declared.answer.Counted.{Counted}
+use Rattle.deque_plain.specs.declared.answer.Done.{Done}
+use Rattle.deque_plain.specs.declared.answer.Done.the-variants.{Done as Did, Refused as DoneRefused}
 use Rattle.deque_sound.proofs.Sounding.{shows-sound, sound-shows}
 use Rattle.deque_sound.proofs.Refusing.{deque-ready}
-use Rattle.deque_work.proofs.Keeping.{stepped-shows, reset-shows}
+use Rattle.deque_plain.proofs.Keeping.{stepped-shows, reset-shows}
 use Rattle.deque.proofs.Laws.{deque-not-4, push-not-4, node-not-4, no-4, left-alone, not-values, pop-refused, look-refused, next-refused, make-lists, push-lists, pop-lists, pop-empty, drop-lists, move-lists}
 
 pub make-sound : (a b : State) (f : ℕ) → Make a b (First f) → Sound b f

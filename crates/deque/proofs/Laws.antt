@@ -1,45 +1,37 @@
 -- What the promises mean for the lists: each call takes lists to lists as 01 says, and leaves sound records sound, refused or not. Assumes nothing.
-use Prim.Native.Nat.{ℕ, _+_, _≤_, _<_}
+use Prim.Native.Nat.{ℕ, _<_}
 use native.Mathlib.Omega.{arith}
 use mathlib.Core.Path.{_≡_, refl, sym, ap, subst, _∙_}
-use mathlib.Core.Logic.{_⊎_, inl, inr, ⊎-elim}
-use mathlib.Core.Bool.{Bool, true, false, cond}
-use mathlib.Core.List.{List, [], _∷_, _++_}
-use lib.ListN.{length, getD, set}
+use mathlib.Core.Logic.{_⊎_, inl, ⊎-elim}
+use mathlib.Core.List.{List, [], _∷_}
 use lib.Seq.{getD-set-same}
-use lib.Dec.{eqb}
 use borrow.Author.Tests.{eq-eqb, ne-eqb}
-use Rattle.links.specs.Chain.{none, In, first, last, rest, remove, following, upFrom}
-use Rattle.links.specs.Lists.{Lists, homeOf, deq, withDeque, pushBack, takeOut, taken, freed, allFree}
-use Rattle.links.specs.Listed.{listed}
-use Rattle.links.proofs.Slots.{same?, in-same, some-first, first-in, remove-first}
-use Rattle.links.proofs.Members.{in-home, home-in}
+use Rattle.links.specs.Chain.{none, In, first, rest, remove, upFrom}
+use Rattle.links.specs.Lists.{Lists, deq, withDeque, pushBack, takeOut, taken, freed, allFree}
+use Rattle.links.proofs.Slots.{same?, in-same, some-first, remove-first}
+use Rattle.links.proofs.Members.{in-home}
 use Rattle.links.proofs.Swap.{slot-real}
-use Rattle.links.proofs.Reading.{head-is, tail-is, next-is}
-use Rattle.deque_sound.specs.State.{State, deques, nodes, Lent, Shows, Stands, pastEnd}
+use Rattle.links.proofs.Reading.{head-is}
+use Rattle.deque_sound.specs.State.{State, deques, nodes, Lent, Shows, pastEnd}
 use Rattle.deque_sound.specs.Sound.{Sound}
-use Rattle.deque_work.specs.Step.{nextOf, frontOf, backOf, lengthOf, cursorOf, elementOf, movedOn, cursorNode, made, pushed, released, popped, movedBack, withCursor, stepped}
-use Rattle.deque_work.specs.Answer.{Told, refused, nothing, values, madeTold, pushedTold, poppedTold, lookedTold, droppedTold, countedTold, doneTold, lookTold, popTold, nextTold}
-use Rattle.deque_sound.specs.Refuse.{unless, answered, makeRows, dequeRows, pushRows, nodeRows, InDeque}
+use Rattle.deque_plain.specs.Step.{nextOf, frontOf, elementOf, cursorNode}
+use Rattle.deque_work.specs.Step.{released}
+use Rattle.deque_plain.specs.Answer.{Told, refused, nothing, values, lookTold, nextTold}
+use Rattle.deque_work.specs.Answer.{popTold}
+use Rattle.deque_sound.specs.Refuse.{dequeRows, pushRows, nodeRows}
 use Rattle.deque_work.specs.Work.{toBack}
-use Rattle.deque.specs.Calls.{Meets, Make, PushBack, PopFront, LookFront, LookBack, MoveToBack, UnlinkAndDrop, LengthIs, NextByCursor, ResetCursor}
-use Rattle.deque.specs.History.{pushedFree, poppedFree, droppedFree, moveOn}
-use Rattle.deque_work.specs.declared.answer.Made.{Made}
-use Rattle.deque_work.specs.declared.answer.Made.the-variants.{First, Refused as MadeRefused}
-use Rattle.deque_work.specs.declared.answer.Pushed.{Pushed}
-use Rattle.deque_work.specs.declared.answer.Pushed.the-variants.{At, Refused as PushedRefused}
-use Rattle.deque_work.specs.declared.answer.Popped.{Popped}
-use Rattle.deque_work.specs.declared.answer.Popped.the-variants.{Node as PoppedNode, Nothing as PoppedNothing, Refused as PoppedRefused}
-use Rattle.deque_work.specs.declared.answer.Looked.{Looked}
-use Rattle.deque_work.specs.declared.answer.Dropped.{Dropped}
-use Rattle.deque_work.specs.declared.answer.Dropped.the-variants.{Element, Refused as DroppedRefused}
-use Rattle.deque_work.specs.declared.answer.Counted.{Counted}
-use Rattle.deque_work.specs.declared.answer.Done.{Done}
-use Rattle.deque_work.specs.declared.answer.Done.the-variants.{Done as Did, Refused as DoneRefused}
-use Rattle.deque_sound.proofs.Sounding.{shows-sound, sound-shows, shows-unique}
-use Rattle.deque_sound.specs.Ready.{DequeReady, PushReady, NodeReady}
+use Rattle.deque_plain.specs.Meets.{Meets}
+use Rattle.deque_making.specs.Calls.{Make}
+use Rattle.deque_linking.specs.Calls.{PushBack, MoveToBack}
+use Rattle.deque_freeing.specs.Calls.{PopFront, UnlinkAndDrop}
+use Rattle.deque_plain.specs.declared.answer.Made.the-variants.{First}
+use Rattle.deque_plain.specs.declared.answer.Pushed.the-variants.{At}
+use Rattle.deque_plain.specs.declared.answer.Popped.the-variants.{Node as PoppedNode, Nothing as PoppedNothing}
+use Rattle.deque_plain.specs.declared.answer.Dropped.the-variants.{Element}
+use Rattle.deque_plain.specs.declared.answer.Done.the-variants.{Done as Did}
 use Rattle.deque_sound.proofs.Refusing.{deque-ready, push-ready, node-ready}
-use Rattle.deque_work.proofs.Keeping.{made-shows, pushed-shows, released-shows, moved-shows, stepped-shows, reset-shows, front-in, start-stands}
+use Rattle.deque_plain.proofs.Keeping.{made-shows}
+use Rattle.deque_work.proofs.Keeping.{pushed-shows, released-shows, moved-shows}
 
 -- ---- on a sound state the rows after 4 decide, and 4 is not among them
 module _ (a : State) (free : ℕ) (s : Sound a free) where

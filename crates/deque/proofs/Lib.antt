@@ -1,5 +1,4 @@
--- The theorems on the public calls: Coincide, Laws, Cursor and Kept.
-pub mod Calling
+-- The theorems on the public calls.
 pub mod Coincide
 pub mod Laws
 pub mod Cursor

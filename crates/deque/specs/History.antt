@@ -1,16 +1,16 @@
 -- What the theorems on the calls speak of besides the promises: the first free node that a call leaves, and the cursor on the lists. Assumes nothing.
 use Prim.Native.Nat.{ℕ}
-use mathlib.Core.Bool.{Bool, true, false, cond}
-use mathlib.Core.List.{List, [], _∷_}
+use mathlib.Core.Bool.{cond}
+use mathlib.Core.List.{List}
 use lib.Dec.{eqb}
 use Rattle.links.specs.Chain.{none, following}
 use Rattle.deque_sound.specs.State.{pastEnd}
-use Rattle.deque_work.specs.declared.answer.Pushed.{Pushed}
-use Rattle.deque_work.specs.declared.answer.Pushed.the-variants.{At, Refused as PushedRefused}
-use Rattle.deque_work.specs.declared.answer.Popped.{Popped}
-use Rattle.deque_work.specs.declared.answer.Popped.the-variants.{Node as PoppedNode, Nothing as PoppedNothing, Refused as PoppedRefused}
-use Rattle.deque_work.specs.declared.answer.Dropped.{Dropped}
-use Rattle.deque_work.specs.declared.answer.Dropped.the-variants.{Element, Refused as DroppedRefused}
+use Rattle.deque_plain.specs.declared.answer.Pushed.{Pushed}
+use Rattle.deque_plain.specs.declared.answer.Pushed.the-variants.{At, Refused as PushedRefused}
+use Rattle.deque_plain.specs.declared.answer.Popped.{Popped}
+use Rattle.deque_plain.specs.declared.answer.Popped.the-variants.{Node as PoppedNode, Nothing as PoppedNothing, Refused as PoppedRefused}
+use Rattle.deque_plain.specs.declared.answer.Dropped.{Dropped}
+use Rattle.deque_plain.specs.declared.answer.Dropped.the-variants.{Element, Refused as DroppedRefused}
 
 -- the first free node after a call, where it was free before: what the answer hands on, and the same one where it hands none on
 abbrev pub pushedFree : Pushed → ℕ → ℕ

@@ -1,3 +1,2 @@
--- What the contracts of the public calls cite.
-pub mod Calls
+-- What the theorems on the public calls speak of besides their promises.
 pub mod History

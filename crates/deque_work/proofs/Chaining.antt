@@ -2,22 +2,24 @@
 use Prim.Native.Nat.{ℕ, _<_}
 use native.Mathlib.Omega.{arith}
 use mathlib.Core.Path.{_≡_, refl, sym, ap, subst, _∙_}
-use mathlib.Core.Logic.{_⊎_, inl, inr, ⊎-elim}
+use mathlib.Core.Logic.{inl, ⊎-elim}
 use mathlib.Core.List.{List, [], _∷_}
-use lib.ListN.{length, getD}
 use borrow.Author.Tests.{eq-eqb, ne-eqb}
-use Rattle.links.specs.Chain.{none, In, first, rest, remove}
-use Rattle.links.specs.Lists.{Lists, deq, withDeque, takeOut, freed}
+use Rattle.links.specs.Chain.{none, rest, remove}
+use Rattle.links.specs.Lists.{Lists, deq, withDeque, freed}
 use Rattle.links.proofs.Slots.{same?, in-same, none-first, some-first, remove-first}
 use Rattle.links.proofs.Swap.{slot-real}
 use Rattle.links.proofs.Reading.{head-is}
 use Rattle.deque_sound.specs.State.{State, Shows}
-use Rattle.deque_work.specs.Step.{frontOf, elementOf, popped, released, stepped}
-use Rattle.deque_work.specs.Answer.{Told, nothing, values}
-use Rattle.deque_work.specs.Work.{Pops, Steps}
-use Rattle.deque_work.specs.declared.answer.Popped.the-variants.{Node as PoppedNode, Nothing as PoppedNothing}
-use Rattle.deque_work.specs.declared.answer.Looked.{Looked}
-use Rattle.deque_work.proofs.Keeping.{released-shows, stepped-shows}
+use Rattle.deque_plain.specs.Step.{frontOf, elementOf}
+use Rattle.deque_plain.specs.Answer.{nothing, values}
+use Rattle.deque_plain.specs.Work.{Steps}
+use Rattle.deque_plain.specs.declared.answer.Popped.the-variants.{Node as PoppedNode, Nothing as PoppedNothing}
+use Rattle.deque_plain.specs.declared.answer.Looked.{Looked}
+use Rattle.deque_plain.proofs.Keeping.{stepped-shows}
+use Rattle.deque_work.specs.Step.{released}
+use Rattle.deque_work.specs.Work.{Pops}
+use Rattle.deque_work.proofs.Keeping.{released-shows}
 
 module _ (a b : State) (free d : ℕ) (v : Lists) (s : Shows a free v) (h : d < v .count) where
   -- the first of the deque has left it and is the first free node

@@ -1,5 +1,4 @@
 -- The laws of the work on sound records.
 pub mod Keeping
 pub mod Working
-pub mod Clearing
 pub mod Chaining

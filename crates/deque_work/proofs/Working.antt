@@ -1,29 +1,26 @@
 -- What the unchecked functions ask of the links' functions, and what their stores come to. Assumes nothing.
-use Prim.Native.Nat.{ℕ, _+_, _-_, _*_, _^_, _≤_, _<_}
+use Prim.Native.Nat.{ℕ, _+_, _-_, _≤_, _<_}
 use native.Mathlib.Omega.{arith}
-use mathlib.Core.Path.{_≡_, refl, sym, ap, subst, _∙_}
-use mathlib.Core.Logic.{_⊎_, inl, inr, ⊎-elim}
-use mathlib.Core.Bool.{Bool, true, false, cond}
-use mathlib.Core.List.{List, [], _∷_, _++_}
+use mathlib.Core.Path.{_≡_, refl, ap, _∙_}
+use mathlib.Core.List.{List, []}
 use lib.ListN.{length, getD, set}
-use lib.Dec.{eqb}
 use borrow.Author.Tests.{eq-eqb, ne-eqb}
 use mir.Syntax.{w64}
 use mir.Val.{Fits}
-use Rattle.links.specs.Chain.{none, In}
-use Rattle.links.specs.Lists.{Links, Lists, links, homeOf, deq, Rep, taken}
-use Rattle.links.specs.Change.{cutOut, Linkable, Held, Ahead, LinksBack, CutsOut, MovesBack}
+use Rattle.links.specs.Chain.{none}
+use Rattle.links.specs.Lists.{Links, Lists, links, homeOf, taken}
+use Rattle.links.specs.Change.{Linkable, Held, Ahead, LinksBack, CutsOut, MovesBack}
 use Rattle.links.specs.Free.{handBack, Takes, GivesBack}
-use Rattle.links.proofs.Slots.{same?}
 use Rattle.links.proofs.Freeing.{take-does}
-use Rattle.deque_sound.specs.State.{State, state, deques, nodes, Shows, pastEnd}
-use Rattle.deque_work.specs.Step.{nextOf, frontOf, backOf, lengthOf, cursorOf, elementOf, movedOn, stepOff, cursorNode, pushed, released, shifted, movedBack, withCursor, stepped, popped}
-use Rattle.deque_work.specs.Answer.{Told, nothing, values, lookTold, popTold, nextTold}
+use Rattle.deque_sound.specs.State.{State, state, Shows}
 use Rattle.deque_sound.specs.Ready.{DequeReady, PushReady, NodeReady}
-use Rattle.deque_work.specs.Work.{toBack, Pushes, Frees, Drops, Moves, Pops, LooksFront, LooksBack, Steps}
-use Rattle.deque_work.specs.declared.answer.Popped.the-variants.{Node as PoppedNode, Nothing as PoppedNothing}
-use Rattle.deque_work.specs.declared.answer.Looked.the-variants.{Node as LookedNode, Nothing as LookedNothing}
-use Rattle.deque_work.proofs.Keeping.{length-small, length-some, pushed-shows, released-shows, moved-shows, front-in, back-in, start-stands}
+use Rattle.deque_plain.specs.Step.{movedOn}
+use Rattle.deque_plain.specs.declared.answer.Popped.the-variants.{Node as PoppedNode, Nothing as PoppedNothing}
+use Rattle.deque_plain.proofs.Keeping.{front-in}
+use Rattle.deque_plain.proofs.Looking.{head-none, real}
+use Rattle.deque_work.specs.Step.{stepOff, pushed, released, movedBack}
+use Rattle.deque_work.specs.Work.{Pushes, Frees, Drops, Moves, Pops}
+use Rattle.deque_work.proofs.Keeping.{length-small, length-some, pushed-shows, released-shows, moved-shows}
 
 -- a cursor that stood at s, moved on
 pub off-does : (c n : List ℕ) (d s q : ℕ) → getD c d 0 ≡ s → q ≡ movedOn n s → set c d q ≡ stepOff c n d s
@@ -110,83 +107,22 @@ module _ (h t l c n p o e : List ℕ) (free d : ℕ) where
 
   -- ---- a deque
   module _ (y : DequeReady (state h t l c n p o e) free d) where
-    slot : (x : ℕ) → In x (deq (y .v) d) → x < length n
-    slot x m = rw (y .shows .rep .next-len) (y .shows .rep .member d x (y .deque) m .0)
-
-    -- past the nodes is none
-    head-none : length n ≤ getD h d 0 → getD h d 0 ≡ none
-    head-none i =
-        ⊎-elim (λ k. k) (λ (k : getD h d 0 ≡ none → ⊥). absurd (omega (arith, i, slot (getD h d 0) (front-in a free (y .v) (y .shows) d (y .deque) k)))) (same? (getD h d 0) none)
-
-    tail-none : length n ≤ getD t d 0 → getD t d 0 ≡ none
-    tail-none i =
-        ⊎-elim (λ k. k) (λ (k : getD t d 0 ≡ none → ⊥). absurd (omega (arith, i, slot (getD t d 0) (back-in a free (y .v) (y .shows) d (y .deque) k)))) (same? (getD t d 0) none)
-
-    real : (x : ℕ) → x < length n → x ≡ none → ⊥
-    real x i k = omega (arith, i, k, y .shows .rep .next-len, y .shows .rep .small)
-
     -- ---- pop front
     pub pop-empty : length n ≤ getD h d 0 → Pops (state h t l c n p o e) (state h t l c n p o e) free d PoppedNothing
     pop-empty i =
-        let k = head-none i in
+        let k = head-none h t l c n p o e free d y i in
         record { is = simp (eq-eqb (getD h d 0) none k); told = simp (eq-eqb (getD h d 0) none k) }
 
     pub pop-asks : getD h d 0 < length n → NodeReady (state h t l c n p o e) free d (getD h d 0)
     pop-asks i =
-        let m = front-in a free (y .v) (y .shows) d (y .deque) (real (getD h d 0) i) in
+        let m = front-in a free (y .v) (y .shows) d (y .deque) (real h t l c n p o e free d y (getD h d 0) i) in
         let u = y .shows .rep .member d (getD h d 0) (y .deque) m in
         record { v = y .v; shows = y .shows; slot = u .0; deque = y .deque; homed = u .1 }
 
     pub pop-does : (b : State) (s r : ℕ) → s ≡ getD h d 0 → s < length n → Drops (state h t l c n p o e) b free d s r → Pops (state h t l c n p o e) b free d (PoppedNode s r s)
     pop-does b s r i j k =
-        let m : getD h d 0 ≡ none → ⊥ = λ z. real s j (i ∙ z) in
+        let m : getD h d 0 ≡ none → ⊥ = λ z. real h t l c n p o e free d y s j (i ∙ z) in
         record {
           is = simp (ne-eqb (getD h d 0) none m) (k .is ∙ ap (λ (x : ℕ). released a free d x) i);
           told = simp (ne-eqb (getD h d 0) none m) (rw (k .element-is, i) refl);
-        }
-
-    -- ---- looks
-    pub front-empty : length n ≤ getD h d 0 → LooksFront (state h t l c n p o e) d LookedNothing
-    front-empty i = record { told = simp (eq-eqb (getD h d 0) none (head-none i)) }
-
-    pub front-does : getD h d 0 < length n → LooksFront (state h t l c n p o e) d (LookedNode (getD h d 0) (getD e (getD h d 0) 0))
-    front-does i = record { told = simp (ne-eqb (getD h d 0) none (real (getD h d 0) i)) }
-
-    pub back-empty : length n ≤ getD t d 0 → LooksBack (state h t l c n p o e) d LookedNothing
-    back-empty i = record { told = simp (eq-eqb (getD t d 0) none (tail-none i)) }
-
-    pub back-does : getD t d 0 < length n → LooksBack (state h t l c n p o e) d (LookedNode (getD t d 0) (getD e (getD t d 0) 0))
-    back-does i = record { told = simp (ne-eqb (getD t d 0) none (real (getD t d 0) i)) }
-
-    -- ---- next by cursor, from the node x
-    pub step-ends : (x : ℕ) → x ≡ cursorNode (state h t l c n p o e) d → length n ≤ x → Steps (state h t l c n p o e) (state h t l (set c d none) n p o e) d LookedNothing
-    step-ends x i k =
-        ⊎-elim
-        (λ (m : cursorNode a d ≡ none).
-        record {
-          is = simp (eq-eqb (cursorNode a d) none m);
-          told = go (cursorNode a d) (inl m);
-        })
-        (λ u.
-        ⊎-elim
-        (λ (m : cursorNode a d ≡ pastEnd).
-        record {
-          is = simp (ne-eqb (cursorNode a d) none (λ z. omega (arith, m, z)), eq-eqb (cursorNode a d) pastEnd m);
-          told = go (cursorNode a d) (inr m);
-        })
-        (λ m. absurd (omega (arith, slot (cursorNode a d) m, k, i)))
-        u)
-        (start-stands a free (y .v) (y .shows) d (y .deque))
-      where
-        go : (z : ℕ) → (z ≡ none) ⊎ (z ≡ pastEnd) → nothing ≡ cond (eqb z pastEnd) nothing (lookTold a z)
-        go z (inl m) = simp (ne-eqb z pastEnd (λ j. omega (arith, m, j)), eq-eqb z none m)
-        go z (inr m) = simp (eq-eqb z pastEnd m)
-
-    pub step-does : (x q : ℕ) → x ≡ cursorNode (state h t l c n p o e) d → x < length n → q ≡ movedOn n x → Steps (state h t l c n p o e) (state h t l (set c d q) n p o e) d (LookedNode x (getD e x 0))
-    step-does x q i k j =
-        let f : cursorNode a d ≡ none → ⊥ = λ z. real x k (i ∙ z) in
-        let g : cursorNode a d ≡ pastEnd → ⊥ = λ z. omega (arith, k, i, z, y .shows .rep .next-len, y .shows .rep .small) in
-        record {
-          is = simp (ne-eqb (cursorNode a d) none f, ne-eqb (cursorNode a d) pastEnd g) (ap (λ (z : ℕ). withCursor a d z) (j ∙ ap (λ (z : ℕ). movedOn n z) i));
-          told = simp (ne-eqb (cursorNode a d) pastEnd g, ne-eqb (cursorNode a d) none f) (ap (λ (z : ℕ). values (z ∷ getD e z 0 ∷ [])) i);
         }

@@ -1,17 +1,17 @@
 -- What the unchecked functions ask and do: the equation on the records, and the law on the lists that they stand for. Assumes nothing.
-use Prim.Native.Nat.{ℕ, _<_}
+use Prim.Native.Nat.{ℕ}
 use mathlib.Core.Path.{_≡_}
-use mathlib.Core.List.{List, [], _∷_, _++_}
-use lib.ListN.{length, getD, replicate}
-use Rattle.links.specs.Chain.{none, remove}
-use Rattle.links.specs.Lists.{Links, Lists, homeOf, deq, withDeque, pushBack, takeOut, taken, freed}
+use mathlib.Core.List.{[], _∷_, _++_}
+use Rattle.links.specs.Chain.{remove}
+use Rattle.links.specs.Lists.{Links, Lists, deq, withDeque, pushBack, takeOut, taken, freed}
 use Rattle.links.specs.Change.{cutOut}
 use Rattle.links.specs.Free.{handBack}
 use Rattle.deque_sound.specs.State.{State, Shows}
-use Rattle.deque_work.specs.Step.{nextOf, frontOf, backOf, elementOf, pushed, released, movedBack, stepped, popped}
-use Rattle.deque_work.specs.Answer.{Told, poppedTold, lookedTold, popTold, lookTold, nextTold}
-use Rattle.deque_work.specs.declared.answer.Popped.{Popped}
-use Rattle.deque_work.specs.declared.answer.Looked.{Looked}
+use Rattle.deque_plain.specs.Step.{nextOf, elementOf}
+use Rattle.deque_plain.specs.Answer.{poppedTold}
+use Rattle.deque_plain.specs.declared.answer.Popped.{Popped}
+use Rattle.deque_work.specs.Step.{pushed, released, movedBack, popped}
+use Rattle.deque_work.specs.Answer.{popTold}
 
 -- ---- on the lists
 -- s goes to the back of its deque d
@@ -40,18 +40,3 @@ pub record Moves (a b : State) (free d s : ℕ) : Type 0 where
 pub record Pops (a b : State) (free d : ℕ) (r : Popped) : Type 0 where
   pub is : b ≡ popped a free d
   pub told : poppedTold r ≡ popTold a d
-
-pub record LooksFront (a : State) (d : ℕ) (r : Looked) : Type 0 where
-  pub told : lookedTold r ≡ lookTold a (frontOf a d)
-
-pub record LooksBack (a : State) (d : ℕ) (r : Looked) : Type 0 where
-  pub told : lookedTold r ≡ lookTold a (backOf a d)
-
-pub record Steps (a b : State) (d : ℕ) (r : Looked) : Type 0 where
-  pub is : b ≡ stepped a d
-  pub told : lookedTold r ≡ nextTold a d
-
--- every recorded length 0 and every cursor at none
-pub record Clears (lens₀ lens cursors : List ℕ) : Type 0 where
-  pub lens-is : lens ≡ replicate (length lens₀) 0
-  pub cursors-is : cursors ≡ replicate (length lens₀) none

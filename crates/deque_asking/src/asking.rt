@@ -1,0 +1,211 @@
+// The public calls that look, count or move a cursor: refusals in order, then the work. None asks anything of its input. A refused call leaves every record as found.
+ghost use Rattle.deque_sound.specs.State.{state};
+ghost use Rattle.deque_asking.specs.Calls.{LookFront, LookBack, LengthIs, NextByCursor, ResetCursor};
+use deque_plain::NONE;
+use deque_plain::answer::Counted;
+use deque_plain::answer::Done;
+use deque_plain::answer::Looked;
+use deque_plain::looks::back;
+use deque_plain::looks::front;
+use deque_plain::looks::step;
+use deque_sound::refuse::deque_refusal;
+
+// Looks at the front of the deque d: the node and its element, Nothing where the deque is empty, or refuses (4, 16).
+pub fn look_front(
+    heads: &[usize],
+    tails: &[usize],
+    lens: &[usize],
+    cursors: &[usize],
+    next: &[usize],
+    prev: &[usize],
+    home: &[usize],
+    element: &[u64],
+    free: usize,
+    d: usize,
+) -> Looked
+    ensures { λ r. ⌜ LookFront (state (now (heads .entry)) (now (tails .entry)) (now (lens .entry)) (now (cursors .entry)) (now (next .entry)) (now (prev .entry)) (now (home .entry)) (now (element .entry))) free d r ⌝ }
+{
+    let no = deque_refusal(
+        heads,
+        tails,
+        lens,
+        cursors,
+        next,
+        prev,
+        home,
+        element,
+        free,
+        d,
+    );
+    if no != 0 {
+        return Looked::Refused(no);
+    }
+    front(
+        heads,
+        tails,
+        lens,
+        cursors,
+        next,
+        prev,
+        home,
+        element,
+        free,
+        d,
+    )
+}
+
+// Looks at the back of the deque d: the node and its element, Nothing where the deque is empty, or refuses (4, 16).
+pub fn look_back(
+    heads: &[usize],
+    tails: &[usize],
+    lens: &[usize],
+    cursors: &[usize],
+    next: &[usize],
+    prev: &[usize],
+    home: &[usize],
+    element: &[u64],
+    free: usize,
+    d: usize,
+) -> Looked
+    ensures { λ r. ⌜ LookBack (state (now (heads .entry)) (now (tails .entry)) (now (lens .entry)) (now (cursors .entry)) (now (next .entry)) (now (prev .entry)) (now (home .entry)) (now (element .entry))) free d r ⌝ }
+{
+    let no = deque_refusal(
+        heads,
+        tails,
+        lens,
+        cursors,
+        next,
+        prev,
+        home,
+        element,
+        free,
+        d,
+    );
+    if no != 0 {
+        return Looked::Refused(no);
+    }
+    back(
+        heads,
+        tails,
+        lens,
+        cursors,
+        next,
+        prev,
+        home,
+        element,
+        free,
+        d,
+    )
+}
+
+// The length of the deque d, or refuses (4, 16).
+pub fn length_of(
+    heads: &[usize],
+    tails: &[usize],
+    lens: &[usize],
+    cursors: &[usize],
+    next: &[usize],
+    prev: &[usize],
+    home: &[usize],
+    element: &[u64],
+    free: usize,
+    d: usize,
+) -> Counted
+    ensures { λ r. ⌜ LengthIs (state (now (heads .entry)) (now (tails .entry)) (now (lens .entry)) (now (cursors .entry)) (now (next .entry)) (now (prev .entry)) (now (home .entry)) (now (element .entry))) free d r ⌝ }
+{
+    let no = deque_refusal(
+        heads,
+        tails,
+        lens,
+        cursors,
+        next,
+        prev,
+        home,
+        element,
+        free,
+        d,
+    );
+    if no != 0 {
+        return Counted::Refused(no);
+    }
+    let n = lens[d];
+    Counted::Length(n)
+}
+
+// The node at the cursor of the deque d, which starts at the head and moves on; after the last Nothing once. Refuses (4, 16).
+pub fn next_by_cursor(
+    heads: &[usize],
+    tails: &[usize],
+    lens: &[usize],
+    cursors: &mut [usize],
+    next: &[usize],
+    prev: &[usize],
+    home: &[usize],
+    element: &[u64],
+    free: usize,
+    d: usize,
+) -> Looked
+    ensures { λ r. ⌜ NextByCursor (state (now (heads .entry)) (now (tails .entry)) (now (lens .entry)) (now (cursors .entry)) (now (next .entry)) (now (prev .entry)) (now (home .entry)) (now (element .entry))) (state (now (heads .entry)) (now (tails .entry)) (now (lens .entry)) (now (cursors .exit)) (now (next .entry)) (now (prev .entry)) (now (home .entry)) (now (element .entry))) free d r ⌝ }
+{
+    let no = deque_refusal(
+        heads,
+        tails,
+        lens,
+        cursors,
+        next,
+        prev,
+        home,
+        element,
+        free,
+        d,
+    );
+    if no != 0 {
+        return Looked::Refused(no);
+    }
+    step(
+        heads,
+        tails,
+        lens,
+        cursors,
+        next,
+        prev,
+        home,
+        element,
+        free,
+        d,
+    )
+}
+
+// Puts the cursor of the deque d back to none, or refuses (4, 16).
+pub fn reset_cursor(
+    heads: &[usize],
+    tails: &[usize],
+    lens: &[usize],
+    cursors: &mut [usize],
+    next: &[usize],
+    prev: &[usize],
+    home: &[usize],
+    element: &[u64],
+    free: usize,
+    d: usize,
+) -> Done
+    ensures { λ r. ⌜ ResetCursor (state (now (heads .entry)) (now (tails .entry)) (now (lens .entry)) (now (cursors .entry)) (now (next .entry)) (now (prev .entry)) (now (home .entry)) (now (element .entry))) (state (now (heads .entry)) (now (tails .entry)) (now (lens .entry)) (now (cursors .exit)) (now (next .entry)) (now (prev .entry)) (now (home .entry)) (now (element .entry))) free d r ⌝ }
+{
+    let no = deque_refusal(
+        heads,
+        tails,
+        lens,
+        cursors,
+        next,
+        prev,
+        home,
+        element,
+        free,
+        d,
+    );
+    if no != 0 {
+        return Done::Refused(no);
+    }
+    cursors[d] = NONE;
+    Done::Done
+}

@@ -1,0 +1,107 @@
+// The public calls that put a node at the back: refusals in order, then the work. None asks anything of its input. A refused call leaves every record as found.
+ghost use Rattle.deque_sound.specs.State.{state};
+ghost use Rattle.deque_linking.specs.Calls.{PushBack, MoveToBack};
+use deque_plain::answer::Done;
+use deque_plain::answer::Pushed;
+use deque_sound::refuse::node_refusal;
+use deque_sound::refuse::push_refusal;
+use deque_work::unchecked::push;
+use deque_work::unchecked::shift;
+
+// Puts the element e at the back of the deque d, in the first free node. Answers that node, or refuses (4, 10, 16).
+pub fn push_back(
+    heads: &mut [usize],
+    tails: &mut [usize],
+    lens: &mut [usize],
+    cursors: &mut [usize],
+    next: &mut [usize],
+    prev: &mut [usize],
+    home: &mut [usize],
+    element: &mut [u64],
+    free: usize,
+    d: usize,
+    e: u64,
+) -> Pushed
+    ensures { λ r. ⌜ PushBack (state (now (heads .entry)) (now (tails .entry)) (now (lens .entry)) (now (cursors .entry)) (now (next .entry)) (now (prev .entry)) (now (home .entry)) (now (element .entry))) (state (now (heads .exit)) (now (tails .exit)) (now (lens .exit)) (now (cursors .exit)) (now (next .exit)) (now (prev .exit)) (now (home .exit)) (now (element .exit))) free d e r ⌝ }
+{
+    let no = push_refusal(
+        heads,
+        tails,
+        lens,
+        cursors,
+        next,
+        prev,
+        home,
+        element,
+        free,
+        d,
+    );
+    if no != 0 {
+        return Pushed::Refused(no);
+    }
+    let rest = push(
+        heads,
+        tails,
+        lens,
+        cursors,
+        next,
+        prev,
+        home,
+        element,
+        free,
+        d,
+        e,
+    );
+    Pushed::At {
+        slot: free,
+        free: rest,
+    }
+}
+
+// Moves the node s of the deque d to its back, or refuses (4, 16, 17).
+pub fn move_to_back(
+    heads: &mut [usize],
+    tails: &mut [usize],
+    lens: &[usize],
+    cursors: &mut [usize],
+    next: &mut [usize],
+    prev: &mut [usize],
+    home: &mut [usize],
+    element: &[u64],
+    free: usize,
+    d: usize,
+    s: usize,
+) -> Done
+    ensures { λ r. ⌜ MoveToBack (state (now (heads .entry)) (now (tails .entry)) (now (lens .entry)) (now (cursors .entry)) (now (next .entry)) (now (prev .entry)) (now (home .entry)) (now (element .entry))) (state (now (heads .exit)) (now (tails .exit)) (now (lens .entry)) (now (cursors .exit)) (now (next .exit)) (now (prev .exit)) (now (home .exit)) (now (element .entry))) free d s r ⌝ }
+{
+    let no = node_refusal(
+        heads,
+        tails,
+        lens,
+        cursors,
+        next,
+        prev,
+        home,
+        element,
+        free,
+        d,
+        s,
+    );
+    if no != 0 {
+        return Done::Refused(no);
+    }
+    shift(
+        heads,
+        tails,
+        lens,
+        cursors,
+        next,
+        prev,
+        home,
+        element,
+        free,
+        d,
+        s,
+    );
+    Done::Done
+}

@@ -1,0 +1,2 @@
+-- Why the public calls meet their promises.
+pub mod Calling
