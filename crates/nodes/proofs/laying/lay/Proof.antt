@@ -1,7 +1,7 @@
 -- `lay` meets its contract: a walk of its MIR. The nodes are opened once, before the loop; at the loop's test, with i turns done, their row is `laidNodes`.
 -- Assumes nothing.
 use mathlib.Core.Path.{_≡_, refl, sym, ap, subst}
-use Prim.Native.Nat.{ℕ, suc, _<_, _^_, _*_, _+_}
+use Prim.Native.Nat.{ℕ, suc, _<_, _≤_, _^_, _*_, _+_}
 use native.Mathlib.Omega.{arith}
 use mathlib.Core.Bool.{Bool}
 use mathlib.Core.List.{[], _∷_, List}
@@ -180,9 +180,9 @@ module _ {M : Type 1} (𝓤 : URA M) (H : Heap 𝓤) (A : Atoms 𝓤) (W : Given
       abbrev Left : Out → SProp 𝓤
       Left = afterBlock 𝓤 H (afterSeq 𝓤 H (Wp 𝓤 H C Λ E mir.t-5 (atReturn 𝓤 H E Post)) (atReturn 𝓤 H E Post))
 
-      more : (i : ℕ) (X : SProp 𝓤) → i < m → ent 𝓤 (⋆ 𝓤 H A (At (suc i))) X → ent 𝓤 (⋆ 𝓤 H A (At i)) (Wp 𝓤 H C Λ E mir.turn-1 (afterTurn 𝓤 H X Left))
+      more : (i : ℕ) (X : SProp 𝓤) → 0 ≤ i → i < m → ent 𝓤 (⋆ 𝓤 H A (At (suc i))) X → ent 𝓤 (⋆ 𝓤 H A (At i)) (Wp 𝓤 H C Λ E mir.turn-1 (afterTurn 𝓤 H X Left))
       unfolding afterTurn
-      more i X l k =
+      more i X _ l k =
           qed W (At i) ∵ exec ! C Λ E mir.turn-1 (anyQ (afterTurn 𝓤 H X Left)) $
           assigns ! (bin ! (load ! (from ! (stop !)) (look ! 1 refl)) (load ! (from ! (stop !)) (look ! 8 refl)) tt) (from ! (stop !)) (init ! 2 refl (tt, tt)) $
           rewrite ! 2 (λ (t : Bool). ‵ (fat fullShare tyBool l₆ 0 (vbool t))) (yes-less i m l) refl $ stays ! (load ! (from ! (stop !)) (look ! 2 refl)) $
@@ -260,7 +260,7 @@ module _ {M : Type 1} (𝓤 : URA M) (H : Heap 𝓤) (A : Atoms 𝓤) (W : Given
         move ! (21 ∷ []) $ fsplit ! $ fsplit3 ! $ drop ! $ move ! (23 ∷ []) $ split ! $ move ! (2 ∷ 3 ∷ 0 ∷ []) $ opens-slice ! tt T.the-row ys (r .ptr .0) (r .ptr .1) $
         first ! $ blocks ! $
         keep ! (0 ∷ 16 ∷ 12 ∷ 10 ∷ 8 ∷ 6 ∷ 22 ∷ 20 ∷ 18 ∷ 24 ∷ 14 ∷ 1 ∷ 2 ∷ 3 ∷ 25 ∷ 23 ∷ 21 ∷ 19 ∷ 17 ∷ 15 ∷ 13 ∷ 11 ∷ 9 ∷ 7 ∷ []) $
-        by ! (counts 𝓤 H (W .laws) 𝓣 _ mir.turn-1 (Left l₀ l₁ l₂ l₃ l₄ l₅ l₆ l₇ l₈ l₉) m (λ i. ⋆ 𝓤 H A (At l₀ l₁ l₂ l₃ l₄ l₅ l₆ l₇ l₈ l₉ i)) (more l₀ l₁ l₂ l₃ l₄ l₅ l₆ l₇ l₈ l₉) (last l₀ l₁ l₂ l₃ l₄ l₅ l₆ l₇ l₈ l₉))))))))))))))))
+        by ! (counts 𝓤 H (W .laws) 𝓣 _ mir.turn-1 (Left l₀ l₁ l₂ l₃ l₄ l₅ l₆ l₇ l₈ l₉) 0 m (λ i. ⋆ 𝓤 H A (At l₀ l₁ l₂ l₃ l₄ l₅ l₆ l₇ l₈ l₉ i)) (more l₀ l₁ l₂ l₃ l₄ l₅ l₆ l₇ l₈ l₉) (last l₀ l₁ l₂ l₃ l₄ l₅ l₆ l₇ l₈ l₉) (omega arith))))))))))))))))
 
 module _ {M : Type 1} (𝓤 : URA M) (H : Heap 𝓤) (A : Atoms 𝓤) (W : Given 𝓤 H A) (mem : Memory → SProp 𝓤) (run : Routine → Fun 𝓤) where
   lay-walks : (𝓣 : Tables 𝓤 H) → Triple 𝓤 (𝓣 .C #turns) (Turns 𝓤 H A mem run) → Triple 𝓤 (𝓣 .C #makes) (Makes 𝓤 H A mem run) → Walks 𝓤 H A lay′.ended stayed (WpFn 𝓤 H (𝓣 .C) (𝓣 .Λ) code.function) (lay′.clauses 𝓤 H A mem run)
