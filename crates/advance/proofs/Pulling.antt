@@ -12,7 +12,7 @@ use Rattle.rules.specs.Sound.{Sound}
 use Rattle.records.specs.declared.Clock.{Clock}
 use Rattle.records.specs.Records.{Nodes, entries, records}
 use Rattle.records.specs.Shows.{Shows}
-use Rattle.arming.specs.Timers.{Ready}
+use Rattle.records_timers.specs.Timers.{Ready}
 use Rattle.popping.specs.declared.pop.Turn.{Turn}
 use Rattle.popping.specs.Pop.{told, left, TurnReady, Outcome}
 use Rattle.turns.specs.Turns.{turnNodes, turnTurn, Turned}

@@ -12,10 +12,10 @@ use Rattle.rules.specs.Wheel.{Wheel, setEntry, schedule, deschedule, start, pul
 use Rattle.rules.specs.Calls.{act}
 use Rattle.rules.specs.Sound.{Sound}
 use Rattle.records.specs.declared.Clock.{Clock}
-use Rattle.arming.specs.declared.timers.Armed.{Armed}
+use Rattle.records_timers.specs.declared.timers.Armed.{Armed}
 use Rattle.records.specs.Records.{Nodes, Entries, Records, entries, records}
 use Rattle.records.specs.Shows.{Shows}
-use Rattle.arming.specs.Timers.{ArmReady, SlotReady, Arms, Disarms}
+use Rattle.records_timers.specs.Timers.{ArmReady, SlotReady, Arms, Disarms}
 use Rattle.records.specs.Settings.{EntryReady, Sets}
 use Rattle.records.specs.Moments.{Starts}
 use Rattle.records.proofs.Serving.{heads-are, slots-are, buckets-are, entry-ready, is-armed}

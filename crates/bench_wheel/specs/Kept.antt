@@ -7,7 +7,7 @@ use lib.ListN.{length, getD}
 use Rattle.rules.specs.Geometry.{wheel01}
 use Rattle.records.specs.declared.Clock.{Clock}
 use Rattle.records.specs.Records.{Records}
-use Rattle.arming.specs.Timers.{Ready}
+use Rattle.records_timers.specs.Timers.{Ready}
 
 -- the records show a sound wheel
 abbrev pub Works : Records → Type 0

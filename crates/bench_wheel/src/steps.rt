@@ -1,11 +1,11 @@
 // For proved code only, unchecked: an entry armed, and a timer armed or cancelled, on records that show a sound wheel.
 ghost use Rattle.wheel_refuse.specs.Lent.{lent};
 ghost use Rattle.bench_wheel.specs.Kept.{Works, Kept, MayArm, IsArmed};
-use arming::timers::arm;
-use arming::timers::disarm;
 use links::NONE;
 use records::Clock;
 use records::settings::set_entry;
+use records_timers::timers::arm;
+use records_timers::timers::disarm;
 
 // The serial that is never given: there is none after it.
 const LAST: u64 = 18446744073709551615;

@@ -1,8 +1,8 @@
 // The work of enable, over what is lent beside the nodes: the nodes themselves are laid out in place, where it says so. No `requires`.
 ghost use Rattle.face_work.specs.Works.{EnableFor};
-use enabling::around::lay_out_around;
 use face_work::LaidTurn;
 use records::Clock;
+use records_layout::around::lay_out_around;
 use wheel::Noted;
 use wheel_refuse::around_refusal;
 

@@ -9,9 +9,9 @@ use Rattle.rules.specs.Geometry.{wheel01}
 use Rattle.rules.specs.Wheel.{enable, ok}
 use Rattle.records.specs.declared.Clock.{Clock}
 use Rattle.records.specs.Records.{Records, records, nodes, entries}
-use Rattle.enabling.specs.Layout.{bareLinks, bareNodes, enabledWith, LayReady}
-use Rattle.enabling.specs.Around.{AroundReady, LaysAround}
-use Rattle.enabling.proofs.Bare.{bare-lays}
+use Rattle.records_layout.specs.Layout.{bareLinks, bareNodes, enabledWith, LayReady}
+use Rattle.records_layout.specs.Around.{AroundReady, LaysAround}
+use Rattle.records_layout.proofs.Bare.{bare-lays}
 use Rattle.wheel_sound.specs.Clauses.{NodesLengths}
 use Rattle.wheel_refuse.specs.Refuse.{enableRows, LendableAround, RefusesAround, RefusesEnable}
 use Rattle.wheel_refuse.proofs.Rows.{past}

@@ -12,8 +12,8 @@ use lib.Seq.{getD-set-same, getD-set-other, ext-getD}
 use Rattle.links.specs.Chain.{none}
 use Rattle.rules.specs.Geometry.{wheel01, buckets}
 use Rattle.rules.proofs.Cases.{same?, not-both}
-use Rattle.enabling.specs.Layout.{bareLinks}
-use Rattle.enabling.proofs.Bare.{bare-next-len, bare-next-at, bare-prev-len, bare-prev-at, bare-home-len, bare-home-at}
+use Rattle.records_layout.specs.Layout.{bareLinks}
+use Rattle.records_layout.proofs.Bare.{bare-next-len, bare-next-at, bare-prev-len, bare-prev-at, bare-home-len, bare-home-at}
 use Rattle.nodes.specs.declared.Node.{Node}
 use Rattle.nodes.specs.Columns.{columns}
 use Rattle.nodes.specs.Laid.{turnsOf, laidNode, Laid}

@@ -8,7 +8,7 @@ use lib.ListN.{length}
 use Rattle.links.specs.Chain.{none}
 use Rattle.rules.specs.Geometry.{wheel01, buckets}
 use Rattle.records.specs.Records.{Nodes}
-use Rattle.enabling.specs.Layout.{bareNodes}
+use Rattle.records_layout.specs.Layout.{bareNodes}
 use Rattle.nodes.specs.declared.Node.{Node}
 use Rattle.nodes.specs.Columns.{Columns, columns, columnsOf}
 

@@ -26,8 +26,8 @@ use Rattle.records.specs.Clocks.{setFree}
 use Rattle.records.specs.Counts.{armedAmong}
 use Rattle.links.specs.Chain.{none as nowhere}
 use Rattle.popping.proofs.Fewer.{fewer}
-use Rattle.arming.specs.Change.{freedFrom, movedTo}
-use Rattle.arming.specs.Timers.{Ready, SlotReady, MoveReady, Disarms, Rearms}
+use Rattle.records_timers.specs.Change.{freedFrom, movedTo}
+use Rattle.records_timers.specs.Timers.{Ready, SlotReady, MoveReady, Disarms, Rearms}
 use Rattle.popping.specs.declared.pop.Pulled.the-variants.{Expired, Rescheduled, End}
 use Rattle.popping.specs.Pop.{Nears, left, told, goes, stops, popNodes, popTurn, TurnReady, PopReady, Outcome, Pops}
 use Rattle.popping.proofs.Turning.{after, turn-skip, turn-expire, turn-move, popped-armed, unlink-pop, freed-sound}

@@ -16,9 +16,9 @@ use Rattle.records.specs.declared.Clock.{Clock}
 use Rattle.records.specs.Records.{Nodes, entries, Records, records}
 use Rattle.records.specs.Shows.{Shows}
 use Rattle.records.specs.Clocks.{setFree, standing}
-use Rattle.arming.specs.Change.{freedFrom, movedTo}
+use Rattle.records_timers.specs.Change.{freedFrom, movedTo}
 use Rattle.records.specs.Counts.{armedAmong}
-use Rattle.arming.specs.Timers.{Ready}
+use Rattle.records_timers.specs.Timers.{Ready}
 use Rattle.popping.specs.declared.position.Position.{Position}
 use Rattle.popping.specs.declared.pop.Pulled.{Pulled}
 use Rattle.popping.specs.declared.pop.Pulled.the-variants.{Expired, Rescheduled, End}

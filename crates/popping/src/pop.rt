@@ -2,10 +2,10 @@
 ghost use Rattle.rules.specs.Geometry.{wheel01};
 ghost use Rattle.records.specs.Records.{nodes};
 ghost use Rattle.popping.specs.Pop.{PopReady, Pops};
-use arming::timers::disarm;
-use arming::timers::rearm;
 use place::find;
 use records::Clock;
+use records_timers::timers::disarm;
+use records_timers::timers::rearm;
 
 // What a pull answers.
 pub enum Pulled {

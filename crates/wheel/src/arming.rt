@@ -2,8 +2,8 @@
 ghost use Rattle.wheel_refuse.specs.Lent.{lent};
 ghost use Rattle.wheel_plain.specs.Answers.{scheduledClock};
 ghost use Rattle.wheel_plain.specs.Calls.{Schedule};
-use arming::timers::arm;
 use records::Clock;
+use records_timers::timers::arm;
 use wheel_plain::Scheduled;
 use wheel_refuse::schedule_refusal;
 

@@ -2,8 +2,8 @@
 ghost use Rattle.wheel_refuse.specs.Lent.{lent};
 ghost use Rattle.wheel_plain.specs.Answers.{timedClock};
 ghost use Rattle.wheel_plain.specs.Calls.{Enable};
-use enabling::layout::lay_out;
 use records::Clock;
+use records_layout::layout::lay_out;
 use wheel_plain::Timed;
 use wheel_refuse::enable_refusal;
 

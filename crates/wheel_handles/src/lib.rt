@@ -2,9 +2,9 @@
 ghost use Rattle.wheel_refuse.specs.Lent.{lent};
 ghost use Rattle.wheel_plain.specs.Answers.{rescheduledClock, timedClock};
 ghost use Rattle.wheel_plain.specs.Calls.{Reschedule, Deschedule};
-use arming::timers::disarm;
-use arming::timers::rearm;
 use records::Clock;
+use records_timers::timers::disarm;
+use records_timers::timers::rearm;
 use wheel_plain::Rescheduled;
 use wheel_plain::Timed;
 use wheel_refuse::handle_refusal;

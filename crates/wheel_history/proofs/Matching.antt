@@ -219,24 +219,29 @@ module _ (R : Records) (w : Wheel) (T : Tells R w) where
     in-range l =
         let em = p .nodes .next-len in
         let ek = p .entries .dated-len in
-        ap (λ (b : Bool). cond b true (cond (ltb 4096 m) true (cond (eqb k 0) true (ltb 4096 k)))) (lt-leb m (buckets wheel01) (omega (arith, em, l .ranges .room)))
-        ∙ ap (λ (b : Bool). cond b true (cond (eqb k 0) true (ltb 4096 k))) (le-ltb 4096 m (omega (arith, em, l .ranges .nodes-most)))
-        ∙ ap (λ (b : Bool). cond b true (ltb 4096 k)) (ne-eqb k 0 (λ i. omega (arith, i, ek, l .ranges .some)))
-        ∙ le-ltb 4096 k (omega (arith, ek, l .ranges .entries-most))
+        ap (λ (b : Bool). cond b true (cond (ltb 4096 m) true (cond (eqb k 0) true (ltb 4096 k)))) (lt-leb m (buckets wheel01) (omega (arith, em, l .around .ranges .room)))
+        ∙ ap (λ (b : Bool). cond b true (cond (eqb k 0) true (ltb 4096 k))) (le-ltb 4096 m (omega (arith, em, l .around .ranges .nodes-most)))
+        ∙ ap (λ (b : Bool). cond b true (ltb 4096 k)) (ne-eqb k 0 (λ i. omega (arith, i, ek, l .around .ranges .some)))
+        ∙ le-ltb 4096 k (omega (arith, ek, l .around .ranges .entries-most))
 
     lends : Ranges (buckets wheel01) m k → Lendable R
     lends r =
         let em = p .nodes .next-len in
         let ek = p .entries .dated-len in
         record {
-          ranges =
+          around =
               record {
-                room = omega (arith, em, r .room);
-                nodes-most = omega (arith, em, r .nodes-most);
-                some = omega (arith, ek, r .some);
-                entries-most = omega (arith, ek, r .entries-most);
+                ranges =
+                    record {
+                      room = omega (arith, em, r .room);
+                      nodes-most = omega (arith, em, r .nodes-most);
+                      some = omega (arith, ek, r .some);
+                      entries-most = omega (arith, ek, r .entries-most);
+                    };
+                ends = p .ends;
+                entries =
+                    record { dated-len = refl; deadline-len = p .entries .deadline-len ∙ sym ek; generation-len = p .entries .generation-len ∙ sym ek };
               };
-          ends = p .ends;
           nodes =
               record {
                 next-len = refl;
@@ -246,8 +251,6 @@ module _ (R : Records) (w : Wheel) (T : Tells R w) where
                 generation-len = p .nodes .generation-len ∙ sym em;
                 serial-len = p .nodes .serial-len ∙ sym em;
               };
-          entries =
-              record { dated-len = refl; deadline-len = p .entries .deadline-len ∙ sym ek; generation-len = p .entries .generation-len ∙ sym ek };
         }
 
     out-of-range : (Lendable R → ⊥) → outOfRange wheel01 m k ≡ true

@@ -46,7 +46,7 @@ module _ (c : Clock) (i : InRange wheel01 c) where
 
 -- enabled over lent records
 pub enabling : (R : Records) → Lendable R → InRange wheel01 (laidOut R .clock)
-enabling R l = record { some = l .ranges .some; most = l .ranges .entries-most; known = λ o. absurd (false≢true o) }
+enabling R l = record { some = l .around .ranges .some; most = l .around .ranges .entries-most; known = λ o. absurd (false≢true o) }
 
 -- moved, or removed
 pub moving : (R : Records) (x : ℕ) (b : Bool) → InRange wheel01 (R .clock) → InRange wheel01 (cond b (moved R x) (descheduled R x) .clock)

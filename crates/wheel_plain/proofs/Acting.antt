@@ -22,10 +22,10 @@ use Rattle.rules.specs.Sound.{Sound}
 use Rattle.records.specs.declared.Clock.{Clock}
 use Rattle.records.specs.Records.{Nodes, Entries, Records, records, nodes, entries, join}
 use Rattle.records.specs.Shows.{nodeAt, entryAt, Shows}
-use Rattle.arming.specs.Timers.{Ready, ArmReady, SlotReady, MoveReady}
+use Rattle.records_timers.specs.Timers.{Ready, ArmReady, SlotReady, MoveReady}
 use Rattle.records.specs.Counts.{DueReady}
 use Rattle.records.specs.Settings.{EntryReady}
-use Rattle.enabling.specs.Layout.{LayReady}
+use Rattle.records_layout.specs.Layout.{LayReady}
 use Rattle.popping.specs.Pop.{TurnReady}
 use Rattle.wheel_sound.specs.Clauses.{Armed}
 use Rattle.wheel_sound.specs.Sound.{SoundRecords}
@@ -58,20 +58,20 @@ lay-ready N E c k f z =
           record {
             sizes =
                 record {
-                  tails-len = y .ends .tails-len ∙ sym (y .ends .heads-len);
+                  tails-len = y .around .ends .tails-len ∙ sym (y .around .ends .heads-len);
                   prev-len = y .nodes .prev-len;
                   home-len = y .nodes .bucket-len;
-                  few = omega (arith, y .ends .heads-len);
-                  small = y .ranges .nodes-most;
+                  few = omega (arith, y .around .ends .heads-len);
+                  small = y .around .ranges .nodes-most;
                 };
-            room = omega (arith, y .ends .heads-len, y .ranges .room);
+            room = omega (arith, y .around .ends .heads-len, y .around .ranges .room);
           };
-      heads-len = y .ends .heads-len;
+      heads-len = y .around .ends .heads-len;
       entry-len = y .nodes .entry-len;
       generation-len = y .nodes .generation-len;
       serial-len = y .nodes .serial-len;
-      deadline-len = y .entries .deadline-len;
-      entries-generation-len = y .entries .generation-len;
+      deadline-len = y .around .entries .deadline-len;
+      entries-generation-len = y .around .entries .generation-len;
     }
 
 -- ---- schedule

@@ -13,16 +13,16 @@ use Rattle.rules.specs.Wheel.{Wheel, Call, enable, setEntry, schedule, reschedu
 use Rattle.rules.specs.Calls.{act, rearmed}
 use Rattle.rules.specs.Sound.{Sound, SoundIfEnabled}
 use Rattle.records.specs.declared.Clock.{Clock}
-use Rattle.arming.specs.declared.timers.Armed.{Armed}
+use Rattle.records_timers.specs.declared.timers.Armed.{Armed}
 use Rattle.records.specs.declared.counts.Due.{Due as Found}
 use Rattle.records.specs.declared.counts.Due.the-variants.{At as FoundAt, Nothing}
 use Rattle.records.specs.Records.{Nodes, Entries, Records, records, nodes, entries, join}
 use Rattle.records.specs.Shows.{Shows, Stands}
-use Rattle.arming.specs.Timers.{Arms, Disarms, Rearms}
+use Rattle.records_timers.specs.Timers.{Arms, Disarms, Rearms}
 use Rattle.records.specs.Counts.{Counts, dueTold, FindsDue}
 use Rattle.records.specs.Settings.{settled, Sets}
 use Rattle.records.specs.Moments.{Starts, Abandons}
-use Rattle.enabling.specs.Layout.{Lays}
+use Rattle.records_layout.specs.Layout.{Lays}
 use Rattle.popping.specs.declared.pop.Pulled.{Pulled as Event}
 use Rattle.popping.specs.declared.pop.Pulled.the-variants.{Expired as ExpiredEvent, Rescheduled as PlacedEvent, End as EndEvent}
 use Rattle.popping.specs.Pop.{told}

@@ -12,12 +12,12 @@ use Rattle.rules.specs.Wheel.{Answer, ok, handle, removed, number, due}
 use Rattle.records.specs.declared.Clock.{Clock}
 use Rattle.records.specs.Records.{Nodes, Entries, Records, nodes, records}
 use Rattle.records.specs.Clocks.{setFree, counted, started, abandoned}
-use Rattle.arming.specs.Change.{armedIn, freedFrom, movedTo}
+use Rattle.records_timers.specs.Change.{armedIn, freedFrom, movedTo}
 use Rattle.records.specs.Counts.{armedAmong, leastAmong}
 use Rattle.records.specs.Settings.{settled}
 use Rattle.popping.specs.Pop.{told}
 use Rattle.advance.specs.Pull.{Step, pullStep}
-use Rattle.enabling.specs.Layout.{bareNodes, bareEntries, enabledWith}
+use Rattle.records_layout.specs.Layout.{bareNodes, bareEntries, enabledWith}
 
 -- ---- create
 -- "Create(first serial): reading 0, not enabled." No advance, no recorded lengths, no first free slot

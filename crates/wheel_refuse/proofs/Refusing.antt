@@ -263,7 +263,7 @@ module _ (h t n p b e g s : List ℕ) (d : List Bool) (l m : List ℕ) (c : Cloc
     where
       go : making (c .enabled) (LendableAround (length h) (length t) (length n) (length d) (length l) (length m)) answered k → making (c .enabled) (Lendable Given) answered k
       go (inl u) = inl u
-      go (inr (i, inl (u, z))) = inr (i, inl ((λ y. u (record { ranges = y .ranges; ends = y .ends; entries = y .entries })), z))
+      go (inr (i, inl (u, z))) = inr (i, inl ((λ y. u (y .around)), z))
       go (inr (i, inr (u, z))) = absurd (x z)
 
   around-past : k ≡ 0 → (c .enabled ≡ false) × LendableAround (length h) (length t) (length n) (length d) (length l) (length m)
@@ -277,7 +277,7 @@ module _ (h t n p b e g s : List ℕ) (d : List Bool) (l m : List ℕ) (c : Cloc
   pub enable-of : k ≡ 0 → Same → RefusesEnable Given 0
   enable-of z y =
       let u = around-past z in
-      record { by = inr (u .0, inr (record { ranges = u .1 .ranges; ends = u .1 .ends; nodes = y; entries = u .1 .entries }, refl)) }
+      record { by = inr (u .0, inr (record { around = u .1; nodes = y }, refl)) }
 
   pub enable-0 : (r : Bool) → k ≡ 0 → Decides Same r → not r ≡ false → RefusesEnable Given 0
   enable-0 r z o x = enable-of z (o .sound (not-false r x))

@@ -49,21 +49,20 @@ pub record Live (R : Records) (x n : ℕ) : Type 0 where
 abbrev pub handled : Records → ℕ → ℕ → ℕ → (ℕ → Type 0) → ℕ → Type 0
 handled R x n h more = closed R (unless (Live R x n) 12 (unless (getD (R .nodes .generation) x 0 ≡ h) 13 more))
 
--- 3 "lent lengths outside the range, at enabling": 166 to 4,096 node records, 1 to 4,096 entries, in parallel slices of one length each, and 165 heads and tails
-pub record Lendable (R : Records) : Type 0 where
-  pub ranges : Ranges (buckets wheel01) (length (R .nodes .links .next)) (length (R .entries .dated))
-  pub ends : EndsLengths (buckets wheel01) (length (R .nodes .links .heads)) (length (R .nodes .links .tails))
-  pub nodes :
-      NodesLengths (length (R .nodes .links .next)) (length (R .nodes .links .next)) (length (R .nodes .links .prev)) (length (R .nodes .links .home))
-      (length (R .nodes .entry)) (length (R .nodes .generation)) (length (R .nodes .serial))
-  pub entries :
-      EntriesLengths (length (R .entries .dated)) (length (R .entries .dated)) (length (R .entries .deadline)) (length (R .entries .generation))
-
--- the same, but for the slices of the node records: of these there are so many
+-- 3 "lent lengths outside the range, at enabling": 166 to 4,096 node records, 1 to 4,096 entries in parallel slices of one length, and 165 heads and tails
 pub record LendableAround (heads tails nodes dated deadline stamp : ℕ) : Type 0 where
   pub ranges : Ranges (buckets wheel01) nodes dated
   pub ends : EndsLengths (buckets wheel01) heads tails
   pub entries : EntriesLengths dated dated deadline stamp
+
+-- and the node records in parallel slices of one length
+pub record Lendable (R : Records) : Type 0 where
+  pub around :
+      LendableAround (length (R .nodes .links .heads)) (length (R .nodes .links .tails)) (length (R .nodes .links .next)) (length (R .entries .dated))
+      (length (R .entries .deadline)) (length (R .entries .generation))
+  pub nodes :
+      NodesLengths (length (R .nodes .links .next)) (length (R .nodes .links .next)) (length (R .nodes .links .prev)) (length (R .nodes .links .home))
+      (length (R .nodes .entry)) (length (R .nodes .generation)) (length (R .nodes .serial))
 
 -- 2 "enabled already"; 3 where what is lent is not so
 abbrev pub making : Bool → Type 0 → (ℕ → Type 0) → ℕ → Type 0

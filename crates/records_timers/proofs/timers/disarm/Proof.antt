@@ -1,0 +1,59 @@
+-- `disarm` meets its contract. Assumes nothing.
+use Rattle.records_timers.proofs.Timing.{disarm-asks, disarm-writes, disarm-does}
+use borrow.Author.Needs.{needs}
+use Rattle.records_timers.proofs.timers.disarm.Statement.{statement}
+use Rattle.records_timers.proofs.timers.disarm.Tie as tie
+
+unlink-requires : tie.Need-unlink-requires
+unlink-requires c κs = search disarm-asks
+
+give-back-requires : tie.Need-give-back-requires
+give-back-requires c κs = search needs
+
+write-requires : tie.Need-write-requires
+write-requires c κs = search disarm-writes
+
+same-length : tie.Need-same-length
+same-length c = search needs
+
+same-length-2 : tie.Need-same-length-2
+same-length-2 c = search needs
+
+same-length-3 : tie.Need-same-length-3
+same-length-3 c = search needs
+
+same-length-4 : tie.Need-same-length-4
+same-length-4 c = search needs
+
+same-length-5 : tie.Need-same-length-5
+same-length-5 c = search needs
+
+same-length-6 : tie.Need-same-length-6
+same-length-6 c = search needs
+
+same-length-7 : tie.Need-same-length-7
+same-length-7 c = search needs
+
+same-length-8 : tie.Need-same-length-8
+same-length-8 c = search needs
+
+returns : tie.Need-returns
+returns c =
+    disarm-does _ _ _ _ _ _ _ _ _ _ (c .before .before .before .before .before .before .before .before .before .before .before .before .before .before .before .before .before .before .before .before .before .before .before .before .before .before .before .before .before .before .before .before .before .before .before .before .before .before .before .before .before .pre) _ _ _ _ _ _ _ _ _ _ (c .before .before .before .before .before .before .before .before .before .before .before .before .before .before .before .before .before .before .before .before .before .before .before .before .before .before .before .unlink .ensures) (c .before .before .before .before .before .before .before .before .before .before .before .before .before .before .give-back .ensures) (c .before .before .before .before .before .before .write .ensures)
+
+pub disarm-spec : {M : Type 1} → statement M
+disarm-spec =
+    tie.close
+    (tie.spec
+    unlink-requires
+    give-back-requires
+    write-requires
+    same-length
+    same-length-2
+    same-length-3
+    same-length-4
+    same-length-5
+    same-length-6
+    same-length-7
+    same-length-8
+    returns)
