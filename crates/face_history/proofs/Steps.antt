@@ -8,14 +8,14 @@ use Rattle.rules.specs.Geometry.{wheel01}
 use Rattle.rules.specs.Calls.{step}
 use Rattle.records.specs.Records.{Records}
 use Rattle.wheel_refuse.specs.Refuse.{enableRows, setRows}
-use Rattle.wheel.specs.Work.{laidOut, entrySet}
+use Rattle.wheel.specs.Work.{created, laidOut, entrySet}
 use Rattle.wheel.specs.Calls.{Meets}
 use Rattle.wheel_history.specs.History.{Parallel, Tells, Promised}
 use Rattle.wheel_history.proofs.Steps.{step-is}
 use Rattle.wheel.specs.Answers.{notedSays}
 use Rattle.nodes.specs.declared.Node.{Node}
-use Rattle.nodes.specs.Shown.{nexts}
-use Rattle.face_history.specs.History.{Lent, recordsOf, Fitting, Done}
+use Rattle.nodes.specs.Shown.{nexts, shown}
+use Rattle.face_history.specs.History.{Lent, recordsOf, Fitting, Begun, Done}
 
 -- the same promise with the answer that r says
 says : (c : Call) (rows : ℕ → Type 0) (R R′ after : Records) (a b then : Answer) → a ≡ b → Meets c rows R R′ b after then → Meets c rows R R′ a after then
@@ -38,9 +38,15 @@ parallel m k L e f =
       entries = f .entries;
     }
 
+-- create's promise fixes all that is lent then
+begins : (n : ℕ) (L M : Lent) → Begun n L M → recordsOf M ≡ created (recordsOf L) n
+begins n L M b =
+    let c = b .hands-out in
+    λ i. shown (c .heads-is i) (c .tails-is i) (b .nodes-stay i) (b .dated-stay i) (b .deadline-stay i) (b .stamp-stay i) (c .clock-is i)
+
 -- every call
 pub promised : (c : Call) (L M : Lent) (a : Answer) → Done c L M a → Promised c (recordsOf L) (recordsOf M) a
-promised (create n) L M a p = (p .0, ap recordsOf (p .1))
+promised (create n) L M a (e, b) = (e, begins n L M b)
 promised (enable m k) L M a (e, f, r, s, p) =
     let same : length (nexts (L .nodes)) ≡ m = length-map (L .nodes) (λ (v : Node). v .next) ∙ sym e in (
       parallel m k L e f,

@@ -14,7 +14,7 @@ use Rattle.wheel_plain.specs.declared.Noted.{Noted}
 use Rattle.wheel_plain.specs.declared.Counted.{Counted}
 use Rattle.wheel_plain.specs.declared.Due.{Due}
 use Rattle.wheel.specs.Answers.{notedSays, countedSays, dueSays}
-use Rattle.wheel.specs.Work.{createdClock, emptyEnds}
+use Rattle.wheel.specs.Calls.{Create}
 use Rattle.nodes.specs.declared.Node.{Node}
 use Rattle.nodes.specs.Shown.{shown}
 use Rattle.face_work.specs.declared.Scheduled.{Scheduled}
@@ -41,22 +41,18 @@ pub record Fitting (k : ℕ) (L : Lent) : Type 0 where
   pub ends : EndsLengths (buckets wheel01) (length (L .heads)) (length (L .tails))
   pub entries : EntriesLengths k (length (L .dated)) (length (L .deadline)) (length (L .stamp))
 
--- create hands out clock, heads and tails; nodes and entries stay as found
-abbrev pub begun : Lent → ℕ → Lent
-begun L first = record {
-  heads = emptyEnds;
-  tails = emptyEnds;
-  nodes = L .nodes;
-  dated = L .dated;
-  deadline = L .deadline;
-  stamp = L .stamp;
-  clock = createdClock first;
-}
+-- create hands out clock, heads and tails, whatever was lent; nodes and entries stay as found
+pub record Begun (first : ℕ) (L M : Lent) : Type 0 where
+  pub hands-out : Create first (M .clock) (M .heads) (M .tails)
+  pub nodes-stay : M .nodes ≡ L .nodes
+  pub dated-stay : M .dated ≡ L .dated
+  pub deadline-stay : M .deadline ≡ L .deadline
+  pub stamp-stay : M .stamp ≡ L .stamp
 
 -- a call on what is lent: some answer r of the call says a, and the call's promise holds of what was lent, of what is lent then and of r. An enable is given k entries, as many in
 -- each of their slices (`Fitting`): one over unequal slices, refused 3, is in no history
 abbrev pub Done : Call → Lent → Lent → Answer → Type 0
-Done (create n) L M a = (a ≡ ok) × (M ≡ begun L n)
+Done (create n) L M a = (a ≡ ok) × Begun n L M
 Done (enable m k) L M a = (m ≡ length (L .nodes)) × Fitting k L × (r : Noted) × (a ≡ notedSays r) × FaceEnable (recordsOf L) (recordsOf M) r
 Done (setEntry e o h) L M a =
     (t : Bool) × (d : ℕ) × (r : Noted) × (o ≡ cond t (some d) none) × (a ≡ notedSays r) × FaceSetEntry (recordsOf L) (recordsOf M) e t d h r

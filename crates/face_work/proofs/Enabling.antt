@@ -25,7 +25,8 @@ use Rattle.nodes.specs.declared.Node.{Node}
 use Rattle.nodes.specs.Shown.{nexts, prevs, entryNumbers, generations, serials, shown}
 use Rattle.nodes.specs.Shown.{buckets as homes}
 use Rattle.nodes.specs.Columns.{columnsOf}
-use Rattle.nodes.specs.Laid.{columnsIn, Laid}
+use Rattle.nodes.specs.Laid.{Laid}
+use Rattle.nodes.proofs.InPlace.{columnsIn, laid-bare}
 use Rattle.face_work.specs.Faces.{FaceEnable}
 use Rattle.face_work.specs.Works.{EnableFor}
 
@@ -94,7 +95,7 @@ module _ (n : ℕ) (c : Clock) (hs ts : List ℕ) (d : List Bool) (l m : List �
       -- the nodes' columns are those of the records that enabling lays out
       written : columnsOf ns′ ≡ columnsIn (bareNodes D M)
       written =
-          o .lays refl (omega (arith, e, lendable .ranges .nodes-most))
+          ap columnsOf (o .lays refl) ∙ laid-bare ns (omega (arith, e, lendable .ranges .nodes-most))
           ∙ ap (λ (i : ℕ). columnsIn (bareNodes i (length ns))) (sym (ready .heads-len))
           ∙ ap (λ (i : ℕ). columnsIn (bareNodes D i)) (e ∙ as-many ns e)
 

@@ -12,12 +12,13 @@ use lib.Seq.{getD-set-same, getD-set-other, ext-getD}
 use Rattle.links.specs.Chain.{none}
 use Rattle.rules.specs.Geometry.{wheel01, buckets}
 use Rattle.rules.proofs.Cases.{same?, not-both}
-use Rattle.records_layout.specs.Layout.{bareLinks}
+use Rattle.records.specs.Records.{Nodes}
+use Rattle.records_layout.specs.Layout.{bareLinks, bareNodes}
 use Rattle.records_layout.proofs.Bare.{bare-next-len, bare-next-at, bare-prev-len, bare-prev-at, bare-home-len, bare-home-at}
 use Rattle.nodes.specs.declared.Node.{Node}
-use Rattle.nodes.specs.Columns.{columns}
-use Rattle.nodes.specs.Laid.{turnsOf, laidNode, Laid}
-use Rattle.nodes.proofs.Fills.{fills, length-fills}
+use Rattle.nodes.specs.Columns.{Columns, columns, columnsOf}
+use Rattle.nodes.specs.Laid.{turnsOf, laidNode, laidNodes, Laid}
+use Rattle.nodes.proofs.Fills.{fills, length-fills, fills-all}
 use Rattle.nodes.proofs.Using.{blank}
 
 -- ---- the node of a sentinel, of a free slot and of the last one
@@ -51,27 +52,33 @@ field-is g f ns ys e h =
     ext-getD (g blank) (map g zs) ys (long ∙ sym e)
     (λ i l. let l′ : i < length ns = omega (arith, l, long) in List·getD-map g zs i blank ∙ ap g (fills-at f ns blank (length ns) i l′ (omega arith)) ∙ h i l′)
 
--- the nodes after i turns
-abbrev pub laidNodes : List Node → Bool → ℕ → List Node
-laidNodes ns on = fills (laidNode (buckets wheel01) (turnsOf on (length ns))) ns
+-- ---- the nodes after i turns, and after all
+abbrev pub laidTo : List Node → Bool → ℕ → List Node
+laidTo ns on = fills (laidNode (buckets wheel01) (turnsOf on (length ns))) ns
 
-pub laid : (ns : List Node) (on : Bool) → Laid ns on (laidNodes ns on (turnsOf on (length ns)))
-laid ns true =
+pub laid : (ns : List Node) (on : Bool) → Laid ns on (laidTo ns on (turnsOf on (length ns)))
+laid ns true = record { lays = λ _. fills-all (laidNode (buckets wheel01) (length ns)) ns; stays = λ e. absurd (not-both (sym e)) }
+laid ns false = record { lays = λ e. absurd (not-both e); stays = λ _. refl }
+
+-- ---- what enabling makes of parallel slices: the columns of the node records
+abbrev pub columnsIn : Nodes → Columns
+columnsIn N = columns (N .links .next) (N .links .prev) (N .links .home) (N .entry) (N .generation) (N .serial)
+
+-- the laid out nodes are the node records that enabling lays out, where they are no more than a wheel may have
+pub laid-bare : (ns : List Node) → length ns ≤ none → columnsOf (laidNodes (buckets wheel01) (length ns)) ≡ columnsIn (bareNodes (buckets wheel01) (length ns))
+laid-bare ns few =
     let D : ℕ = buckets wheel01 in
     let n : ℕ = length ns in
     let f : ℕ → Node = laidNode D n in
     let zeros : (i : ℕ) → i < n → _≡_ {A = ℕ} 0 (getD (replicate n 0) i 0) = λ i l. sym (getD-replicate {A = ℕ} n i 0 0 l) in
-    record {
-      lays = λ _ few i.
-          columns (field-is (λ v. v .next) f ns (bareLinks D n .next) (bare-next-len D n few) (λ j l. sym (bare-next-at D n few j l)) i)
-          (field-is (λ v. v .prev) f ns (bareLinks D n .prev) (bare-prev-len D n) (λ j l. sym (bare-prev-at D n j l)) i)
-          (field-is (λ v. v .bucket) f ns (bareLinks D n .home) (bare-home-len D n) (λ j l. sym (bare-home-at D n j l)) i)
-          (field-is (λ v. v .entry) f ns (replicate n 0) (length-replicate {A = ℕ} n 0) zeros i)
-          (field-is (λ v. v .generation) f ns (replicate n 0) (length-replicate {A = ℕ} n 0) zeros i)
-          (field-is (λ v. v .serial) f ns (replicate n 0) (length-replicate {A = ℕ} n 0) zeros i);
-      stays = λ e. absurd (not-both (sym e));
-    }
-laid ns false = record { lays = λ e _. absurd (not-both e); stays = λ _. refl }
+    ap columnsOf (sym (fills-all f ns))
+    ∙ (λ i.
+    columns (field-is (λ v. v .next) f ns (bareLinks D n .next) (bare-next-len D n few) (λ j l. sym (bare-next-at D n few j l)) i)
+    (field-is (λ v. v .prev) f ns (bareLinks D n .prev) (bare-prev-len D n) (λ j l. sym (bare-prev-at D n j l)) i)
+    (field-is (λ v. v .bucket) f ns (bareLinks D n .home) (bare-home-len D n) (λ j l. sym (bare-home-at D n j l)) i)
+    (field-is (λ v. v .entry) f ns (replicate n 0) (length-replicate {A = ℕ} n 0) zeros i)
+    (field-is (λ v. v .generation) f ns (replicate n 0) (length-replicate {A = ℕ} n 0) zeros i)
+    (field-is (λ v. v .serial) f ns (replicate n 0) (length-replicate {A = ℕ} n 0) zeros i))
 
 pub turns-le : (on : Bool) (n : ℕ) → turnsOf on n ≤ n
 turns-le true n = omega arith

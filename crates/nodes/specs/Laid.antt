@@ -1,16 +1,13 @@
 -- The lent nodes as enabling lays them out: "sentinels placed, other slots free". Assumes nothing.
-use Prim.Native.Nat.{ℕ, suc, _≤_}
+use Prim.Native.Nat.{ℕ, suc}
 use mathlib.Core.Path.{_≡_}
 use mathlib.Core.Bool.{Bool, true, false, cond}
-use mathlib.Core.List.{List}
+use mathlib.Core.List.{List, map}
 use lib.Dec.{ltb}
 use lib.ListN.{length}
-use Rattle.links.specs.Chain.{none}
+use Rattle.links.specs.Chain.{none, upFrom}
 use Rattle.rules.specs.Geometry.{wheel01, buckets}
-use Rattle.records.specs.Records.{Nodes}
-use Rattle.records_layout.specs.Layout.{bareNodes}
 use Rattle.nodes.specs.declared.Node.{Node}
-use Rattle.nodes.specs.Columns.{Columns, columns, columnsOf}
 
 -- how many of n nodes are written
 abbrev pub turnsOf : Bool → ℕ → ℕ
@@ -27,11 +24,11 @@ laidNode D n i = record {
   serial = 0;
 }
 
--- the columns of the node records
-abbrev pub columnsIn : Nodes → Columns
-columnsIn N = columns (N .links .next) (N .links .prev) (N .links .home) (N .entry) (N .generation) (N .serial)
+-- n nodes, laid out over D buckets
+abbrev pub laidNodes : ℕ → ℕ → List Node
+laidNodes D n = map (laidNode D n) (upFrom n 0)
 
--- the nodes ns became ns′: laid out, where they are to be, and are no more than a wheel may have; or they stay
+-- the nodes ns became ns′: laid out, as many as they are, or left
 pub record Laid (ns : List Node) (on : Bool) (ns′ : List Node) : Type 0 where
-  pub lays : on ≡ true → length ns ≤ none → columnsOf ns′ ≡ columnsIn (bareNodes (buckets wheel01) (length ns))
+  pub lays : on ≡ true → ns′ ≡ laidNodes (buckets wheel01) (length ns)
   pub stays : on ≡ false → ns′ ≡ ns

@@ -101,7 +101,7 @@ opened R q = records (R .nodes) (R .entries) (started q (R .clock))
 abbrev pub left : Records → Records
 left R = records (R .nodes) (R .entries) (abandoned (R .clock))
 
--- "Pull: one event, or End .. A pull does no more than reach its answer": the turns of the crate advance, specs/Turns.antt
+-- "Pull: one event, or End .. A pull does no more than reach its answer": the turns of crate turns, specs/Turns.antt, to the first that answers (crate advance, specs/Pull.antt)
 abbrev pub pulling : Records → Step
 pulling R = pullStep wheel01 (R .entries .dated) (R .entries .deadline) (R .nodes) (R .clock)
 

@@ -50,7 +50,7 @@ use Rattle.nodes.proofs.Fills.{length-fills}
 use Rattle.nodes.proofs.Counts.{counts, yes-less, not-less, one-more}
 use Rattle.nodes.proofs.Using.{blank}
 use Rattle.nodes.proofs.Passing.{passed-on}
-use Rattle.nodes.proofs.InPlace.{laidNodes, laid, turns-le}
+use Rattle.nodes.proofs.InPlace.{laidTo, laid, turns-le}
 use Rattle.nodes.proofs.Node as T
 use Rattle.nodes.proofs.Node.Laws as T′
 use Rattle.nodes.proofs.laying.turns as turns
@@ -136,7 +136,7 @@ module _ {M : Type 1} (𝓤 : URA M) (H : Heap 𝓤) (A : Atoms 𝓤) (W : Given
 
   -- the nodes after i turns
   abbrev zs : ℕ → List Node
-  zs = laidNodes ys on
+  zs = laidTo ys on
 
   len : (i : ℕ) → length (zs i) ≡ n
   len i = length-fills made ys i
