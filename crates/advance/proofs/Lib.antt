@@ -1,3 +1,3 @@
--- Laws that the proofs of this crate and of those above it cite. Assumes nothing.
+-- Laws that the proofs of this crate cite. Assumes nothing.
 pub mod Pulling
 pub mod Skipping

@@ -1,2 +1,2 @@
--- Why the public calls meet their promises.
+-- Why the calls that ask meet their promises.
 pub mod Calling

@@ -1,2 +1,2 @@
--- What the contracts of the public calls cite.
+-- What the contracts of the calls that link nodes cite.
 pub mod Calls

@@ -1,2 +1,2 @@
--- Why the public calls meet their promises.
+-- Why making meets its promise.
 pub mod Calling

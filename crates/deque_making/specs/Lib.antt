@@ -1,2 +1,2 @@
--- What the contracts of the public calls cite.
+-- What the contracts of making cite.
 pub mod Calls

@@ -58,7 +58,7 @@ abbrev pub doneTold : Done → Told
 doneTold Did = values []
 doneTold (DoneRefused k) = refused k
 
--- ---- what each call tells where it is not refused
+-- ---- what the looks and next by cursor tell where they are not refused
 -- the node x with its element, or Nothing where x is no node
 abbrev pub lookTold : State → ℕ → Told
 lookTold a x = cond (eqb x none) nothing (values (x ∷ elementOf a x ∷ []))

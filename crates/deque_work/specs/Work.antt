@@ -1,4 +1,4 @@
--- What the unchecked functions ask and do: the equation on the records, and the law on the lists that they stand for. Assumes nothing.
+-- What the unchecked functions that link and unlink nodes do: the equation on the records and, but for Frees and Pops, the law on the lists that they stand for. Assumes nothing.
 use Prim.Native.Nat.{ℕ}
 use mathlib.Core.Path.{_≡_}
 use mathlib.Core.List.{[], _∷_, _++_}

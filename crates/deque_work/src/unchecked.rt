@@ -1,4 +1,4 @@
-// For proved code only, unchecked: the work of the calls on records known to be sound. A caller shows that the records are sound (or tests it once).
+// For proved code only, unchecked: the work of the calls that link and unlink nodes, on records known to be sound; `front`, `back` and `step` of deque_plain are passed on. A caller shows that the records are sound (or tests it once).
 ghost use Prim.Native.Nat.{_<_};
 ghost use mathlib.Core.Path.{_≡_};
 ghost use lib.ListN.{length};

@@ -1,4 +1,4 @@
--- The promise of each call over lent nodes, said of the records before and after: that of the call over parallel slices (crate wheel, specs/Calls.antt), with the answer
+-- The promise of each call over lent nodes, said of the records before and after: that of the call over parallel slices (crate wheel_plain, specs/Calls.antt), with the answer
 -- and the clock apart. Assumes nothing.
 use Prim.Native.Nat.{ℕ}
 use mathlib.Core.Bool.{Bool, cond}

@@ -1,4 +1,4 @@
--- The laws of links. A layer above cites Members, Unique, Counting, Reading, TurnRule, the -rep laws of Linking, Cutting, Turning, Freeing and Laying, for a test of its own Judging, and for its refusals Rows.
+-- The laws of links, for links_change and links_sound too. A layer above cites Members, Unique, Counting, Reading, Slots, Swap, Arrays, the -rep laws of Linking, Cutting, Turning, Freeing and Laying, for a test of its own Judging, and for its refusals Rows. TurnRule is cited by none: it says that the splice is 01's rule.
 pub mod Slots
 pub mod Chains
 pub mod Arrays

@@ -1,4 +1,4 @@
--- Link at the back, unlink, turn: what each writes into the records, and what that means for the lists. Assumes nothing.
+-- Link at the back, unlink, move to the back, turn (crate links_change): what each writes into the records, and what that means for the lists. Assumes nothing.
 use Prim.Native.Nat.{ℕ, _≤_, _<_}
 use mathlib.Core.Path.{_≡_}
 use mathlib.Core.Bool.{Bool, true, false, cond}

@@ -1,4 +1,4 @@
--- What the contracts of the links cite, and what the layers above may cite of them.
+-- What the contracts of links, links_change and links_sound cite, and what the layers above may cite of them.
 pub mod Chain
 pub mod Lists
 pub mod Change

@@ -1,4 +1,4 @@
--- Sound links and a sound free chain, and what the test of them answers. Assumes nothing.
+-- Sound links and a sound free chain, and what the test of them (crate links_sound) answers. Assumes nothing.
 use Prim.Native.Nat.{ℕ, _≤_, _<_}
 use mathlib.Core.Path.{_≡_}
 use mathlib.Core.Bool.{Bool, true, false}

@@ -1,4 +1,4 @@
--- What the proofs of this crate share. Assumes nothing.
+-- What the proofs of this crate share, and what those of the face and of the exported functions cite (Lending, Passing, Six, InPlace). Assumes nothing.
 pub mod Counts
 pub mod Fills
 mod Written

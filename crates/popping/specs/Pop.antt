@@ -1,4 +1,4 @@
--- A pull's turn that pops a node, on the records: 01, "Calls", the paragraph on the advance. Assumes nothing.
+-- A pull's turn that pops a node, on the records, and what all turns share: their form, the node that waits, the next position, the turns that are left. 01, "Calls", the paragraph on the advance. Assumes nothing.
 use Prim.Native.Nat.{ℕ, zero, suc, _+_, _-_, _≤_, _<_}
 use mathlib.Core.Path.{_≡_}
 use mathlib.Core.Bool.{Bool, true, false, cond}

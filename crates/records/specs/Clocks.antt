@@ -1,4 +1,4 @@
--- The clock record with some of its fields changed. Beside create, whose clock is all new, all fields are listed here and nowhere else. Assumes nothing.
+-- The clock record with some of its fields changed. All fields are listed here, and in the clock that create makes (wheel_plain, specs/Work.antt). Assumes nothing.
 use Prim.Native.Nat.{ℕ, _+_}
 use mathlib.Core.Bool.{Bool, true, false}
 use Rattle.records.specs.declared.Clock.{Clock}

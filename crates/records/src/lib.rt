@@ -1,5 +1,5 @@
-// The wheel on records, unchecked: for proved code only. The clock record, and the work of the calls on lent records that are known to be
-// sound. The records are parallel slices: heads and tails of the buckets; next, prev, bucket, entry, generation and serial of the slots;
+// The wheel on records, unchecked: for proved code only. The clock record, and of the work on lent records that are known to be
+// sound: an entry set, the counts, start, end and abandon. Timers are in records_timers, enabling in records_layout, the pull in popping, turns and advance. The records are parallel slices: heads and tails of the buckets; next, prev, bucket, entry, generation and serial of the slots;
 // dated, deadline and generation of the entries. The clock goes in by value and is handed back.
 
 pub mod settings; // setting an entry

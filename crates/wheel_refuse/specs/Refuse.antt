@@ -98,6 +98,7 @@ countRows R = standing R answered
 pub record RefusesEnable (R : Records) (r : ℕ) : Type 0 where
   pub by : enableRows R r
 
+-- enable's number over lent nodes, which are of one length by what they are: by numbers alone
 pub record RefusesAround (enabled : Bool) (heads tails nodes dated deadline stamp r : ℕ) : Type 0 where
   pub by : making enabled (LendableAround heads tails nodes dated deadline stamp) answered r
 

@@ -1,4 +1,4 @@
-// Which refusal applies: the lowest number of 01 whose row holds, or 0. Each stage adds its rows to those of the stage before. All read the records and change nothing.
+// Which refusal applies: the lowest number of 01 whose row holds, or 0. Each stage adds its rows to those of the stage before. They read the records (enable the lengths and the clock alone; `around_refusal` is given these as numbers) and change nothing.
 // No `requires`.
 ghost use Rattle.wheel_refuse.specs.Lent.{lent};
 ghost use Rattle.wheel_refuse.specs.Refuse.{IsLast, RefusesEnable, RefusesAround, RefusesCount, RefusesClosed, RefusesOpen, RefusesSet, RefusesSchedule, RefusesHandle};
