@@ -177,6 +177,9 @@ impl Calls for Slices {
 /// As long as the columns behind a public call.
 const ROOM: usize = 4_168;
 
+/// As many nodes as such a call reads before it goes on to the next block.
+const BLOCK: usize = 256;
+
 /// Six columns on the stack, as a call that goes over columns has them.
 struct Columns {
     next: [usize; ROOM],
@@ -187,19 +190,20 @@ struct Columns {
     serial: [u64; ROOM],
 }
 
-/// New columns with the nodes in them, and where `back` says so, the nodes written from them again: no call between. The nodes are at most 4,096.
+/// New columns with the nodes in them, read in blocks and a column at a time inside a block, as a call reads them, and where `back` says so, the nodes written from them again: no call between. The nodes are at most 4,096.
 #[inline(never)]
 pub fn pass(nodes: &mut [Node], back: bool) {
     let (next, prev, bucket, entry) = ([0; ROOM], [0; ROOM], [0; ROOM], [0; ROOM]);
     let mut columns = Columns { next, prev, bucket, entry, generation: [0; ROOM], serial: [0; ROOM] };
     let c = black_box(&mut columns);
-    for (i, v) in nodes.iter().enumerate().take(ROOM) {
-        c.next[i] = v.next;
-        c.prev[i] = v.prev;
-        c.bucket[i] = v.bucket;
-        c.entry[i] = v.entry;
-        c.generation[i] = v.generation;
-        c.serial[i] = v.serial;
+    for (k, block) in nodes[..nodes.len().min(ROOM)].chunks(BLOCK).enumerate() {
+        let from = k * BLOCK;
+        block.iter().zip(&mut c.next[from..]).for_each(|(v, x)| *x = v.next);
+        block.iter().zip(&mut c.prev[from..]).for_each(|(v, x)| *x = v.prev);
+        block.iter().zip(&mut c.bucket[from..]).for_each(|(v, x)| *x = v.bucket);
+        block.iter().zip(&mut c.entry[from..]).for_each(|(v, x)| *x = v.entry);
+        block.iter().zip(&mut c.generation[from..]).for_each(|(v, x)| *x = v.generation);
+        block.iter().zip(&mut c.serial[from..]).for_each(|(v, x)| *x = v.serial);
     }
     let c = black_box(c);
     if back {
