@@ -96,10 +96,15 @@ const WORKS: [Work; 11] = [
     Work { name: "next due", ready: ARM, call: |on| assert_eq!(on.next_due(), Some(SOON)), restore: CANCEL },
 ];
 
-/// Microseconds a turn, the best round; a turn gives the time that it took.
-fn best(turns: usize, mut turn: impl FnMut() -> Duration) -> f64 {
-    let mut round = |_| (0..turns).map(|_| turn()).sum::<Duration>().as_secs_f64() / turns as f64;
-    (0..ROUNDS).map(&mut round).fold(f64::INFINITY, f64::min) * 1e6
+/// Microseconds a turn, the best round of each; a turn gives the time that it took. The rounds go by turns, so that a machine that slows down slows both.
+fn best<const N: usize>(turns: usize, mut works: [&mut dyn FnMut() -> Duration; N]) -> [f64; N] {
+    let mut best = [f64::INFINITY; N];
+    for _ in 0..ROUNDS {
+        for (work, best) in works.iter_mut().zip(&mut best) {
+            *best = best.min((0..turns).map(|_| work()).sum::<Duration>().as_secs_f64() / turns as f64 * 1e6);
+        }
+    }
+    best
 }
 
 /// How long it takes.
@@ -122,7 +127,7 @@ fn costs(work: &Work, records: usize) -> [f64; 2] {
     let mut wheel = wheel(records);
     let mut slices = Slices::of(&wheel);
     let turns = 400_000 / records;
-    let costs = [best(turns, || turn(work, &mut wheel)), best(turns, || turn(work, &mut slices))];
+    let costs = best(turns, [&mut || turn(work, &mut wheel), &mut || turn(work, &mut slices)]);
     assert_eq!(Slices::of(&wheel), slices, "{}", work.name);
     costs
 }
@@ -172,7 +177,7 @@ fn main() {
     for (name, back) in [("nodes into columns", false), ("and back", true)] {
         let costs = SIZES.map(|size| {
             let mut nodes = wheel(size).nodes;
-            best(400_000 / size, || timed(|| pass(black_box(&mut nodes), back)))
+            best(400_000 / size, [&mut || timed(|| pass(black_box(&mut nodes), back))])[0]
         });
         println!("{name:22} {:9.2} {:9.2} {:9.2}", costs[0], costs[1], costs[2]);
     }
