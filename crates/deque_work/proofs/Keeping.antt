@@ -9,13 +9,10 @@ use lib.Seq.{getD-set-same, getD-set-other, set-set}
 use borrow.Author.Tests.{eq-eqb, ne-eqb}
 use Rattle.links.specs.Chain.{none, In, Once, lastOr, remove}
 use Rattle.links.specs.Lists.{Lists, homeOf, deq, Rep, withDeque, pushBack, takeOut, taken, freed}
-use Rattle.links.specs.Change.{linkBack, cutOut, moveBack}
-use Rattle.links.specs.Free.{handBack}
+use Rattle.links.specs.Change.{linkBack, removed, moveBack}
 use Rattle.links.proofs.Slots.{same?, in-at, back-old, kept, length-remove}
 use Rattle.links.proofs.Swap.{deq-once}
-use Rattle.links.proofs.Linking.{link-rep}
-use Rattle.links.proofs.Cutting.{cut-rep}
-use Rattle.links.proofs.Freeing.{take-does, give-rep}
+use Rattle.links.proofs.Pushing.{push-rep, remove-rep, move-rep}
 use Rattle.links.proofs.Reading.{tail-is}
 use Rattle.links.proofs.Members.{deq-at, deq-off, deq-same, in-home, push-in}
 use Rattle.links.proofs.Counting.{at-most}
@@ -59,12 +56,11 @@ module _ (a : State) (free : ℕ) (v : Lists) (t : Shows a free v) where
   -- ---- push back
   pub pushed-shows : (d e : ℕ) → free < v .slots → d < v .count → Shows (pushed a free d e) (nextOf a free) (pushBack d free (taken v))
   pushed-shows d e l h =
-      let tk = take-does (a .links .next) free (rw (r .next-len) l) .does (a .links .heads) (a .links .tails) (a .links .prev) (a .links .home) v [] r (t .free-is) in
-      let q : Rep (linkBack (a .links) d free) (pushBack d free (taken v)) [] = link-rep (a .links) (taken v) [] d free (tk .0) h in
+      let k = push-rep (a .links) v free d r (t .free-is) l h in
       record {
-        lent = lent-kept a (pushed a free d e) v (pushBack d free (taken v)) [] [] (t .lent) r q refl refl (simp length-set) refl (simp length-set);
-        rep = q;
-        free-is = tk .1;
+        lent = lent-kept a (pushed a free d e) v (pushBack d free (taken v)) [] [] (t .lent) r (k .0) refl refl (simp length-set) refl (simp length-set);
+        rep = k .0;
+        free-is = k .1;
         lengths = λ i j.
             ⊎-elim
             (λ (k : i ≡ d).
@@ -105,13 +101,10 @@ module _ (a : State) (free : ℕ) (v : Lists) (t : Shows a free v) where
     pub length-some : 1 ≤ lengthOf a d
     length-some = omega (arith, t .lengths d h, length-remove (deq v d) s s-in)
 
-    cut-r : Rep (cutOut (a .links) s) (takeOut d s v) (s ∷ [])
-    cut-r = subst (λ (y : ℕ). Rep (cutOut (a .links) s) (takeOut y s v) (s ∷ [])) e (cut-rep (a .links) v [] s r l s-home)
-
     pub released-shows : Shows (released a free d s) s (freed s (takeOut d s v))
     released-shows =
-        let q : Rep (handBack (cutOut (a .links) s) s free) (freed s (takeOut d s v)) [] =
-        give-rep (cutOut (a .links) s .heads) (cutOut (a .links) s .tails) (cutOut (a .links) s .next) (cutOut (a .links) s .prev) (cutOut (a .links) s .home) (takeOut d s v) [] s free none cut-r (t .free-is) in
+        let q : Rep (removed (a .links) free s) (freed s (takeOut d s v)) [] =
+        subst (λ (y : ℕ). Rep (removed (a .links) free s) (freed s (takeOut y s v)) []) e (remove-rep (a .links) v free s r (t .free-is) l s-home) in
         record {
           lent =
               lent-kept a (released a free d s) v (freed s (takeOut d s v)) [] [] (t .lent) r q refl refl (simp length-set)
@@ -140,7 +133,8 @@ module _ (a : State) (free : ℕ) (v : Lists) (t : Shows a free v) where
     shifted-shows : Shows (shifted a d s) free (toBack d s v)
     shifted-shows =
         let q : Rep (moveBack (a .links) d s) (toBack d s v) [] =
-        subst (λ (w : Lists). Rep (moveBack (a .links) d s) w []) to-back (link-rep (cutOut (a .links) s) (takeOut d s v) [] d s cut-r h) in
+        subst (λ (w : Lists). Rep (moveBack (a .links) d s) w []) to-back
+        (subst (λ (y : ℕ). Rep (moveBack (a .links) d s) (pushBack d s (takeOut y s v)) []) e (move-rep (a .links) v [] d s r l s-home h)) in
         record {
           lent = lent-kept a (shifted a d s) v (toBack d s v) [] [] (t .lent) r q refl refl refl (length-off (a .cursors) (a .links .next) d s) refl;
           rep = q;

@@ -1,4 +1,3 @@
 -- The laws of the work on sound records.
 pub mod Keeping
 pub mod Working
-pub mod Chaining

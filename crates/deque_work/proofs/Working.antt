@@ -8,10 +8,8 @@ use borrow.Author.Tests.{eq-eqb, ne-eqb}
 use mir.Syntax.{w64}
 use mir.Val.{Fits}
 use Rattle.links.specs.Chain.{none}
-use Rattle.links.specs.Lists.{Links, Lists, links, homeOf, taken}
-use Rattle.links.specs.Change.{Linkable, Held, Ahead, LinksBack, CutsOut, MovesBack}
-use Rattle.links.specs.Free.{handBack, Takes, GivesBack}
-use Rattle.links.proofs.Freeing.{take-does}
+use Rattle.links.specs.Lists.{Links, Lists, links, homeOf}
+use Rattle.links.specs.Change.{Pushable, PushesBack, Held, Removes, Ahead, MovesBack}
 use Rattle.deque_sound.specs.State.{State, state, Shows}
 use Rattle.deque_sound.specs.Ready.{DequeReady, PushReady, NodeReady}
 use Rattle.deque_plain.specs.Step.{movedOn}
@@ -19,20 +17,12 @@ use Rattle.deque_plain.specs.declared.answer.Popped.the-variants.{Node as Poppe
 use Rattle.deque_plain.proofs.Keeping.{front-in}
 use Rattle.deque_plain.proofs.Looking.{head-none, real}
 use Rattle.deque_work.specs.Step.{stepOff, pushed, released, movedBack}
-use Rattle.deque_work.specs.Work.{Pushes, Frees, Drops, Moves, Pops}
+use Rattle.deque_work.specs.Work.{Pushes, Drops, Moves, Pops}
 use Rattle.deque_work.proofs.Keeping.{length-small, length-some, pushed-shows, released-shows, moved-shows}
 
 -- a cursor that stood at s, moved on
 pub off-does : (c n : List ℕ) (d s q : ℕ) → getD c d 0 ≡ s → q ≡ movedOn n s → set c d q ≡ stepOff c n d s
 off-does c n d s q i j = simp (eq-eqb (getD c d 0) s i) (ap (λ (x : ℕ). set c d x) j)
-
--- ---- a node taken out and given back
-module _ (h t n p o h′ t′ n′ p′ o′ : List ℕ) (s : ℕ) (k : CutsOut (links h t n p o) (links h′ t′ n′ p′ o′) s) where
-  pub free-asks : Held (links h t n p o) s → (s < length n′) × (s < length p′)
-  free-asks y = let q = k .does (y .v) (y .loose) (y .rep) in (omega (arith, q .next-len, y .slot), omega (arith, q .prev-len, y .slot))
-
-  pub free-does : (n″ p″ : List ℕ) (free : ℕ) → GivesBack n′ p′ n″ p″ s free → Frees (links h t n p o) (links h′ t′ n″ p″ o′) free s
-  free-does n″ p″ free g = record { is = rw (g .next-is, g .prev-is) (ap (λ (z : Links). handBack z s free) (k .is)) }
 
 -- two records whose links are the same
 same-links : {x y : Links} (l c e : List ℕ) → x ≡ y → _≡_ {A = State} (record { links = x; lens = l; cursors = c; elements = e }) (record { links = y; lens = l; cursors = c; elements = e })
@@ -47,24 +37,21 @@ module _ (h t l c n p o e : List ℕ) (free d : ℕ) where
     counts-same : (v : Lists) → Shows (state h t l c n p o e) free v → (free < v .slots) × (d < v .count)
     counts-same v s = (omega (arith, s .rep .home-len, y .shows .rep .home-len, y .slot), omega (arith, s .rep .heads-len, y .shows .rep .heads-len, y .deque))
 
-    pub push-links : Linkable (links h t n p o) d free
-    push-links =
-        let r = y .shows .rep in
-        let k = take-does n free (rw (r .next-len) (y .slot)) .does h t p o (y .v) [] r (y .shows .free-is) in
-        record { v = taken (y .v); loose = []; rep = k .0; slot = y .slot; deque = y .deque }
+    pub push-asks : Pushable (links h t n p o) free d
+    push-asks = record { v = y .v; rep = y .shows .rep; free-is = y .shows .free-is; slot = y .slot; deque = y .deque }
 
     pub push-fits : Fits w64 (getD l d 0 + 1)
     push-fits = omega (arith, length-small a free (y .v) (y .shows) d (y .deque), y .shows .rep .small)
 
-    pub push-does : (h′ t′ n′ p′ o′ : List ℕ) (x r : ℕ) → Takes n free r → LinksBack (links h t n p o) (links h′ t′ n′ p′ o′) d free → Pushes (state h t l c n p o e) (state h′ t′ (set l d (getD l d 0 + 1)) c n′ p′ o′ (set e free x)) free d x r
-    push-does h′ t′ n′ p′ o′ x r k b =
+    pub push-does : (h′ t′ n′ p′ o′ : List ℕ) (x r : ℕ) → PushesBack (links h t n p o) (links h′ t′ n′ p′ o′) free d r → Pushes (state h t l c n p o e) (state h′ t′ (set l d (getD l d 0 + 1)) c n′ p′ o′ (set e free x)) free d x r
+    push-does h′ t′ n′ p′ o′ x r b =
         let i : state h′ t′ (set l d (getD l d 0 + 1)) c n′ p′ o′ (set e free x) ≡ pushed a free d x = same-links (set l d (getD l d 0 + 1)) c (set e free x) (b .is) in
         record {
           is = i;
-          free-is = k .is;
+          free-is = b .free-is;
           does = λ v s.
               let u = counts-same v s in
-              rw (i, k .is) (pushed-shows a free v s d x (u .0) (u .1));
+              rw (i, b .free-is) (pushed-shows a free v s d x (u .0) (u .1));
         }
 
   -- ---- a node of d
@@ -84,7 +71,7 @@ module _ (h t l c n p o e : List ℕ) (free d : ℕ) where
     pub node-some : 1 ≤ getD l d 0
     node-some = length-some a free (y .v) (y .shows) d s (y .slot) (y .deque) (y .homed)
 
-    pub release-does : (c′ h′ t′ n′ p′ o′ : List ℕ) (r : ℕ) → r ≡ getD e s 0 → c′ ≡ stepOff c n d s → Frees (links h t n p o) (links h′ t′ n′ p′ o′) free s → Drops (state h t l c n p o e) (state h′ t′ (set l d (getD l d 0 - 1)) c′ n′ p′ o′ (set e s 0)) free d s r
+    pub release-does : (c′ h′ t′ n′ p′ o′ : List ℕ) (r : ℕ) → r ≡ getD e s 0 → c′ ≡ stepOff c n d s → Removes (links h t n p o) (links h′ t′ n′ p′ o′) free s → Drops (state h t l c n p o e) (state h′ t′ (set l d (getD l d 0 - 1)) c′ n′ p′ o′ (set e s 0)) free d s r
     release-does c′ h′ t′ n′ p′ o′ r i j k =
         let q : state h′ t′ (set l d (getD l d 0 - 1)) c′ n′ p′ o′ (set e s 0) ≡ released a free d s =
         rw j (same-links (set l d (getD l d 0 - 1)) (stepOff c n d s) (set e s 0) (k .is)) in

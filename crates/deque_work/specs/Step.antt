@@ -5,8 +5,7 @@ use mathlib.Core.List.{List}
 use lib.ListN.{getD, set}
 use lib.Dec.{eqb}
 use Rattle.links.specs.Chain.{none}
-use Rattle.links.specs.Change.{linkBack, cutOut, moveBack}
-use Rattle.links.specs.Free.{handBack}
+use Rattle.links.specs.Change.{linkBack, removed, moveBack}
 use Rattle.deque_sound.specs.State.{State}
 use Rattle.deque_plain.specs.Step.{lengthOf, frontOf, backOf, movedOn}
 
@@ -30,7 +29,7 @@ pushed a free d e =
 abbrev pub released : State → ℕ → ℕ → ℕ → State
 released a free d s =
     record {
-      links = handBack (cutOut (a .links) s) s free;
+      links = removed (a .links) free s;
       lens = set (a .lens) d (lengthOf a d - 1);
       cursors = stepOff (a .cursors) (a .links .next) d s;
       elements = set (a .elements) s 0;

@@ -1,11 +1,9 @@
--- What the unchecked functions that link and unlink nodes do: the equation on the records and, but for Frees and Pops, the law on the lists that they stand for. Assumes nothing.
+-- What the unchecked functions that link and unlink nodes do: the equation on the records and, but for Pops, the law on the lists that they stand for.
 use Prim.Native.Nat.{ℕ}
 use mathlib.Core.Path.{_≡_}
 use mathlib.Core.List.{[], _∷_, _++_}
 use Rattle.links.specs.Chain.{remove}
-use Rattle.links.specs.Lists.{Links, Lists, deq, withDeque, pushBack, takeOut, taken, freed}
-use Rattle.links.specs.Change.{cutOut}
-use Rattle.links.specs.Free.{handBack}
+use Rattle.links.specs.Lists.{Lists, deq, withDeque, pushBack, takeOut, taken, freed}
 use Rattle.deque_sound.specs.State.{State, Shows}
 use Rattle.deque_plain.specs.Step.{nextOf, elementOf}
 use Rattle.deque_plain.specs.Answer.{poppedTold}
@@ -23,10 +21,6 @@ pub record Pushes (a b : State) (free d e r : ℕ) : Type 0 where
   pub is : b ≡ pushed a free d e
   pub free-is : r ≡ nextOf a free
   pub does : (v : Lists) → Shows a free v → Shows b r (pushBack d free (taken v))
-
--- the node s of the links a is taken out and given back
-pub record Frees (a b : Links) (free s : ℕ) : Type 0 where
-  pub is : b ≡ handBack (cutOut a s) s free
 
 pub record Drops (a b : State) (free d s r : ℕ) : Type 0 where
   pub is : b ≡ released a free d s

@@ -2,22 +2,17 @@
 ghost use Prim.Native.Nat.{_<_};
 ghost use mathlib.Core.Path.{_≡_};
 ghost use lib.ListN.{length};
-ghost use Rattle.links.specs.Lists.{links};
-ghost use Rattle.links.specs.Change.{Held};
 ghost use Rattle.deque_sound.specs.State.{state};
 ghost use Rattle.deque_sound.specs.Ready.{DequeReady, PushReady, NodeReady};
 ghost use Rattle.deque_work.specs.Step.{stepOff};
-ghost use Rattle.deque_work.specs.Work.{Pushes, Drops, Moves, Frees, Pops};
+ghost use Rattle.deque_work.specs.Work.{Pushes, Drops, Moves, Pops};
 use deque_plain::answer::Popped;
 pub use deque_plain::looks::back;
 pub use deque_plain::looks::front;
 use deque_plain::looks::moved_on;
 pub use deque_plain::looks::step;
-use links::free::give_back;
-use links::free::take;
-use links_change::change::link_back;
-use links_change::change::send_back;
-use links_change::change::unlink;
+use links_change::change::move_to_back;
+use links_change::change::remove;
 
 // Moves the cursor of the deque d on if it stands at s.
 fn step_off(cursors: &mut [usize], next: &[usize], d: usize, s: usize)
@@ -47,28 +42,10 @@ pub fn push(
     requires { ⌜ PushReady (state (now heads) (now tails) (now lens) (now cursors) (now next) (now prev) (now home) (now element)) free d ⌝ }
     ensures { λ r. ⌜ Pushes (state (now (heads .entry)) (now (tails .entry)) (now (lens .entry)) (now (cursors .entry)) (now (next .entry)) (now (prev .entry)) (now (home .entry)) (now (element .entry))) (state (now (heads .exit)) (now (tails .exit)) (now (lens .exit)) (now (cursors .entry)) (now (next .exit)) (now (prev .exit)) (now (home .exit)) (now (element .exit))) free d e r ⌝ }
 {
-    let rest = take(next, free);
-    link_back(heads, tails, next, prev, home, d, free);
+    let rest = links_change::change::push(heads, tails, next, prev, home, free, d);
     lens[d] += 1;
     element[free] = e;
     rest
-}
-
-// Takes the node s out of its deque and gives it back: it is the first free node then.
-fn unlink_free(
-    heads: &mut [usize],
-    tails: &mut [usize],
-    next: &mut [usize],
-    prev: &mut [usize],
-    home: &mut [usize],
-    free: usize,
-    s: usize,
-)
-    requires { ⌜ Held (links (now heads) (now tails) (now next) (now prev) (now home)) s ⌝ }
-    ensures { λ _. ⌜ Frees (links (now (heads .entry)) (now (tails .entry)) (now (next .entry)) (now (prev .entry)) (now (home .entry))) (links (now (heads .exit)) (now (tails .exit)) (now (next .exit)) (now (prev .exit)) (now (home .exit))) free s ⌝ }
-{
-    unlink(heads, tails, next, prev, home, s);
-    give_back(next, prev, s, free);
 }
 
 // Unlinks the node s of the deque d and frees it. Answers its element; s is the first free node then.
@@ -92,7 +69,7 @@ pub fn release(
     element[s] = 0;
     lens[d] -= 1;
     step_off(cursors, next, d, s);
-    unlink_free(heads, tails, next, prev, home, free, s);
+    remove(heads, tails, next, prev, home, free, s);
     e
 }
 
@@ -157,5 +134,5 @@ pub fn shift(
         return;
     }
     step_off(cursors, next, d, s);
-    send_back(heads, tails, next, prev, home, d, s);
+    move_to_back(heads, tails, next, prev, home, d, s);
 }

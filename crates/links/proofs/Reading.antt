@@ -1,14 +1,12 @@
--- What the ends of a deque, the slot after a slot and the home of a slot say of the lists. Assumes nothing.
-use Prim.Native.Nat.{ℕ, suc, _+_, _≤_, _<_}
-use native.Mathlib.Omega.{arith}
-use mathlib.Core.Path.{_≡_, refl, sym, ap, subst, _∙_}
-use mathlib.Core.Logic.{_⊎_, inl, inr, ⊎-elim}
-use mathlib.Core.List.{List, [], _∷_, _++_}
-use lib.ListN.{length, getD}
+-- What the ends of a deque and the slot after a slot say of the lists.
+use Prim.Native.Nat.{ℕ, _<_}
+use mathlib.Core.Path.{_≡_, refl, sym, subst, _∙_}
+use mathlib.Core.List.{List, [], _∷_}
+use lib.ListN.{getD}
 use Rattle.links.specs.Chain.{none, In, Chain, first, last, after, before, following}
-use Rattle.links.specs.Lists.{Links, Lists, links, step, homeOf, deq, Rep}
-use Rattle.links.specs.Read.{Front, Back, Follows, HomeIs}
-use Rattle.links.proofs.Slots.{same?, split}
+use Rattle.links.specs.Lists.{Links, Lists, links, step, deq, Rep}
+use Rattle.links.specs.Read.{Front, Follows}
+use Rattle.links.proofs.Slots.{split}
 use Rattle.links.proofs.Chains.{chain-last, parts}
 use Rattle.links.proofs.Arrays.{step-slot}
 use Rattle.links.proofs.Swap.{slot-real}
@@ -37,17 +35,5 @@ module _ (a : Links) (v : Lists) (loose : List ℕ) (r : Rep a v loose) (d : ℕ
 pub front-does : (heads : List ℕ) (d : ℕ) → Front heads d (getD heads d 0)
 front-does heads d = record { is = refl; does = λ t n p o v loose r h. head-is (links heads t n p o) v loose r d h }
 
-pub back-does : (tails : List ℕ) (d : ℕ) → Back tails d (getD tails d 0)
-back-does tails d = record { is = refl; does = λ h n p o v loose r l. tail-is (links h tails n p o) v loose r d l }
-
 pub follows-does : (next : List ℕ) (s : ℕ) → Follows next s (getD next s 0)
 follows-does next s = record { is = refl; does = λ h t p o v loose r d l m. next-is (links h t next p o) v loose r d l s m }
-
-pub home-does : (home : List ℕ) (s : ℕ) → s < length home → HomeIs home s (getD home s 0)
-home-does home s l =
-    record {
-      is = refl;
-      does = λ h t n p v loose r.
-          let i : s < v .slots = omega (arith, l, r .home-len) in
-          ⊎-elim (λ (e : getD home s 0 ≡ none). inr (e, r .covered s i e)) (λ (k : getD home s 0 ≡ none → ⊥). inl (r .homed s i k)) (same? (getD home s 0) none);
-    }

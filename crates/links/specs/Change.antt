@@ -1,12 +1,13 @@
--- Link at the back, unlink, move to the back, turn (crate links_change): what each writes into the records, and what that means for the lists. Assumes nothing.
+-- Push, remove, move to the back, turn: what each writes into the records, and what that means for the lists.
 use Prim.Native.Nat.{ℕ, _≤_, _<_}
 use mathlib.Core.Path.{_≡_}
 use mathlib.Core.Bool.{Bool, true, false, cond}
 use mathlib.Core.List.{List, [], _∷_}
 use lib.ListN.{length, getD, set}
 use lib.Dec.{eqb}
-use Rattle.links.specs.Chain.{none}
-use Rattle.links.specs.Lists.{Links, Lists, links, homeOf, deq, Rep, pushBack, takeOut, turn}
+use Rattle.links.specs.Chain.{none, first}
+use Rattle.links.specs.Lists.{Links, Lists, links, homeOf, deq, Rep, pushBack, takeOut, turn, taken, freed}
+use Rattle.links.specs.Free.{handBack}
 
 -- ---- on the records
 -- the slot after p in the deque d is q: the head, where p is none (the list of next has no place for none, so there it stays)
@@ -36,6 +37,10 @@ cutOut a s =
     let q = getD (a .next) s 0 in
     links (endAt (a .heads) d p q) (endAt (a .tails) d q p) (set (a .next) p q) (set (a .prev) q p) (set (a .home) s none)
 
+-- s is taken out of its deque and handed back, where free was the first free slot
+abbrev pub removed : Links → ℕ → ℕ → Links
+removed a free s = handBack (cutOut a s) s free
+
 -- s is moved to the back of the deque d, from whichever deque it is in
 abbrev pub moveBack : Links → ℕ → ℕ → Links
 moveBack a d s = linkBack (cutOut a s) d s
@@ -52,6 +57,14 @@ abbrev pub turnTo : Links → ℕ → ℕ → Links
 turnTo a d s = let q = getD (a .next) s 0 in cond (eqb q none) a (turnNow a d s q)
 
 -- ---- what the functions ask
+-- free is the first free slot, and d is a deque
+pub record Pushable (a : Links) (free d : ℕ) : Type 0 where
+  pub v : Lists
+  pub rep : Rep a v []
+  pub free-is : first (v .free) ≡ free
+  pub slot : free < v .slots
+  pub deque : d < v .count
+
 -- s is loose, and d is a deque
 pub record Linkable (a : Links) (d s : ℕ) : Type 0 where
   pub v : Lists
@@ -92,6 +105,19 @@ pub record Ahead (a : Links) (d s : ℕ) : Type 0 where
   pub not-last : getD (a .tails) d 0 ≡ s → ⊥
 
 -- ---- what the functions do
+-- the first free slot goes to the back of the deque d, and r is the first free slot then
+pub record PushesBack (a b : Links) (free d r : ℕ) : Type 0 where
+  pub is : b ≡ linkBack a d free
+  pub free-is : r ≡ getD (a .next) free 0
+  pub does :
+      (v : Lists) → Rep a v [] → first (v .free) ≡ free →
+      Rep b (pushBack d free (taken v)) [] × (first (taken v .free) ≡ r) × (v .free ≡ free ∷ (taken v .free))
+
+-- s leaves its deque, and is the first free slot then
+pub record Removes (a b : Links) (free s : ℕ) : Type 0 where
+  pub is : b ≡ removed a free s
+  pub does : (v : Lists) → Rep a v [] → first (v .free) ≡ free → Rep b (freed s (takeOut (homeOf a s) s v)) []
+
 pub record LinksBack (a b : Links) (d s : ℕ) : Type 0 where
   pub is : b ≡ linkBack a d s
   pub does : (v : Lists) (loose : List ℕ) → Rep a v (s ∷ loose) → Rep b (pushBack d s v) loose

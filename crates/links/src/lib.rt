@@ -3,7 +3,7 @@
 // Here are free slots, laying out and reading; what changes links is in links_change. The definitions and laws of all three crates stand here.
 pub mod free; // take a free slot, give one back
 pub mod layout; // all deques empty, all slots free
-pub mod read; // the ends of a deque, the slot after a slot, the deque of a slot
+pub mod read; // the front of a deque, the slot after a slot
 
 // No slot: one past the last that may be lent.
 pub const NONE: usize = 4096;

@@ -1,4 +1,4 @@
--- Taken out and linked again: what `move_back` asks of its two steps and what they come to, and that `send_back` writes the same. Assumes nothing.
+-- Taken out and linked again: what `move_back` asks of its two steps and what they come to, and that `move_to_back` writes the same. Assumes nothing.
 use Prim.Native.Nat.{ℕ, _*_, _^_, _<_}
 use native.Mathlib.Omega.{arith}
 use mathlib.Core.Path.{_≡_, refl, sym, ap, subst, _∙_}

@@ -1,7 +1,9 @@
-// For proved code only, unchecked: link at the back, unlink, move to the back, turn until a member is last. Each takes constant time.
+// For proved code only, unchecked: push, remove, move to the back, turn until a member is last. Each takes constant time.
 ghost use Rattle.links.specs.Lists.{links};
-ghost use Rattle.links.specs.Change.{CanPut, Puts, Linkable, LinksBack, Held, CutsOut, Movable, MovesBack, HeldBy, Ahead, Turns};
+ghost use Rattle.links.specs.Change.{CanPut, Puts, Linkable, LinksBack, Held, CutsOut, Pushable, PushesBack, Removes, Movable, MovesBack, HeldBy, Ahead, Turns};
 use links::NONE;
+use links::free::give_back;
+use links::free::take;
 
 // The slot after p in the deque d is q from now on: the head, where p is NONE. With tails and prev: the slot before p.
 fn put(ends: &mut [usize], next: &mut [usize], d: usize, p: usize, q: usize)
@@ -16,7 +18,7 @@ fn put(ends: &mut [usize], next: &mut [usize], d: usize, p: usize, q: usize)
 }
 
 // Links the loose slot s at the back of the deque d.
-pub fn link_back(
+fn link_back(
     heads: &mut [usize],
     tails: &mut [usize],
     next: &mut [usize],
@@ -37,7 +39,7 @@ pub fn link_back(
 }
 
 // Takes the slot s out of its deque. It is loose then.
-pub fn unlink(
+fn unlink(
     heads: &mut [usize],
     tails: &mut [usize],
     next: &mut [usize],
@@ -54,6 +56,41 @@ pub fn unlink(
     put(heads, next, d, p, q);
     put(tails, prev, d, q, p);
     home[s] = NONE;
+}
+
+// Takes the first free slot, free, and links it at the back of the deque d. Answers the first free slot from then on.
+pub fn push(
+    heads: &mut [usize],
+    tails: &mut [usize],
+    next: &mut [usize],
+    prev: &mut [usize],
+    home: &mut [usize],
+    free: usize,
+    d: usize,
+) -> usize
+    requires { ⌜ Pushable (links (now heads) (now tails) (now next) (now prev) (now home)) free d ⌝ }
+    ensures { λ r. ⌜ PushesBack (links (now (heads .entry)) (now (tails .entry)) (now (next .entry)) (now (prev .entry)) (now (home .entry))) (links (now (heads .exit)) (now (tails .exit)) (now (next .exit)) (now (prev .exit)) (now (home .exit))) free d r ⌝ }
+{
+    let rest = take(next, free);
+    link_back(heads, tails, next, prev, home, d, free);
+    rest
+}
+
+// Takes the slot s out of its deque and gives it back, where free is the first free slot: s is the first one then.
+pub fn remove(
+    heads: &mut [usize],
+    tails: &mut [usize],
+    next: &mut [usize],
+    prev: &mut [usize],
+    home: &mut [usize],
+    free: usize,
+    s: usize,
+)
+    requires { ⌜ Held (links (now heads) (now tails) (now next) (now prev) (now home)) s ⌝ }
+    ensures { λ _. ⌜ Removes (links (now (heads .entry)) (now (tails .entry)) (now (next .entry)) (now (prev .entry)) (now (home .entry))) (links (now (heads .exit)) (now (tails .exit)) (now (next .exit)) (now (prev .exit)) (now (home .exit))) free s ⌝ }
+{
+    unlink(heads, tails, next, prev, home, s);
+    give_back(next, prev, s, free);
 }
 
 // Moves the slot s from its deque to the back of the deque d, which may be the same.
@@ -74,7 +111,7 @@ pub fn move_back(
 }
 
 // Moves the slot s, which is not last, to the back of its own deque d: what `move_back` writes, with no home read or written and no choice but at the front.
-pub fn send_back(
+pub fn move_to_back(
     heads: &mut [usize],
     tails: &mut [usize],
     next: &mut [usize],

@@ -5,7 +5,6 @@
 -- Assumes nothing.
 use Prim.Native.Nat.{ℕ, zero, suc, _+_, _-_, _≤_, _<_}
 use native.Mathlib.Omega.{arith}
-use native.Mathlib.Numerals.{add-one}
 use mathlib.Core.Path.{_≡_, refl, sym, ap, subst, _∙_}
 use mathlib.Core.Logic.{⊎-elim}
 use mathlib.Core.Bool.{cond}
@@ -14,14 +13,14 @@ use lib.ListN.{length, getD, set, length-set, length-replicate, getD-replicate}
 use lib.Seq.{getD-set-same, getD-set-other, ext-getD}
 use lib.Dec.{ltb}
 use borrow.Author.Tests.{lt-ltb, le-ltb}
-use Rattle.links.specs.Chain.{none, Path, upFrom}
+use Rattle.links.specs.Chain.{none, Path, first, upFrom}
 use Rattle.links.specs.Lists.{Links, Rep, allFree}
 use Rattle.links.specs.Change.{endAt}
 use Rattle.links.specs.Layout.{fresh}
 use Rattle.links.proofs.Arrays.{length-endAt}
 use Rattle.links.proofs.Counting.{length-up}
 use Rattle.links.proofs.Laying.{fresh-rep}
-use Rattle.links.proofs.Linking.{link-does}
+use Rattle.links.proofs.Pushing.{push-rep}
 use Rattle.rules.specs.Geometry.{wheel01, buckets}
 use Rattle.rules.specs.Wheel.{enable}
 use Rattle.rules.specs.Calls.{act}
@@ -30,7 +29,7 @@ use Rattle.records.specs.declared.Clock.{Clock}
 use Rattle.records.specs.Records.{Nodes, Entries, records}
 use Rattle.records.specs.Shows.{Shows}
 use Rattle.records_layout.specs.Layout.{seated, bareLinks, bareNodes, bareEntries, enabledWith, seatedLists, LayReady, Lays}
-use Rattle.records_layout.proofs.Seating.{Seating, seating-asks, seating-again, bare-shows}
+use Rattle.records_layout.proofs.Seating.{counts, slots, first-is, bare-shows}
 
 -- ---- numbers upwards
 up-at : (k i j : ℕ) → j < k → getD (upFrom k i) j 0 ≡ i + j
@@ -189,27 +188,14 @@ module _ (D n : ℕ) where
 
   -- ---- the lists that they stand for
   module _ (room : D < n) (small : n ≤ none) where
-    seats : (k : ℕ) → k ≤ D → Seating D n (fresh D n) (Bare k) k
-    seats zero h =
-        record {
-          is = refl;
-          rep = fresh-rep D n (omega arith) small;
-          within = omega arith;
-          room = room;
-          heads-len = refl;
-          tails-len = refl;
-          next-len = refl;
-          prev-len = refl;
-          home-len = refl;
-        }
+    seats : (k : ℕ) → k ≤ D → Rep (Bare k) (seatedLists k (allFree D n)) []
+    seats zero h = fresh-rep D n (omega arith) small
     seats (suc k) h =
-        let s = seats k (omega arith) in
-        let l : k < length (Bare k .heads) = omega (arith, heads-long k) in
-        subst (Seating D n (fresh D n) (Bare (suc k))) (add-one k)
-        (seating-again D n (fresh D n) (Bare k) k s l (Bare (suc k)) (link-does (Bare k) k k _ _ (seating-asks D n (fresh D n) (Bare k) k s l) refl refl))
+        push-rep (Bare k) (seatedLists k (allFree D n)) k k (seats k (omega arith)) (ap first (first-is D n k (omega arith)))
+        (omega (arith, slots D n k)) (omega (arith, counts D n k)) .0
 
     pub bare-rep : Rep (bareLinks D n) (seatedLists D (allFree D n)) []
-    bare-rep = seats D (omega arith) .rep
+    bare-rep = seats D (omega arith)
 
 pub bare-lays : (N : Nodes) (E : Entries) (c : Clock) → LayReady wheel01 N E
     → Lays wheel01 N E c (bareNodes (length (N .links .heads)) (length (N .links .next))) (bareEntries (length (E .dated)))

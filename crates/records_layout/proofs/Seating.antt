@@ -14,10 +14,9 @@ use borrow.Author.Tests.{le-ltb}
 use Rattle.links.specs.Chain.{In, first, rest, upFrom}
 use Rattle.links.specs.Chain.{none as nowhere}
 use Rattle.links.specs.Lists.{Links, links, Rep, homeOf, deq, allFree, pushBack}
-use Rattle.links.specs.Lists.{Lists as Held, taken as takenFree}
-use Rattle.links.specs.Change.{linkBack, Linkable, LinksBack}
+use Rattle.links.specs.Lists.{Lists as Held, taken}
+use Rattle.links.specs.Change.{linkBack, Pushable, PushesBack}
 use Rattle.links.specs.Layout.{fresh, Sizes, LaysOut}
-use Rattle.links.proofs.Freeing.{take-rep}
 use Rattle.rules.specs.Geometry.{Geometry, wheel01, buckets}
 use Rattle.rules.specs.Lists.{upwards, bare, whole}
 use Rattle.rules.specs.Wheel.{Wheel, Entry, enable}
@@ -35,11 +34,11 @@ module _ (D n : ℕ) where
   abbrev Seen : ℕ → Held
   Seen k = seatedLists k (allFree D n)
 
-  counts : (k : ℕ) → Seen k .count ≡ D
+  pub counts : (k : ℕ) → Seen k .count ≡ D
   counts zero = refl
   counts (suc k) = counts k
 
-  slots : (k : ℕ) → Seen k .slots ≡ n
+  pub slots : (k : ℕ) → Seen k .slots ≡ n
   slots zero = refl
   slots (suc k) = slots k
 
@@ -57,7 +56,7 @@ module _ (D n : ℕ) where
       let e : (n - k) - 1 ≡ n - suc k = omega arith in
       ap rest (free-is k (omega arith)) ∙ rest-up (n - k) k (omega arith) ∙ ap (λ (j : ℕ). upFrom j (suc k)) e
 
-  first-is : (k : ℕ) → k < n → Seen k .free ≡ k ∷ rest (Seen k .free)
+  pub first-is : (k : ℕ) → k < n → Seen k .free ≡ k ∷ rest (Seen k .free)
   first-is k h = let f : Seen k .free ≡ upFrom (n - k) k = free-is k (omega arith) in rw f (go (n - k) (omega arith))
     where
       go : (j : ℕ) → 0 < j → upFrom j k ≡ k ∷ rest (upFrom j k)
@@ -78,9 +77,15 @@ module _ (D n : ℕ) where
       (λ (ne : b ≡ k → ⊥). getD-set-other (Seen k .held) k b _ [] ne ∙ seat-is k b (omega arith) (omega (arith, ne)))
       (same? b k)
 
+first-from : (k i : ℕ) → 0 < k → first (upFrom k i) ≡ i
+first-from zero i h = absurd (omega arith)
+first-from (suc k) i h = refl
+
 -- ---- the loop of `seat`
-pub record Seating (D n : ℕ) (o a : Links) (b : ℕ) : Type 0 where
+-- b sentinels are linked, and f is the first free slot
+pub record Seating (D n : ℕ) (o a : Links) (f b : ℕ) : Type 0 where
   pub is : a ≡ seated b o
+  pub free-is : f ≡ b
   pub rep : Rep a (seatedLists b (allFree D n)) []
   pub within : b ≤ D
   pub room : D < n
@@ -90,12 +95,13 @@ pub record Seating (D n : ℕ) (o a : Links) (b : ℕ) : Type 0 where
   pub prev-len : length (a .prev) ≡ length (o .prev)
   pub home-len : length (a .home) ≡ length (o .home)
 
-pub seating-begins : (z a : Links) (r : ℕ) → SeatReady z → LaysOut z a r → Seating (length (a .heads)) (length (a .next)) a a 0
+pub seating-begins : (z a : Links) (r : ℕ) → SeatReady z → LaysOut z a r → Seating (length (a .heads)) (length (a .next)) a a r 0
 seating-begins z a r y l =
     let p : length (a .heads) ≡ length (z .heads) = l .does .heads-len in
     let q : length (a .next) ≡ length (z .next) = l .does .next-len in
     record {
       is = refl;
+      free-is = l .free-is ∙ first-from (length (z .next)) 0 (omega (arith, y .room));
       rep = subst (λ (k : ℕ). Rep a (allFree k (length (a .next))) []) (sym p) (subst (λ (k : ℕ). Rep a (allFree (length (z .heads)) k) []) (sym q) (l .does));
       within = omega arith;
       room = omega (arith, y .room);
@@ -106,40 +112,42 @@ seating-begins z a r y l =
       home-len = refl;
     }
 
-module _ (D n : ℕ) (o a : Links) (b : ℕ) (s : Seating D n o a b) (h : b < length (a .heads)) where
+module _ (D n : ℕ) (o a : Links) (f b : ℕ) (s : Seating D n o a f b) (h : b < length (a .heads)) where
   below : b < D
   below = omega (arith, h, s .rep .heads-len, counts D n b)
 
-  loosened : Rep a (takenFree (seatedLists b (allFree D n))) (b ∷ [])
-  loosened = take-rep a (seatedLists b (allFree D n)) [] b (s .rep) (first-is D n b (omega (arith, below, s .room)))
+  free-first : first (seatedLists b (allFree D n) .free) ≡ f
+  free-first = ap first (first-is D n b (omega (arith, below, s .room))) ∙ sym (s .free-is)
 
-  pub seating-asks : Linkable a b b
+  pub seating-asks : Pushable a f b
   seating-asks =
       record {
-        v = takenFree (seatedLists b (allFree D n));
-        loose = [];
-        rep = loosened;
-        slot = omega (arith, below, s .room, slots D n b);
+        v = seatedLists b (allFree D n);
+        rep = s .rep;
+        free-is = free-first;
+        slot = omega (arith, below, s .room, slots D n b, s .free-is);
         deque = omega (arith, below, counts D n b);
       }
 
-  pub seating-again : (a′ : Links) → LinksBack a a′ b b → Seating D n o a′ (b + 1)
-  seating-again a′ l =
-      let r : Rep a′ (seatedLists (suc b) (allFree D n)) [] = l .does (takenFree (seatedLists b (allFree D n))) [] loosened in
+  pub seating-again : (a′ : Links) (r : ℕ) → PushesBack a a′ f b r → Seating D n o a′ r (b + 1)
+  seating-again a′ r l =
+      let u = l .does (seatedLists b (allFree D n)) (s .rep) free-first in
+      let q : Rep a′ (seatedLists (suc b) (allFree D n)) [] = subst (λ (x : ℕ). Rep a′ (pushBack b x (taken (seatedLists b (allFree D n)))) []) (s .free-is) (u .0) in
       record {
-        is = rw add-one (l .is ∙ ap (λ (x : Links). linkBack x b b) (s .is));
-        rep = rw add-one r;
+        is = rw add-one (l .is ∙ ap (λ (x : ℕ). linkBack a b x) (s .free-is) ∙ ap (λ (x : Links). linkBack x b b) (s .is));
+        free-is = sym (u .1) ∙ ap first (first-is D n (suc b) (omega (arith, below, s .room))) ∙ sym (add-one b);
+        rep = rw add-one q;
         within = omega (arith, below);
         room = s .room;
-        heads-len = r .heads-len ∙ sym (s .rep .heads-len) ∙ s .heads-len;
-        tails-len = r .tails-len ∙ sym (s .rep .tails-len) ∙ s .tails-len;
-        next-len = r .next-len ∙ sym (s .rep .next-len) ∙ s .next-len;
-        prev-len = r .prev-len ∙ sym (s .rep .prev-len) ∙ s .prev-len;
-        home-len = r .home-len ∙ sym (s .rep .home-len) ∙ s .home-len;
+        heads-len = q .heads-len ∙ sym (s .rep .heads-len) ∙ s .heads-len;
+        tails-len = q .tails-len ∙ sym (s .rep .tails-len) ∙ s .tails-len;
+        next-len = q .next-len ∙ sym (s .rep .next-len) ∙ s .next-len;
+        prev-len = q .prev-len ∙ sym (s .rep .prev-len) ∙ s .prev-len;
+        home-len = q .home-len ∙ sym (s .rep .home-len) ∙ s .home-len;
       }
 
-pub seating-ends : (z o a : Links) (r b : ℕ) → LaysOut z o r → Seating (length (o .heads)) (length (o .next)) o a b → length (a .heads) ≤ b → Seats z a
-seating-ends z o a r b l s h =
+pub seating-ends : (z o a : Links) (r f b : ℕ) → LaysOut z o r → Seating (length (o .heads)) (length (o .next)) o a f b → length (a .heads) ≤ b → Seats z a
+seating-ends z o a r f b l s h =
     let p : length (o .heads) ≡ length (z .heads) = l .does .heads-len in
     let q : length (o .next) ≡ length (z .next) = l .does .next-len in
     let e : b ≡ length (z .heads) = omega (arith, s .within, s .rep .heads-len, counts (length (o .heads)) (length (o .next)) b) in
@@ -154,10 +162,6 @@ seating-ends z o a r b l s h =
 upwards-is : (a k : ℕ) → upwards a k ≡ upFrom k a
 upwards-is a zero = refl
 upwards-is a (suc k) = ap (λ (l : List ℕ). a ∷ l) (upwards-is (suc a) k)
-
-first-from : (k i : ℕ) → 0 < k → first (upFrom k i) ≡ i
-first-from zero i h = absurd (omega arith)
-first-from (suc k) i h = refl
 
 module _ (g : Geometry) (a : Links) (m k : ℕ) (c : Clock) (w : Wheel) (r : Rep a (seatedLists (buckets g) (allFree (buckets g) m)) []) (room : buckets g < m) where
   abbrev D : ℕ

@@ -5,7 +5,7 @@ ghost use Rattle.links.specs.Lists.{links};
 ghost use Rattle.rules.specs.Geometry.{wheel01};
 ghost use Rattle.records.specs.Records.{nodes, entries};
 ghost use Rattle.records_layout.specs.Layout.{enabledWith, SeatReady, Seats, Clears, ClearsEntries, LayReady, Lays};
-use links_change::change::link_back;
+use links_change::change::push;
 use records::Clock;
 use records::moments::end;
 
@@ -20,10 +20,10 @@ fn seat(
     requires { ⌜ SeatReady (links (now heads) (now tails) (now next) (now prev) (now bucket)) ⌝ }
     ensures { λ _. ⌜ Seats (links (now (heads .entry)) (now (tails .entry)) (now (next .entry)) (now (prev .entry)) (now (bucket .entry))) (links (now (heads .exit)) (now (tails .exit)) (now (next .exit)) (now (prev .exit)) (now (bucket .exit))) ⌝ }
 {
-    links::layout::lay_out(heads, tails, next, prev, bucket);
+    let mut free = links::layout::lay_out(heads, tails, next, prev, bucket);
     let mut b: usize = 0;
     while b < heads.len() {
-        link_back(heads, tails, next, prev, bucket, b, b);
+        free = push(heads, tails, next, prev, bucket, free, b);
         b += 1;
     }
 }

@@ -11,8 +11,7 @@ use Rattle.links.specs.Chain.{first, rest}
 use Rattle.links.specs.Chain.{none as nowhere}
 use Rattle.links.specs.Lists.{Links, links, homeOf, Rep}
 use Rattle.links.specs.Lists.{Lists as Held, pushBack, takeOut, taken as takenFree, freed as freedSlot}
-use Rattle.links.specs.Change.{linkBack, cutOut, moveBack, Linkable, LinksBack, Held as HeldSlot, CutsOut, Movable, MovesBack}
-use Rattle.links.specs.Free.{handBack, Takes, GivesBack}
+use Rattle.links.specs.Change.{linkBack, removed, moveBack, Pushable, PushesBack, Held as HeldSlot, Removes, Movable, MovesBack}
 use Rattle.rules.specs.Geometry.{Geometry, wheel01, buckets}
 use Rattle.rules.specs.Place.{bucketOf}
 use Rattle.rules.specs.Lists.{Lists, newNode, placedIn, link, unlink, release, claim}
@@ -36,19 +35,19 @@ joined : {a a′ : Links} {e e′ h h′ n n′ : List ℕ} → a ≡ a′ → e
 joined p q r s = rw (p, q, r, s) refl
 
 -- ---- arm
-module _ (h t n p o e γ s : List ℕ) (c : Clock) (y : ArmReady wheel01 (nodes h t n p o e γ s) c) (d f b : ℕ) (k : Takes n (c .free) f) (i : InBucket (c .reading) d b) where
-  pub arm-links : Linkable (links h t n p o) b (c .free)
-  arm-links =
+module _ (h t n p o e γ s : List ℕ) (c : Clock) (y : ArmReady wheel01 (nodes h t n p o e γ s) c) (d f b : ℕ) (i : InBucket (c .reading) d b) where
+  pub arm-asks : Pushable (links h t n p o) (c .free) b
+  arm-asks =
       let z = y .ready .shows in
       record {
-        v = takenFree (z .lists);
-        loose = [];
-        rep = k .does h t p o (z .lists) [] (z .rep) (z .free-is) .0;
+        v = z .lists;
+        rep = z .rep;
+        free-is = z .free-is;
         slot = omega (arith, y .slot, z .rep .next-len);
         deque = omega (arith, i .is, bucketOf-in wheel01 (c .reading) d, z .count);
       }
 
-  module _ (h′ t′ n′ p′ o′ e′ γ′ s′ : List ℕ) (i′ j : ℕ) (w : Writes e γ s e′ γ′ s′ (c .free) i′ j (c .serial)) (l : LinksBack (links h t n p o) (links h′ t′ n′ p′ o′) b (c .free)) where
+  module _ (h′ t′ n′ p′ o′ e′ γ′ s′ : List ℕ) (i′ j : ℕ) (w : Writes e γ s e′ γ′ s′ (c .free) i′ j (c .serial)) (l : PushesBack (links h t n p o) (links h′ t′ n′ p′ o′) (c .free) b f) where
     abbrev N : Nodes
     N = nodes h t n p o e γ s
 
@@ -63,12 +62,12 @@ module _ (h t n p o e γ s : List ℕ) (c : Clock) (y : ArmReady wheel01 (nodes 
     arm-shows E W z q due =
         let x : ℕ = c .free in
         let v : Held = z .lists in
-        let r = k .does h t p o v [] (z .rep) (z .free-is) in
+        let r = l .does v (z .rep) (z .free-is) in
         let fs : List ℕ = rest (v .free) in
         let u = first-free (buckets wheel01) (W .nodes) (W .entries) (W .next) x (W .lists) (q .lists) fs (z .free ∙ r .2) in
         let eb : b ≡ bucketOf wheel01 (W .reading) d = i .is ∙ ap (λ (m : ℕ). bucketOf wheel01 m d) (z .reading) in
         let td = tied-arm (buckets wheel01) (W .nodes) (W .entries) (W .next) N v (W .lists) (tied wheel01 (records N E c) W z) (q .lists) x (u .0) (u .1)
-        (links h′ t′ n′ p′ o′) b i′ j (c .serial) fs (omega (arith, i .is, bucketOf-in wheel01 (c .reading) d)) (r .2) (l .does (takenFree v) [] (r .0))
+        (links h′ t′ n′ p′ o′) b i′ j (c .serial) fs (omega (arith, i .is, bucketOf-in wheel01 (c .reading) d)) (r .2) (r .0)
         (ap (λ (m : Links). m .home) (l .is)) in
         let td′ : Tied (buckets wheel01) (W .nodes) N′ (pushBack b x (takenFree v)) (link b x (newNode b i′ j (c .serial)) (claim fs (W .lists))) =
         subst (λ (m : Nodes). Tied (buckets wheel01) (W .nodes) m (pushBack b x (takenFree v)) (link b x (newNode b i′ j (c .serial)) (claim fs (W .lists))))
@@ -87,7 +86,7 @@ module _ (h t n p o e γ s : List ℕ) (c : Clock) (y : ArmReady wheel01 (nodes 
     arm-does =
         record {
           is = arm-is;
-          clock-is = ap (λ (m : ℕ). counted m c) (k .is);
+          clock-is = ap (λ (m : ℕ). counted m c) (l .free-is);
           slot-is = refl;
           serial-is = refl;
           does = arm-shows;
@@ -112,16 +111,12 @@ module _ (h t n p o e γ s : List ℕ) (c : Clock) (x : ℕ) (y : SlotReady whee
       let k : x < y .ready .w .nodes = there wheel01 (nodes h t n p o e γ s) (y .E) c (y .ready .w) z x (y .slot) in
       (omega (arith, z .entry-len, k), omega (arith, z .generation-len, k), omega (arith, z .serial-len, k))
 
-  module _ (h′ t′ n₁ p₁ o′ n′ p′ e′ γ′ s′ : List ℕ) (u : CutsOut (links h t n p o) (links h′ t′ n₁ p₁ o′) x) (k : GivesBack n₁ p₁ n′ p′ x (c .free))
-      (w : Writes e γ s e′ γ′ s′ x 0 0 0) where
+  module _ (h′ t′ n′ p′ o′ e′ γ′ s′ : List ℕ) (u : Removes (links h t n p o) (links h′ t′ n′ p′ o′) (c .free) x) (w : Writes e γ s e′ γ′ s′ x 0 0 0) where
     abbrev M : Nodes
     M = nodes h t n p o e γ s
 
     abbrev M′ : Nodes
     M′ = nodes h′ t′ n′ p′ o′ e′ γ′ s′
-
-    links-are : links h′ t′ n′ p′ o′ ≡ handBack (cutOut (links h t n p o) x) x (c .free)
-    links-are = rw (k .next-is, k .prev-is) (ap (λ (m : Links). handBack m x (c .free)) (u .is))
 
     disarm-shows : (E : Entries) (W : Wheel) → Shows wheel01 (records M E c) W → Sound wheel01 W → (i j : ℕ)
         → Shows wheel01 (records M′ E (setFree x c)) (act wheel01 W (deschedule x i j) .1)
@@ -129,7 +124,7 @@ module _ (h t n p o e γ s : List ℕ) (c : Clock) (x : ℕ) (y : SlotReady whee
         let v : Held = z .lists in
         let td = tied-free (buckets wheel01) (W .nodes) (W .entries) (W .next) M v (W .lists) (tied wheel01 (records M E c) W z) (q .lists) x
         (past wheel01 M E c W z x (y .after)) (there wheel01 M E c W z x (y .slot)) (alive wheel01 M E c W z x (y .after) (y .slot) (y .armed))
-        (links h′ t′ n′ p′ o′) 0 0 0 (k .does h′ t′ o′ _ [] (u .does v [] (z .rep)) (z .free-is)) (ap (λ (m : Links). m .home) (u .is)) in
+        (links h′ t′ n′ p′ o′) 0 0 0 (u .does v (z .rep) (z .free-is)) (ap (λ (m : Links). m .home) (u .is)) in
         let td′ : Tied (buckets wheel01) (W .nodes) M′ (freedSlot x (takeOut (homeOf (links h t n p o) x) x v)) (release x (unlink x (W .lists))) =
         subst (λ (m : Nodes). Tied (buckets wheel01) (W .nodes) m (freedSlot x (takeOut (homeOf (links h t n p o) x) x v)) (release x (unlink x (W .lists))))
         (joined refl (sym (w .entry-is)) (sym (w .generation-is)) (sym (w .serial-is))) td in
@@ -138,7 +133,7 @@ module _ (h t n p o e γ s : List ℕ) (c : Clock) (x : ℕ) (y : SlotReady whee
     pub disarm-does : Disarms wheel01 M c M′ (setFree x c) x
     disarm-does =
         record {
-          is = joined links-are (w .entry-is) (w .generation-is) (w .serial-is);
+          is = joined (u .is) (w .entry-is) (w .generation-is) (w .serial-is);
           clock-is = refl;
           does = disarm-shows;
         }

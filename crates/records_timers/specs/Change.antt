@@ -5,8 +5,7 @@ use mathlib.Core.List.{List}
 use lib.ListN.{length, getD, set}
 use Rattle.links.specs.Chain.{none}
 use Rattle.links.specs.Lists.{Links}
-use Rattle.links.specs.Change.{linkBack, cutOut, moveBack}
-use Rattle.links.specs.Free.{handBack}
+use Rattle.links.specs.Change.{linkBack, removed, moveBack}
 use Rattle.records.specs.Records.{Nodes, join, withLinks}
 
 -- the payload of the slot x: entry e, generation h, serial n
@@ -19,7 +18,7 @@ armedIn b x e h n N = withLinks (linkBack (N .links) b x) (written x e h n N)
 
 -- the slot x is unlinked and freed: prev and bucket none; entry, generation and serial 0; next the former first free slot f
 abbrev pub freedFrom : ℕ → ℕ → Nodes → Nodes
-freedFrom x f N = withLinks (handBack (cutOut (N .links) x) x f) (written x 0 0 0 N)
+freedFrom x f N = withLinks (removed (N .links) f x) (written x 0 0 0 N)
 
 -- the slot x is unlinked and linked at the back of the bucket b; its payload stays
 abbrev pub movedTo : ℕ → ℕ → Nodes → Nodes

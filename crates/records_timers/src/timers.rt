@@ -4,11 +4,9 @@ ghost use Rattle.rules.specs.Geometry.{wheel01};
 ghost use Rattle.records.specs.Records.{nodes};
 ghost use Rattle.records_timers.specs.Timers.{ArmReady, SlotReady, MoveReady, Arms, Disarms, Rearms};
 use crate::payload::write;
-use links::free::give_back;
-use links::free::take;
-use links_change::change::link_back;
 use links_change::change::move_back;
-use links_change::change::unlink;
+use links_change::change::push;
+use links_change::change::remove;
 use place::bucket_of;
 use records::Clock;
 
@@ -41,10 +39,9 @@ pub fn arm(
     let n = clock.serial;
     let b = bucket_of(clock.reading, deadline);
     let mut after = clock;
-    after.free = take(next, slot);
-    after.serial = n + 1;
     write(entry, generation, serial, slot, e, h, n);
-    link_back(heads, tails, next, prev, bucket, b, slot);
+    after.free = push(heads, tails, next, prev, bucket, slot, b);
+    after.serial = n + 1;
     Armed {
         clock: after,
         slot,
@@ -68,8 +65,7 @@ pub fn disarm(
     requires { ⌜ SlotReady wheel01 (nodes (now heads) (now tails) (now next) (now prev) (now bucket) (now entry) (now generation) (now serial)) clock x ⌝ }
     ensures { λ r. ⌜ Disarms wheel01 (nodes (now (heads .entry)) (now (tails .entry)) (now (next .entry)) (now (prev .entry)) (now (bucket .entry)) (now (entry .entry)) (now (generation .entry)) (now (serial .entry))) clock (nodes (now (heads .exit)) (now (tails .exit)) (now (next .exit)) (now (prev .exit)) (now (bucket .exit)) (now (entry .exit)) (now (generation .exit)) (now (serial .exit))) r x ⌝ }
 {
-    unlink(heads, tails, next, prev, bucket, x);
-    give_back(next, prev, x, clock.free);
+    remove(heads, tails, next, prev, bucket, clock.free, x);
     write(entry, generation, serial, x, 0, 0, 0);
     let mut after = clock;
     after.free = x;

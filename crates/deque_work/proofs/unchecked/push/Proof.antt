@@ -1,14 +1,11 @@
 -- `push` meets its contract. Assumes nothing.
-use Rattle.deque_work.proofs.Working.{push-links, push-fits, push-does}
+use Rattle.deque_work.proofs.Working.{push-asks, push-fits, push-does}
 use borrow.Author.Needs.{needs}
 use Rattle.deque_work.proofs.unchecked.push.Statement.{statement}
 use Rattle.deque_work.proofs.unchecked.push.Tie as tie
 
-take-requires : tie.Need-take-requires
-take-requires c κs = search needs
-
-link-back-requires : tie.Need-link-back-requires
-link-back-requires c κs = search push-links
+push-requires : tie.Need-push-requires
+push-requires c κs = search push-asks
 
 mul-lens : tie.Need-mul-lens
 mul-lens c = search needs
@@ -56,8 +53,7 @@ pub push-spec : {M : Type 1} → statement M
 push-spec =
     tie.close
     (tie.spec
-    take-requires
-    link-back-requires
+    push-requires
     mul-lens
     slice-read-lens
     add-lens

@@ -31,8 +31,8 @@ slice-write-lens c = search needs
 step-off-requires : tie.Need-step-off-requires
 step-off-requires c κs = search needs
 
-unlink-free-requires : tie.Need-unlink-free-requires
-unlink-free-requires c κs = search node-held
+remove-requires : tie.Need-remove-requires
+remove-requires c κs = search node-held
 
 same-length : tie.Need-same-length
 same-length c = search needs
@@ -74,7 +74,7 @@ release-spec =
     sub-lens
     slice-write-lens
     step-off-requires
-    unlink-free-requires
+    remove-requires
     same-length
     same-length-2
     same-length-3

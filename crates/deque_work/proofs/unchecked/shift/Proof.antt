@@ -16,8 +16,8 @@ returns c = search shift-stays
 step-off-requires : tie.Need-step-off-requires
 step-off-requires c κs = search needs
 
-send-back-requires : tie.Need-send-back-requires
-send-back-requires c κs = search node-ahead
+move-to-back-requires : tie.Need-move-to-back-requires
+move-to-back-requires c κs = search node-ahead
 
 same-length : tie.Need-same-length
 same-length c = search needs
@@ -45,7 +45,7 @@ shift-spec =
     slice-read-if1
     returns
     step-off-requires
-    send-back-requires
+    move-to-back-requires
     same-length
     same-length-2
     same-length-3

@@ -9,10 +9,10 @@ use Rattle.records_layout.proofs.layout.seat.Statement.{statement}
 use Rattle.records_layout.proofs.layout.seat.Tie as tie
 
 abbrev Inv-loop : tie.InvT-loop
-Inv-loop heads₀ tails₀ next₀ prev₀ bucket₀ b₀ heads tails next prev bucket b = Seating (length heads₀) (length next₀) (links heads₀ tails₀ next₀ prev₀ bucket₀) (links heads tails next prev bucket) b
+Inv-loop heads₀ tails₀ next₀ prev₀ bucket₀ free₀ b₀ heads tails next prev bucket free b = Seating (length heads₀) (length next₀) (links heads₀ tails₀ next₀ prev₀ bucket₀) (links heads tails next prev bucket) free b
 
 abbrev μ-loop : tie.MeasureT-loop
-μ-loop heads₀ tails₀ next₀ prev₀ bucket₀ b₀ heads tails next prev bucket b = length heads₀ - b
+μ-loop heads₀ tails₀ next₀ prev₀ bucket₀ free₀ b₀ heads tails next prev bucket free b = length heads₀ - b
 
 lay-out-requires : tie.Need-lay-out-requires Inv-loop μ-loop
 lay-out-requires c κs = search needs
@@ -20,8 +20,8 @@ lay-out-requires c κs = search needs
 loop-holds : tie.Need-loop-holds Inv-loop μ-loop
 loop-holds c = seating-begins _ _ _ (c .before .before .before .before .before .before .before .before .before .before .before .before .before .before .before .before .before .before .before .before .before .pre) (c .before .before .before .before .before .before .before .before .before .before .lay-out .ensures)
 
-link-back-requires : tie.Need-link-back-requires Inv-loop μ-loop
-link-back-requires c κs = search seating-asks
+push-requires : tie.Need-push-requires Inv-loop μ-loop
+push-requires c κs = search seating-asks
 
 add-b : tie.Need-add-b Inv-loop μ-loop
 add-b c = search needs
@@ -58,7 +58,7 @@ seat-spec =
     μ-loop
     lay-out-requires
     loop-holds
-    link-back-requires
+    push-requires
     add-b
     loop-less
     loop-again

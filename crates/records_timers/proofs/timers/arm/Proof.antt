@@ -1,5 +1,5 @@
 -- `arm` meets its contract. Assumes nothing.
-use Rattle.records_timers.proofs.Timing.{arm-links, arm-does}
+use Rattle.records_timers.proofs.Timing.{arm-asks, arm-does}
 use borrow.Author.Needs.{needs}
 use Rattle.records_timers.proofs.timers.arm.Statement.{statement}
 use Rattle.records_timers.proofs.timers.arm.Tie as tie
@@ -7,17 +7,14 @@ use Rattle.records_timers.proofs.timers.arm.Tie as tie
 bucket-of-requires : tie.Need-bucket-of-requires
 bucket-of-requires c κs = search needs
 
-take-requires : tie.Need-take-requires
-take-requires c κs = search needs
-
 add-after : tie.Need-add-after
 add-after c = search needs
 
 write-requires : tie.Need-write-requires
 write-requires c κs = search needs
 
-link-back-requires : tie.Need-link-back-requires
-link-back-requires c κs = search arm-links
+push-requires : tie.Need-push-requires
+push-requires c κs = search arm-asks
 
 same-length : tie.Need-same-length
 same-length c = search needs
@@ -51,10 +48,9 @@ arm-spec =
     tie.close
     (tie.spec
     bucket-of-requires
-    take-requires
-    add-after
     write-requires
-    link-back-requires
+    push-requires
+    add-after
     same-length
     same-length-2
     same-length-3

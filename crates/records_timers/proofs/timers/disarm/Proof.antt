@@ -4,11 +4,8 @@ use borrow.Author.Needs.{needs}
 use Rattle.records_timers.proofs.timers.disarm.Statement.{statement}
 use Rattle.records_timers.proofs.timers.disarm.Tie as tie
 
-unlink-requires : tie.Need-unlink-requires
-unlink-requires c κs = search disarm-asks
-
-give-back-requires : tie.Need-give-back-requires
-give-back-requires c κs = search needs
+remove-requires : tie.Need-remove-requires
+remove-requires c κs = search disarm-asks
 
 write-requires : tie.Need-write-requires
 write-requires c κs = search disarm-writes
@@ -38,15 +35,13 @@ same-length-8 : tie.Need-same-length-8
 same-length-8 c = search needs
 
 returns : tie.Need-returns
-returns c =
-    disarm-does _ _ _ _ _ _ _ _ _ _ (c .before .before .before .before .before .before .before .before .before .before .before .before .before .before .before .before .before .before .before .before .before .before .before .before .before .before .before .before .before .before .before .before .before .before .before .before .before .before .before .before .before .pre) _ _ _ _ _ _ _ _ _ _ (c .before .before .before .before .before .before .before .before .before .before .before .before .before .before .before .before .before .before .before .before .before .before .before .before .before .before .before .unlink .ensures) (c .before .before .before .before .before .before .before .before .before .before .before .before .before .before .give-back .ensures) (c .before .before .before .before .before .before .write .ensures)
+returns c = search disarm-does
 
 pub disarm-spec : {M : Type 1} → statement M
 disarm-spec =
     tie.close
     (tie.spec
-    unlink-requires
-    give-back-requires
+    remove-requires
     write-requires
     same-length
     same-length-2

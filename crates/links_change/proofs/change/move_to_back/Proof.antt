@@ -1,8 +1,8 @@
--- `send_back` meets its contract. Assumes nothing.
+-- `move_to_back` meets its contract. Assumes nothing.
 use Rattle.links_change.proofs.Moving.{after-index, after-bytes, send-asks, last-index, last-bytes, own-index, send-does}
 use borrow.Author.Needs.{needs}
-use Rattle.links_change.proofs.change.send_back.Statement.{statement}
-use Rattle.links_change.proofs.change.send_back.Tie as tie
+use Rattle.links_change.proofs.change.move_to_back.Statement.{statement}
+use Rattle.links_change.proofs.change.move_to_back.Tie as tie
 
 mul-p : tie.Need-mul-p
 mul-p c = search needs
@@ -70,8 +70,8 @@ same-length-4 c = search needs
 returns : tie.Need-returns
 returns c = search send-does
 
-pub send-back-spec : {M : Type 1} → statement M
-send-back-spec =
+pub move-to-back-spec : {M : Type 1} → statement M
+move-to-back-spec =
     tie.close
     (tie.spec
     mul-p

@@ -1,8 +1,8 @@
--- `unlink_free` meets its contract. Assumes nothing.
-use Rattle.deque_work.proofs.Working.{free-does}
+-- `remove` meets its contract.
+use Rattle.links.proofs.Pushing.{remove-does}
 use borrow.Author.Needs.{needs}
-use Rattle.deque_work.proofs.unchecked.unlink_free.Statement.{statement}
-use Rattle.deque_work.proofs.unchecked.unlink_free.Tie as tie
+use Rattle.links_change.proofs.change.remove.Statement.{statement}
+use Rattle.links_change.proofs.change.remove.Tie as tie
 
 unlink-requires : tie.Need-unlink-requires
 unlink-requires c κs = search needs
@@ -26,10 +26,10 @@ same-length-5 : tie.Need-same-length-5
 same-length-5 c = search needs
 
 returns : tie.Need-returns
-returns c = search free-does
+returns c = search remove-does
 
-pub unlink-free-spec : {M : Type 1} → statement M
-unlink-free-spec =
+pub remove-spec : {M : Type 1} → statement M
+remove-spec =
     tie.close
     (tie.spec
     unlink-requires
