@@ -9,10 +9,10 @@ use lib.Dec.{eqb, leb}
 use borrow.Author.Tests.{eqb-true, leb-true, eq-eqb, ne-eqb}
 use Rattle.links.specs.Lists.{Links}
 use Rattle.links.specs.Read.{Front, Follows}
-use Rattle.links.proofs.Turning.{turn-stays}
+use Rattle.links.proofs.Laws.{turn-stays}
 use Rattle.rules.specs.Geometry.{Geometry, wheel01, buckets}
 use Rattle.rules.specs.Visits.{visitedAt, bucketAt}
-use Rattle.rules.proofs.Cases.{not-both}
+use Rattle.numbers.proofs.Cases.{not-both}
 use Rattle.records.specs.declared.Clock.{Clock}
 use Rattle.records.specs.Records.{Nodes}
 use Rattle.records.specs.Clocks.{standing}

@@ -3,8 +3,8 @@ use Prim.Native.Nat.{ℕ}
 use native.Mathlib.Omega.{arith}
 use mathlib.Core.Path.{_≡_, refl, sym, ap, _∙_}
 use mathlib.Core.Logic.{⊎-elim}
-use Rattle.links.proofs.Slots.{same?}
-use Rattle.links.proofs.Rows.{Single, none-left, row}
+use Rattle.numbers.proofs.Cases.{same?}
+use Rattle.numbers.proofs.Rows.{Single, none-left, row}
 use Rattle.deque_sound.specs.State.{State}
 use Rattle.deque_plain.specs.Answer.{Told, refused, madeTold, pushedTold, poppedTold, lookedTold, droppedTold, countedTold, doneTold}
 use Rattle.deque_sound.specs.Refuse.{answered, makeRows, dequeRows, pushRows, nodeRows}

@@ -11,7 +11,7 @@ use lib.Dec.{eqb}
 use borrow.Author.Tests.{eq-eqb, ne-eqb}
 use Rattle.links.specs.Chain.{none, In, first, last}
 use Rattle.links.specs.Lists.{Lists, deq}
-use Rattle.links.proofs.Reading.{head-is, tail-is, next-is}
+use Rattle.links.proofs.Laws.{head-is, tail-is, next-is}
 use Rattle.deque_sound.specs.State.{State, Shows, pastEnd}
 use Rattle.deque_plain.specs.Step.{backOf, cursorOf, elementOf, movedOn, cursorNode, withCursor, stepped}
 use Rattle.deque_work.specs.Step.{stepOff, released, movedBack}

@@ -4,7 +4,7 @@ use mathlib.Core.Path.{_≡_, sym, subst}
 use mathlib.Core.Logic.{⊎-elim}
 use Rattle.links.specs.Lists.{Lists}
 use Rattle.links.specs.Listed.{listed}
-use Rattle.links.proofs.Slots.{same?}
+use Rattle.numbers.proofs.Cases.{same?}
 use Rattle.deque_sound.specs.State.{State, Shows}
 use Rattle.deque_sound.specs.Sound.{Sound}
 use Rattle.deque_plain.specs.Step.{frontOf, backOf}

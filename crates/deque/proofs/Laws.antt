@@ -8,10 +8,9 @@ use lib.Seq.{getD-set-same}
 use borrow.Author.Tests.{eq-eqb, ne-eqb}
 use Rattle.links.specs.Chain.{none, In, first, rest, remove, upFrom}
 use Rattle.links.specs.Lists.{Lists, deq, withDeque, pushBack, takeOut, taken, freed, allFree}
-use Rattle.links.proofs.Slots.{same?, in-same, some-first, remove-first}
-use Rattle.links.proofs.Members.{in-home}
-use Rattle.links.proofs.Swap.{slot-real}
-use Rattle.links.proofs.Reading.{head-is}
+use Rattle.numbers.proofs.Cases.{same?}
+use Rattle.numbers.proofs.Members.{in-same, remove-first}
+use Rattle.links.proofs.Laws.{some-first, in-home, slot-real, head-is}
 use Rattle.deque_sound.specs.State.{State, deques, nodes, Lent, Shows, pastEnd}
 use Rattle.deque_sound.specs.Sound.{Sound}
 use Rattle.deque_plain.specs.Step.{nextOf, frontOf, elementOf, cursorNode}

@@ -7,7 +7,7 @@ use mathlib.Core.List.{List}
 use lib.ListN.{length, getD, set, length-set, replicate, length-replicate, getD-replicate}
 use lib.Seq.{getD-set-same, getD-set-other, ext-getD}
 use Rattle.links.specs.Chain.{none}
-use Rattle.links.proofs.Slots.{same?}
+use Rattle.numbers.proofs.Cases.{same?}
 use Rattle.deque_plain.specs.Work.{Clears}
 
 -- the places below d hold v

@@ -10,10 +10,9 @@ use borrow.Author.Tests.{eq-eqb, ne-eqb}
 use Rattle.links.specs.Chain.{none, In, Once, first, before, after, following, upFrom}
 use Rattle.links.specs.Lists.{Lists, deq, Rep, allFree}
 use Rattle.links.specs.Layout.{fresh}
-use Rattle.links.proofs.Slots.{same?, in-at, after-in, first-in, last-in, once-right, split}
-use Rattle.links.proofs.Swap.{deq-once}
-use Rattle.links.proofs.Laying.{fresh-rep}
-use Rattle.links.proofs.Reading.{head-is, tail-is, next-is}
+use Rattle.numbers.proofs.Cases.{same?}
+use Rattle.numbers.proofs.Members.{in-at, after-in, last-in, once-right, split}
+use Rattle.links.proofs.Laws.{first-in, deq-once, fresh-rep, head-is, tail-is, next-is}
 use Rattle.deque_sound.specs.State.{State, deques, nodes, Lent, Shows, Stands, pastEnd}
 use Rattle.deque_plain.specs.Step.{frontOf, backOf, cursorOf, movedOn, cursorNode, made, withCursor, stepped}
 

@@ -10,7 +10,7 @@ use lib.Dec.{eqb}
 use borrow.Author.Tests.{eq-eqb, ne-eqb}
 use Rattle.links.specs.Chain.{none, In}
 use Rattle.links.specs.Lists.{deq}
-use Rattle.links.proofs.Slots.{same?}
+use Rattle.numbers.proofs.Cases.{same?}
 use Rattle.deque_sound.specs.State.{State, state, pastEnd}
 use Rattle.deque_plain.specs.Step.{movedOn, cursorNode, withCursor}
 use Rattle.deque_plain.specs.Answer.{nothing, values, lookTold}

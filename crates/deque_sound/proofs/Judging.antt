@@ -12,9 +12,8 @@ use Rattle.links.specs.Chain.{none, In}
 use Rattle.links.specs.Lists.{Links, Lists, links, homeOf, deq, Rep}
 use Rattle.links.specs.Layout.{Sizes}
 use Rattle.links.specs.Sound.{Whole, Walked, WalkedFree, SizesFree}
-use Rattle.links.proofs.Slots.{same?}
-use Rattle.links.proofs.Members.{in-home}
-use Rattle.links.proofs.Judging.{Upto, begin, more, no-walk, no-walk-free, walk-counts, too-few, is-whole}
+use Rattle.numbers.proofs.Cases.{same?}
+use Rattle.links.proofs.Laws.{in-home, Upto, begin, more, no-walk, no-walk-free, walk-counts, too-few, is-whole}
 use Rattle.deque_sound.specs.State.{State, state, deques, nodes, LentDeques, LentNodes, Lent, Shows, Stands, pastEnd}
 use Rattle.deque_sound.specs.Sound.{Sound, DequesOk, NodesOk, IsLent, Judged, StandsBy, StandsOk}
 use Rattle.deque_sound.proofs.Sounding.{shows-sound, sound-shows, shows-whole}

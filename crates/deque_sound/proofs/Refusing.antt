@@ -13,7 +13,7 @@ use mir.Val.{Fits}
 use Rattle.links.specs.Chain.{none, In, first}
 use Rattle.links.specs.Lists.{Lists, homeOf}
 use Rattle.links.specs.Listed.{listed}
-use Rattle.links.proofs.Slots.{first-in}
+use Rattle.links.proofs.Laws.{first-in}
 use Rattle.deque_sound.specs.State.{State, state, deques, nodes, Lent, Shows}
 use Rattle.deque_sound.specs.Sound.{Sound, Judged}
 use Rattle.deque_sound.specs.Refuse.{unless, answered, dequeRows, pushRows, nodeRows, InDeque, RefusesDeque, RefusesPush, RefusesNode}

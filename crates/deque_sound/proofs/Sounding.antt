@@ -9,9 +9,9 @@ use Rattle.links.specs.Chain.{none, In, Chain, Path, first}
 use Rattle.links.specs.Lists.{Lists, homeOf, step, deq, Rep}
 use Rattle.links.specs.Listed.{listFrom, listEach, listed}
 use Rattle.links.specs.Sound.{Whole}
-use Rattle.links.proofs.Slots.{same?, in-same}
-use Rattle.links.proofs.Unique.{each-len, each-at, deq-is, free-is, listed-is}
-use Rattle.links.proofs.Members.{in-home, home-free}
+use Rattle.numbers.proofs.Cases.{same?}
+use Rattle.numbers.proofs.Members.{in-same}
+use Rattle.links.proofs.Laws.{each-len, each-at, deq-is, free-is, listed-is, in-home, home-free}
 use Rattle.deque_sound.specs.State.{State, deques, nodes, Lent, Shows, Stands}
 use Rattle.deque_sound.specs.Sound.{Sound, Linked, FreeChain, held, chain}
 

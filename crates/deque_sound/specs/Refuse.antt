@@ -4,7 +4,7 @@ use mathlib.Core.Path.{_≡_}
 use lib.ListN.{length}
 use Rattle.links.specs.Chain.{none}
 use Rattle.links.specs.Lists.{homeOf}
-pub use Rattle.links.specs.Rows.{unless, answered}
+pub use Rattle.numbers.specs.Rows.{unless, answered}
 use Rattle.deque_sound.specs.State.{State, deques, nodes, Lent}
 use Rattle.deque_sound.specs.Sound.{Sound}
 

@@ -10,12 +10,10 @@ use borrow.Author.Tests.{eq-eqb, ne-eqb}
 use Rattle.links.specs.Chain.{none, In, Once, lastOr, remove}
 use Rattle.links.specs.Lists.{Lists, homeOf, deq, Rep, withDeque, pushBack, takeOut, taken, freed}
 use Rattle.links.specs.Change.{linkBack, removed, moveBack}
-use Rattle.links.proofs.Slots.{same?, in-at, back-old, kept, length-remove}
-use Rattle.links.proofs.Swap.{deq-once}
-use Rattle.links.proofs.Pushing.{push-rep, remove-rep, move-rep}
-use Rattle.links.proofs.Reading.{tail-is}
-use Rattle.links.proofs.Members.{deq-at, deq-off, deq-same, in-home, push-in}
-use Rattle.links.proofs.Counting.{at-most}
+use Rattle.numbers.proofs.Cases.{same?}
+use Rattle.numbers.proofs.Members.{in-at, back-old, kept, length-remove}
+use Rattle.links.proofs.Laws.{deq-once, push-rep, remove-rep, move-rep, tail-is, deq-at, deq-off, deq-same, in-home, push-in}
+use Rattle.numbers.proofs.Counting.{at-most}
 use Rattle.deque_sound.specs.State.{State, Shows, Stands}
 use Rattle.deque_plain.specs.Step.{nextOf, backOf, lengthOf, cursorOf, movedOn}
 use Rattle.deque_plain.proofs.Keeping.{lent-kept, in-cursors, on-stands}

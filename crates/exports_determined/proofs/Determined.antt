@@ -5,7 +5,7 @@ use mathlib.Core.Bool.{Bool}
 use mathlib.Core.List.{List}
 use lib.ListN.{getD}
 use Rattle.rules.specs.Wheel.{Call, Answer}
-use Rattle.links.proofs.Rows.{Single}
+use Rattle.numbers.proofs.Rows.{Single}
 use Rattle.records.specs.declared.Clock.{Clock}
 use Rattle.records.specs.Records.{Records}
 use Rattle.wheel.specs.Calls.{Meets}

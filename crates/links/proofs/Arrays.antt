@@ -12,7 +12,7 @@ use borrow.Author.Tests.{eq-eqb, ne-eqb}
 use Rattle.links.specs.Chain.{none}
 use Rattle.links.specs.Lists.{step}
 use Rattle.links.specs.Change.{endAt}
-use Rattle.links.proofs.Slots.{same?}
+use Rattle.numbers.proofs.Cases.{same?}
 
 pub length-endAt : (h : List ℕ) (d p q : ℕ) → length (endAt h d p q) ≡ length h
 length-endAt h d p q =

@@ -9,7 +9,8 @@ use lib.ListN.{length}
 use lib.Dec.{eqb}
 use borrow.Author.Tests.{eq-eqb, ne-eqb}
 use Rattle.links.specs.Chain.{none, In, Once, Chain, first, lastOr, Path, remove, before, after, turned}
-use Rattle.links.proofs.Slots.{same?, in-at}
+use Rattle.numbers.proofs.Cases.{same?}
+use Rattle.numbers.proofs.Members.{in-at}
 
 -- no member is z
 abbrev pub Real : ℕ → List ℕ → Type 0

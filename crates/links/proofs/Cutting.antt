@@ -9,7 +9,8 @@ use lib.Seq.{getD-set-same, getD-set-other}
 use Rattle.links.specs.Chain.{none, In, Once, Chain, remove}
 use Rattle.links.specs.Lists.{Links, Lists, links, step, homeOf, deq, Rep, takeOut}
 use Rattle.links.specs.Change.{endAt, CanPut, cutOut, Held, CutsOut}
-use Rattle.links.proofs.Slots.{same?, in-at, removed, kept, gone}
+use Rattle.numbers.proofs.Cases.{same?}
+use Rattle.numbers.proofs.Members.{in-at, removed, kept, gone}
 use Rattle.links.proofs.Chains.{prev-in, next-in, cut}
 use Rattle.links.proofs.Arrays.{length-endAt, endAt-other, step-slot, put-at, put-other}
 use Rattle.links.proofs.Swap.{Local, Suits, swapped, slot-real, deq-once}

@@ -10,7 +10,8 @@ use borrow.Author.Tests.{ne-eqb}
 use Rattle.links.specs.Chain.{none, In, Once, Chain, Path, first, rest}
 use Rattle.links.specs.Lists.{Links, Lists, links, homeOf, deq, step, Rep, taken, freed, withFree}
 use Rattle.links.specs.Free.{Takes, GivesBack}
-use Rattle.links.proofs.Slots.{in-at, in-same, some-first}
+use Rattle.numbers.proofs.Members.{in-at, in-same}
+use Rattle.links.proofs.Slots.{some-first}
 use Rattle.links.proofs.Chains.{agree, path-agree, path-once}
 use Rattle.links.proofs.Swap.{free-real}
 

@@ -11,9 +11,10 @@ use Rattle.links.specs.Chain.{none, In, Once, Chain, Path, first}
 use Rattle.links.specs.Lists.{Links, Lists, step, homeOf, deq, Rep}
 use Rattle.links.specs.Layout.{Sizes}
 use Rattle.links.specs.Sound.{Whole, Verdict, Runs, Spares, Walked, WalkedFree}
-use Rattle.links.proofs.Slots.{same?, in-same, in-app, app-left, app-right, once-app}
+use Rattle.numbers.proofs.Cases.{same?}
+use Rattle.numbers.proofs.Members.{in-same, in-app, app-left, app-right, once-app}
 use Rattle.links.proofs.Chains.{chain-once, chain-way, alike, path-once, path-alike}
-use Rattle.links.proofs.Counting.{flat, flat-at, at-flat, flat-back, once-flat, at-most, at-least, all-there}
+use Rattle.numbers.proofs.Counting.{flat, flat-at, at-flat, flat-back, once-flat, at-most, at-least, all-there}
 
 -- the deques below d have been walked: these are their lists, with total slots
 pub record Upto (a : Links) (d total : ℕ) : Type 0 where

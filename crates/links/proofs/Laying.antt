@@ -9,8 +9,9 @@ use lib.Seq.{getD-set-same, getD-set-other, ext-getD}
 use Rattle.links.specs.Chain.{none, In, Chain, Path, first, upFrom}
 use Rattle.links.specs.Lists.{Links, links, Rep, homeOf, deq, allFree}
 use Rattle.links.specs.Layout.{nexts, fresh, Sizes, Empties, Strings, LaysOut}
-use Rattle.links.proofs.Slots.{same?, in-same}
-use Rattle.links.proofs.Counting.{up-range, range-up, length-up}
+use Rattle.numbers.proofs.Cases.{same?}
+use Rattle.numbers.proofs.Members.{in-same}
+use Rattle.numbers.proofs.Counting.{up-range, range-up, length-up}
 
 -- ---- empty: the deques below d have been emptied
 pub record Emptied (h₀ t₀ h t : List ℕ) (d : ℕ) : Type 0 where

@@ -9,10 +9,9 @@ pub mod Turning
 pub mod Freeing
 pub mod Pushing
 pub mod Reading
-pub mod Counting
 pub mod Laying
 pub mod Judging
 pub mod Unique
 pub mod Members
 pub mod TurnRule
-pub mod Rows
+pub mod Laws

@@ -12,7 +12,8 @@ use borrow.Author.Tests.{eq-eqb, ne-eqb}
 use Rattle.links.specs.Chain.{none, In, Once, Chain}
 use Rattle.links.specs.Lists.{Links, Lists, links, step, homeOf, deq, Rep, pushBack}
 use Rattle.links.specs.Change.{endAt, CanPut, linkBack, Linkable, LinksBack}
-use Rattle.links.proofs.Slots.{same?, in-at, in-back, back-old, back-new}
+use Rattle.numbers.proofs.Cases.{same?}
+use Rattle.numbers.proofs.Members.{in-at, in-back, back-old, back-new}
 use Rattle.links.proofs.Chains.{chain-end, snoc}
 use Rattle.links.proofs.Arrays.{length-endAt, endAt-other, step-slot, put-at, put-other}
 use Rattle.links.proofs.Swap.{Local, Suits, swapped, slot-real}

@@ -8,9 +8,11 @@ use lib.ListN.{length, getD, set, length-set, length-append}
 use lib.Seq.{getD-set-same, getD-set-other, set-set, set-getD}
 use Rattle.links.specs.Chain.{none, In, Once, first, last, rest, remove, turned}
 use Rattle.links.specs.Lists.{Links, Lists, Rep, homeOf, deq, withDeque, pushBack, takeOut, turn, taken, freed}
-use Rattle.links.proofs.Slots.{same?, in-at, in-same, in-app, app-left, app-right, in-back, back-old, back-new, removed, kept, gone, length-remove, in-turned, turned-in, once-app}
+use Rattle.numbers.proofs.Cases.{same?}
+use Rattle.numbers.proofs.Members.{in-at, in-same, in-app, app-left, app-right, in-back, back-old, back-new, removed, kept, gone, length-remove, once-app}
+use Rattle.links.proofs.Slots.{in-turned, turned-in}
 use Rattle.links.proofs.Chains.{path-once}
-use Rattle.links.proofs.Counting.{flat, flat-at, at-flat, once-flat, at-most, at-least}
+use Rattle.numbers.proofs.Counting.{flat, flat-at, at-flat, once-flat, at-most, at-least}
 use Rattle.links.proofs.Swap.{slot-real, free-real, deq-once}
 
 -- ---- one deque replaced

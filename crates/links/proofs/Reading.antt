@@ -6,7 +6,7 @@ use lib.ListN.{getD}
 use Rattle.links.specs.Chain.{none, In, Chain, first, last, after, before, following}
 use Rattle.links.specs.Lists.{Links, Lists, links, step, deq, Rep}
 use Rattle.links.specs.Read.{Front, Follows}
-use Rattle.links.proofs.Slots.{split}
+use Rattle.numbers.proofs.Members.{split}
 use Rattle.links.proofs.Chains.{chain-last, parts}
 use Rattle.links.proofs.Arrays.{step-slot}
 use Rattle.links.proofs.Swap.{slot-real}

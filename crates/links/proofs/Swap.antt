@@ -11,7 +11,8 @@ use lib.Dec.{eqb}
 use borrow.Author.Tests.{eq-eqb, ne-eqb}
 use Rattle.links.specs.Chain.{none, In, Once, Chain, Path}
 use Rattle.links.specs.Lists.{Links, Lists, links, step, homeOf, deq, Rep, withDeque}
-use Rattle.links.proofs.Slots.{same?, in-at, in-same}
+use Rattle.numbers.proofs.Cases.{same?}
+use Rattle.numbers.proofs.Members.{in-at, in-same}
 use Rattle.links.proofs.Chains.{agree, path-agree, chain-once}
 
 -- the records b differ from a in the ends of the deque d, in the links of its slots and of s, and in the home of s at most

@@ -13,7 +13,8 @@ use Rattle.links.specs.Chain.{none, In, Once, Chain, first, last, lastOr
 use Rattle.links.specs.Lists.{Links, Lists, links, step, homeOf, deq, Rep, withDeque, pushBack, takeOut, turn}
 use Rattle.links.specs.Change.{linkBack, cutOut, turnNow, turnTo}
 use Rattle.links.specs.Turn.{frontToBack, untilLast}
-use Rattle.links.proofs.Slots.{same?, in-at, in-same, app-right, once-left, once-right, last-back, last-in, split-at, split, remove-first}
+use Rattle.numbers.proofs.Cases.{same?}
+use Rattle.numbers.proofs.Members.{in-at, in-same, app-right, once-left, once-right, last-back, last-in, split-at, split, remove-first}
 use Rattle.links.proofs.Chains.{agreed, chain-start}
 use Rattle.links.proofs.Arrays.{step-slot}
 use Rattle.links.proofs.Swap.{Local, slot-real, deq-once}

@@ -15,7 +15,9 @@ use mir.Val.{Fits}
 use Rattle.links.specs.Chain.{none, In, Once, Chain, first, rest, before, after, turned}
 use Rattle.links.specs.Lists.{Links, Lists, links, step, homeOf, deq, Rep, withDeque, turn}
 use Rattle.links.specs.Change.{turnNow, turnTo, HeldBy, Turns}
-use Rattle.links.proofs.Slots.{same?, in-at, in-same, in-app, app-left, app-right, once-left, once-right, split, in-turned, turned-in, some-first}
+use Rattle.numbers.proofs.Cases.{same?}
+use Rattle.numbers.proofs.Members.{in-at, in-same, in-app, app-left, app-right, once-left, once-right, split}
+use Rattle.links.proofs.Slots.{in-turned, turned-in, some-first}
 use Rattle.links.proofs.Chains.{Real, chain-once, chain-start, chain-end, next-in, prev-in, undo-start, undo-end, parts, joined, agree, bend}
 use Rattle.links.proofs.Arrays.{step-slot}
 use Rattle.links.proofs.Swap.{Local, Suits, swapped, slot-real, deq-once}

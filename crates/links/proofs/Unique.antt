@@ -13,7 +13,7 @@ use Rattle.links.specs.Listed.{listFrom, listEach, listed}
 use Rattle.links.specs.Sound.{Whole}
 use Rattle.links.proofs.Chains.{Real, chain-once, path-once}
 use Rattle.links.proofs.Arrays.{step-slot}
-use Rattle.links.proofs.Counting.{at-most}
+use Rattle.numbers.proofs.Counting.{at-most}
 use Rattle.links.proofs.Swap.{slot-real, free-real, deq-once}
 use Rattle.links.proofs.Reading.{head-is}
 

@@ -1,4 +1,4 @@
--- What the contracts of links, links_change and links_sound cite, and what the layers above may cite of them.
+-- What the contracts of linked deques and free slots cite, and what the layers above may cite of them.
 pub mod Chain
 pub mod Lists
 pub mod Change
@@ -8,4 +8,3 @@ pub mod Layout
 pub mod Sound
 pub mod Turn
 pub mod Listed
-pub mod Rows

@@ -12,7 +12,8 @@ use mir.Val.{Fits}
 use Rattle.links.specs.Chain.{none, In, first, last, before, after}
 use Rattle.links.specs.Lists.{Links, Lists, links, Rep, homeOf, deq, takeOut}
 use Rattle.links.specs.Change.{endAt, linkBack, cutOut, moveBack, CanPut, Held, Movable, Linkable, Ahead, CutsOut, LinksBack, MovesBack}
-use Rattle.links.proofs.Slots.{split, after-in, none-first, last-back}
+use Rattle.numbers.proofs.Members.{split, after-in, last-back}
+use Rattle.links.proofs.Slots.{none-first}
 use Rattle.links.proofs.Swap.{slot-real}
 use Rattle.links.proofs.Reading.{tail-is}
 use Rattle.links.proofs.Cutting.{cut-rep, cut-asks}

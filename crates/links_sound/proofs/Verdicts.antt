@@ -12,7 +12,7 @@ use Rattle.links.specs.Chain.{none}
 use Rattle.links.specs.Lists.{Links, links}
 use Rattle.links.specs.Layout.{Sizes}
 use Rattle.links.specs.Sound.{Whole, Verdict, Sized, Walked, WalkedFree}
-use Rattle.links.proofs.Slots.{same?}
+use Rattle.numbers.proofs.Cases.{same?}
 use Rattle.links.proofs.Judging.{Upto, begin, whole-sizes, no-walk, no-walk-free, too-few, is-whole}
 
 module _ (a : Links) where

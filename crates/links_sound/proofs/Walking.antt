@@ -11,7 +11,7 @@ use Rattle.links.specs.Layout.{Sizes}
 use Rattle.links.specs.Sound.{Runs, Walked}
 use Rattle.links.proofs.Chains.{chain-once}
 use Rattle.links.proofs.Arrays.{step-slot}
-use Rattle.links.proofs.Counting.{at-most}
+use Rattle.numbers.proofs.Counting.{at-most}
 
 -- b is the slot passed last, x the one after it, and k have been passed: the lists that the records link from the start on are those from b on, k longer
 pub record Going (a : Links) (d b x k : ℕ) : Type 0 where

@@ -8,7 +8,7 @@ use lib.ListN.{length, getD}
 use Rattle.links.specs.Chain.{none, In, Once, Path, first}
 use Rattle.links.specs.Sound.{Spares, WalkedFree, SizesFree}
 use Rattle.links.proofs.Chains.{path-once}
-use Rattle.links.proofs.Counting.{at-most}
+use Rattle.numbers.proofs.Counting.{at-most}
 
 -- x is the slot to be passed next, and k have been passed
 pub record GoingFree (next home : List ℕ) (free x k : ℕ) : Type 0 where

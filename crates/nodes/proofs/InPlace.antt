@@ -11,7 +11,7 @@ use borrow.Author.Tests.{lt-ltb, le-ltb}
 use lib.Seq.{getD-set-same, getD-set-other, ext-getD}
 use Rattle.links.specs.Chain.{none}
 use Rattle.rules.specs.Geometry.{wheel01, buckets}
-use Rattle.rules.proofs.Cases.{same?, not-both}
+use Rattle.numbers.proofs.Cases.{same?, not-both}
 use Rattle.records.specs.Records.{Nodes}
 use Rattle.records_layout.specs.Layout.{bareLinks, bareNodes}
 use Rattle.records_layout.proofs.Bare.{bare-next-len, bare-next-at, bare-prev-len, bare-prev-at, bare-home-len, bare-home-at}

@@ -1,3 +1,5 @@
--- What the contracts of `numbers` cite, and the form that refusals and answers of the sketch have. Assumes nothing.
+-- What the contracts of `numbers` cite, the form that refusals and answers have, and lists of numbers.
 pub mod Powers
 pub mod Answers
+pub mod Rows
+pub mod Lists

@@ -9,7 +9,7 @@ use lib.ListN.{length, getD, set}
 use lib.Seq.{getD-set-same, getD-set-other}
 use lib.Dec.{leb, ltb}
 use borrow.Author.Tests.{lt-ltb, le-ltb, le-leb}
-use Rattle.rules.proofs.Cases.{below?, same?}
+use Rattle.numbers.proofs.Cases.{below?, same?}
 use Rattle.records.specs.Counts.{armedAmong}
 
 -- what the slot k adds

@@ -16,7 +16,7 @@ use Rattle.rules.specs.Wheel.{Entry, Advance, within, Wheel, Answer, expired, r
 use Rattle.rules.specs.Pull.{Pulled, pulled}
 use Rattle.rules.specs.Calls.{withLists, withClock, rearmed, act}
 use Rattle.rules.specs.Sound.{Sound}
-use Rattle.rules.proofs.Cases.{not-both}
+use Rattle.numbers.proofs.Cases.{not-both}
 use Rattle.place.specs.declared.Place.{Place}
 use Rattle.place.specs.Promises.{Found}
 use Rattle.records.specs.declared.Clock.{Clock}

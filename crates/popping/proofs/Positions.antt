@@ -12,7 +12,7 @@ use lib.Pow.{pow-pos}
 use borrow.Author.Tests.{lt-ltb, le-ltb}
 use Rattle.rules.specs.Geometry.{Geometry, wheel01, tick, shiftOf, sizeOf, dense, firstOf, total, buckets}
 use Rattle.rules.specs.Visits.{visited, visitedAt, bucketAt, ahead}
-use Rattle.rules.proofs.Cases.{below?, not-both}
+use Rattle.numbers.proofs.Cases.{below?, not-both}
 use Rattle.rules.proofs.Positions.{ahead-more, ahead-over, ahead-end, ahead-still}
 use Rattle.place.specs.Levels.{size01}
 use Rattle.popping.specs.declared.position.Position.{Position}

@@ -15,7 +15,7 @@ use Rattle.rules.specs.Wheel.{Entry, Advance, poised, within, closed, Wheel, An
 use Rattle.rules.specs.Pull.{Found, dealt, emptied, Pulled, stopped, swept, pulled}
 use Rattle.rules.specs.Calls.{withLists, withClock}
 use Rattle.rules.specs.Sound.{SoundLists, Sound}
-use Rattle.rules.proofs.Cases.{same?}
+use Rattle.numbers.proofs.Cases.{same?}
 use Rattle.rules.proofs.Counting.{hit-is, hit-most, hit-same}
 use Rattle.rules.proofs.Standing.{At, nowhere, unlink-own, unlink-release, early-pop}
 use Rattle.rules.proofs.SoundLists.{at-of, sound-freed}

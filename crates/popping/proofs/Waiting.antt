@@ -9,14 +9,14 @@ use lib.ListN.{length, getD}
 use borrow.Author.Tests.{eq-eqb, ne-eqb}
 use Rattle.links.specs.Chain.{first}
 use Rattle.links.specs.Chain.{none as nowhere}
-use Rattle.links.proofs.Reading.{head-is}
+use Rattle.links.proofs.Laws.{head-is}
 use Rattle.rules.specs.Geometry.{Geometry, wheel01, buckets}
 use Rattle.rules.specs.Visits.{visits, bucketAt, ahead}
 use Rattle.rules.specs.Lists.{whole, count, times}
 use Rattle.rules.specs.Wheel.{Advance, closed, poised, within, Wheel}
 use Rattle.rules.specs.Pull.{swept, pulled}
 use Rattle.rules.specs.Sound.{Sound}
-use Rattle.rules.proofs.Cases.{below?, same?, not-both}
+use Rattle.numbers.proofs.Cases.{below?, same?, not-both}
 use Rattle.rules.proofs.Counting.{hit-is}
 use Rattle.rules.proofs.Positions.{ahead-start}
 use Rattle.records.specs.declared.Clock.{Clock}

@@ -15,7 +15,7 @@ use Rattle.rules.specs.Lists.{Node}
 use Rattle.rules.specs.Wheel.{Wheel, Entry, armedCount, nextDue, number, due}
 use Rattle.rules.specs.Calls.{armedBelow, sooner, keyOf, leastKey, act}
 use Rattle.rules.specs.Sound.{Sound}
-use Rattle.rules.proofs.Cases.{below?, not-both}
+use Rattle.numbers.proofs.Cases.{below?, not-both}
 use Rattle.records.specs.declared.Clock.{Clock}
 use Rattle.records.specs.declared.counts.Due.{Due}
 use Rattle.records.specs.declared.counts.Due.the-variants.{At, Nothing}

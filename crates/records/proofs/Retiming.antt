@@ -7,7 +7,7 @@ use Rattle.rules.specs.Geometry.{Geometry, wheel01, buckets}
 use Rattle.rules.specs.Visits.{visits}
 use Rattle.rules.specs.Wheel.{Advance, closed, poised, within, Wheel, start, abandon}
 use Rattle.rules.specs.Calls.{withClock, origin, act}
-use Rattle.rules.proofs.Cases.{not-both}
+use Rattle.numbers.proofs.Cases.{not-both}
 use Rattle.records.specs.declared.Clock.{Clock}
 use Rattle.records.specs.Records.{Nodes, Entries, Records, records}
 use Rattle.records.specs.Shows.{ShowsAdvance, Shows}

@@ -13,7 +13,7 @@ use Rattle.rules.specs.Geometry.{Geometry}
 use Rattle.rules.specs.Lists.{update}
 use Rattle.rules.specs.Wheel.{Wheel, Entry, setEntry}
 use Rattle.rules.specs.Calls.{act}
-use Rattle.rules.proofs.Cases.{same?}
+use Rattle.numbers.proofs.Cases.{same?}
 use Rattle.records.specs.declared.Clock.{Clock}
 use Rattle.records.specs.Records.{Nodes, Entries, entries, records}
 use Rattle.records.specs.Shows.{entryAt, Shows}

@@ -13,10 +13,10 @@ use Rattle.links.specs.Chain.{In, rest, remove, before, after}
 use Rattle.links.specs.Chain.{none as nowhere, turned as turnedList}
 use Rattle.links.specs.Lists.{Links, homeOf, deq, Rep, withDeque, pushBack, takeOut, turn, taken as takenFree, freed as freedSlot}
 use Rattle.links.specs.Lists.{Lists as Held}
-use Rattle.links.proofs.Slots.{split-at}
+use Rattle.numbers.proofs.Members.{split-at}
 use Rattle.rules.specs.Lists.{Bucket, Node, Lists, whole, newNode, placedIn, freed, update, without, hit, count, times, pushed, link, taken, unlink, release, claim, turned, enter}
 use Rattle.rules.specs.Sound.{SoundLists}
-use Rattle.rules.proofs.Cases.{same?, below?, not-both}
+use Rattle.numbers.proofs.Cases.{same?, below?, not-both}
 use Rattle.rules.proofs.Counting.{hit-is, hit-not, hit-most, update-is, update-not}
 use Rattle.records.specs.Records.{Nodes, join}
 use Rattle.records.specs.Shows.{nodeAt}

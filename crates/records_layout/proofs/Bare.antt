@@ -17,14 +17,12 @@ use Rattle.links.specs.Chain.{none, Path, first, upFrom}
 use Rattle.links.specs.Lists.{Links, Rep, allFree}
 use Rattle.links.specs.Change.{endAt}
 use Rattle.links.specs.Layout.{fresh}
-use Rattle.links.proofs.Arrays.{length-endAt}
-use Rattle.links.proofs.Counting.{length-up}
-use Rattle.links.proofs.Laying.{fresh-rep}
-use Rattle.links.proofs.Pushing.{push-rep}
+use Rattle.links.proofs.Laws.{length-endAt, fresh-rep, push-rep}
+use Rattle.numbers.proofs.Counting.{length-up}
 use Rattle.rules.specs.Geometry.{wheel01, buckets}
 use Rattle.rules.specs.Wheel.{enable}
 use Rattle.rules.specs.Calls.{act}
-use Rattle.rules.proofs.Cases.{below?, same?}
+use Rattle.numbers.proofs.Cases.{below?, same?}
 use Rattle.records.specs.declared.Clock.{Clock}
 use Rattle.records.specs.Records.{Nodes, Entries, records}
 use Rattle.records.specs.Shows.{Shows}

@@ -7,7 +7,7 @@ use mathlib.Core.Bool.{Bool, true, false}
 use mathlib.Core.List.{List, []}
 use lib.ListN.{length, getD, set, length-set, replicate, length-replicate, getD-replicate}
 use lib.Seq.{getD-set-same, getD-set-other, ext-getD}
-use Rattle.rules.proofs.Cases.{same?}
+use Rattle.numbers.proofs.Cases.{same?}
 use Rattle.records_layout.specs.Layout.{Clears, ClearsEntries}
 
 -- of the list l₀ the first x places hold v

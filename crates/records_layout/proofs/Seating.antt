@@ -21,7 +21,7 @@ use Rattle.rules.specs.Geometry.{Geometry, wheel01, buckets}
 use Rattle.rules.specs.Lists.{upwards, bare, whole}
 use Rattle.rules.specs.Wheel.{Wheel, Entry, enable}
 use Rattle.rules.specs.Calls.{act}
-use Rattle.rules.proofs.Cases.{same?, not-both}
+use Rattle.numbers.proofs.Cases.{same?, not-both}
 use Rattle.records.specs.declared.Clock.{Clock}
 use Rattle.records.specs.Records.{Nodes, nodes, Entries, entries, records, join}
 use Rattle.records.specs.Shows.{nodeAt, entryAt, Shows}

@@ -15,7 +15,7 @@ use Rattle.rules.specs.Pull.{Found, emptied, Pulled, stopped, swept, pul
 use Rattle.rules.specs.Calls.{withClock, armed, rearmed, origin, act, judged, step}
 use Rattle.rules.specs.Runs.{Run, answer, next, after}
 use Rattle.rules.specs.Demand3.{StaysOpen, Advancing}
-use Rattle.rules.proofs.Cases.{not-both}
+use Rattle.numbers.proofs.Cases.{not-both}
 use Rattle.rules.proofs.Passing.{rest, pass, ready, running}
 
 -- ---- a pull answers End and closes the advance, or stays within a bucket of it

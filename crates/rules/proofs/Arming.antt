@@ -15,7 +15,7 @@ use Rattle.rules.specs.Calls.{armed, rearmed, act, judged, step}
 use Rattle.rules.specs.Sound.{SoundLists, Sound, SoundIfEnabled}
 use Rattle.rules.specs.Runs.{Run, next}
 use Rattle.rules.specs.Demand3.{Arms, Timely}
-use Rattle.rules.proofs.Cases.{not-both}
+use Rattle.numbers.proofs.Cases.{not-both}
 use Rattle.rules.proofs.Counting.{update-is}
 use Rattle.rules.proofs.Effective.{effective-placed}
 use Rattle.rules.proofs.Standing.{unlink-link, claim-link, bearers-else, unlink-own, link-own}

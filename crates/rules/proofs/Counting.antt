@@ -8,7 +8,7 @@ use mathlib.Core.List.{List, [], _∷_, _++_}
 use lib.Dec.{eqb}
 use borrow.Author.Tests.{eq-eqb, ne-eqb}
 use Rattle.rules.specs.Lists.{Bucket, update, without, hit, count, times, upwards}
-use Rattle.rules.proofs.Cases.{same?}
+use Rattle.numbers.proofs.Cases.{same?}
 
 pub hit-is : (b c : ℕ) → b ≡ c → hit b c ≡ 1
 hit-is b c e = simp (eq-eqb b c e)

@@ -15,7 +15,7 @@ use Rattle.rules.specs.Wheel.{Wheel, Call, armedCount, nextDue, Answer, 
 use Rattle.rules.specs.Refusals.{refusal}
 use Rattle.rules.specs.Calls.{armedBelow, sooner, keyOf, leastKey, step}
 use Rattle.rules.specs.Sound.{spare, SoundLists, Sound}
-use Rattle.rules.proofs.Cases.{below?, same?, not-both}
+use Rattle.numbers.proofs.Cases.{below?, same?, not-both}
 use Rattle.rules.proofs.Counting.{hit-is, hit-not}
 use Rattle.rules.proofs.SoundLists.{spare-some}
 

@@ -12,7 +12,7 @@ use Rattle.rules.specs.Refusals.{isOpen, refusal}
 use Rattle.rules.specs.Calls.{origin, step}
 use Rattle.rules.specs.Runs.{Run, answer, next, answers, after}
 use Rattle.rules.specs.Demand3.{Arms, Timely, Changes, Unchanged, handsOut, handed, NotYet, InOneBucket, Later, StaysOpen, Advancing, ReadToItsEnd, Abandoned, Full, Among, NoneBefore, AbandonedOneHad, Demand3}
-use Rattle.rules.proofs.Cases.{below?, not-both}
+use Rattle.numbers.proofs.Cases.{below?, not-both}
 use Rattle.rules.proofs.Counting.{hit-is}
 use Rattle.rules.proofs.Effective.{effective-deadline}
 use Rattle.rules.proofs.Timers.{stage-in, Ends, Waiting, Past}

@@ -16,7 +16,7 @@ use Rattle.rules.specs.Wheel.{Wheel, Call, schedule, reschedule, Answer,
 use Rattle.rules.specs.Refusals.{rows, refusal}
 use Rattle.rules.specs.Calls.{armed, rearmed, act, judged, step}
 use Rattle.rules.specs.Order.{frontToBack, isLast, turnUntilLast}
-use Rattle.rules.proofs.Cases.{same?}
+use Rattle.numbers.proofs.Cases.{same?}
 use Rattle.rules.proofs.Counting.{hit-is, count-app, update-is, update-not}
 
 -- ---- "at the back"

@@ -10,7 +10,7 @@ use Rattle.rules.specs.Geometry.{Geometry}
 use Rattle.rules.specs.Lists.{Node, Lists}
 use Rattle.rules.specs.Wheel.{Advance, closed, poised, within, Wheel, Call, schedule, reschedule, deschedule}
 use Rattle.rules.specs.Refusals.{Row, pick, isOpen, isStale, rows, refusal}
-use Rattle.rules.proofs.Cases.{not-both}
+use Rattle.numbers.proofs.Cases.{not-both}
 
 abbrev pub rest : List Row → List Row
 rest [] = []

@@ -13,7 +13,7 @@ use Rattle.rules.specs.Refusals.{isOpen, isStale, rows, refusal}
 use Rattle.rules.specs.Calls.{armed, rearmed, act, judged, step}
 use Rattle.rules.specs.Runs.{Run, next}
 use Rattle.rules.specs.Demand3.{Changes, handsOut}
-use Rattle.rules.proofs.Cases.{not-both}
+use Rattle.numbers.proofs.Cases.{not-both}
 use Rattle.rules.proofs.Standing.{Gone, bearers-else, unlink-release, unlink-link, claim-link, serial-freed, serial-linked}
 use Rattle.rules.proofs.Timers.{Past}
 use Rattle.rules.proofs.Gone.{pulled-gone}

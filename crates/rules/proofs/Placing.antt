@@ -13,7 +13,7 @@ use borrow.Author.Tests.{lt-ltb, le-ltb, ltb-true, ltb-false}
 use Rattle.rules.specs.Geometry.{Geometry, tick, total, buckets, shiftOf, sizeOf, dense, firstOf}
 use Rattle.rules.specs.Place.{placeFrom, bucketOf}
 use Rattle.rules.specs.Visits.{moves, visited, ring, visitsAt, visitsFrom, visits}
-use Rattle.rules.proofs.Cases.{below?}
+use Rattle.numbers.proofs.Cases.{below?}
 use Rattle.rules.proofs.Ticks.{tick-mono, tick-up-mono, tick-later, tick-near}
 
 -- ---- "The lowest fitting level is used"

@@ -13,7 +13,7 @@ use lib.Pow.{pow-pos}
 use borrow.Author.Tests.{lt-ltb, le-ltb}
 use Rattle.rules.specs.Geometry.{Geometry, tick, shiftOf, sizeOf, dense, firstOf}
 use Rattle.rules.specs.Visits.{moves, visited, ring, visitsAt, visitsFrom, visits, visitedAt, bucketAt, aheadFrom, ahead}
-use Rattle.rules.proofs.Cases.{below?}
+use Rattle.numbers.proofs.Cases.{below?}
 use Rattle.rules.proofs.Ticks.{tick-up-mono}
 use Rattle.rules.proofs.Placing.{visits-none, visited-covers}
 

@@ -15,7 +15,7 @@ use Rattle.rules.specs.Wheel.{Entry, Advance, closed, poised, within, pu
 use Rattle.rules.specs.Pull.{Found, dealt, emptied, Pulled, stopped, swept, pulled}
 use Rattle.rules.specs.Runs.{placing, noted}
 use Rattle.rules.specs.Demand3.{Later, handsOut}
-use Rattle.rules.proofs.Cases.{below?, same?}
+use Rattle.numbers.proofs.Cases.{below?, same?}
 use Rattle.rules.proofs.Counting.{hit-is, hit-not, update-is, update-not}
 use Rattle.rules.proofs.Ticks.{tick-mono}
 use Rattle.rules.proofs.Placing.{Mem, in-time-back}

@@ -19,7 +19,7 @@ use Rattle.rules.specs.Pull.{Found, dealt, emptied, Pulled, stopped, swe
 use Rattle.rules.specs.Calls.{armed, rearmed, act, judged, step}
 use Rattle.rules.specs.Sound.{SoundLists, SoundAdvance, Sound, SoundIfEnabled}
 use Rattle.rules.specs.Runs.{Run, next, after}
-use Rattle.rules.proofs.Cases.{below?, not-both}
+use Rattle.numbers.proofs.Cases.{below?, not-both}
 use Rattle.rules.proofs.Counting.{hit-is}
 use Rattle.rules.proofs.Placing.{bucketOf-in}
 use Rattle.rules.proofs.Positions.{NextAt, ahead-start, ahead-next}

@@ -9,7 +9,7 @@ use lib.Dec.{ltb}
 use borrow.Author.Tests.{eq-eqb, lt-ltb, le-ltb}
 use Rattle.rules.specs.Lists.{Node, Lists, update, hit, count, times, link, unlink, release, claim, enter, pop, upwards, bare}
 use Rattle.rules.specs.Sound.{spare, SoundLists}
-use Rattle.rules.proofs.Cases.{below?, same?, not-both}
+use Rattle.numbers.proofs.Cases.{below?, same?, not-both}
 use Rattle.rules.proofs.Counting.{hit-is, hit-most, count-upwards, count-upwards-below, count-upwards-above}
 use Rattle.rules.proofs.Standing.{Same, Elsewhere, enter-same, At, nowhere, link-own}
 

@@ -8,7 +8,7 @@ use mathlib.Core.Bool.{Bool, true, false, cond}
 use mathlib.Core.List.{List, [], _∷_, _++_}
 use borrow.Author.Tests.{eq-eqb, ne-eqb}
 use Rattle.rules.specs.Lists.{Bucket, Node, Lists, freed, update, hit, count, times, pushed, link, taken, unlink, release, claim, turned, enter, shortened, pop}
-use Rattle.rules.proofs.Cases.{same?, not-both}
+use Rattle.numbers.proofs.Cases.{same?, not-both}
 use Rattle.rules.proofs.Counting.{hit-is, hit-not, hit-most, hit-same, count-app, count-without, count-without-own, update-is, update-not, times-more, times-same}
 
 -- ---- what does not change

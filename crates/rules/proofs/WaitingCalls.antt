@@ -18,7 +18,7 @@ use Rattle.rules.specs.Pull.{Pulled, pulled}
 use Rattle.rules.specs.Calls.{withLists, withNext, withClock, withEntry, armed, rearmed, origin, act, judged, step}
 use Rattle.rules.specs.Runs.{Run, placing, noted, answer, next}
 use Rattle.rules.specs.Demand3.{Changes, Later, handsOut}
-use Rattle.rules.proofs.Cases.{below?, same?, not-both}
+use Rattle.numbers.proofs.Cases.{below?, same?, not-both}
 use Rattle.rules.proofs.Counting.{hit-is, update-not}
 use Rattle.rules.proofs.Placing.{Mem, in-time-back, in-time-on, in-time-after, in-time-weak, visits-none}
 use Rattle.rules.proofs.Standing.{unlink-release, unlink-link, claim-link, serial-freed, serial-linked}

@@ -12,7 +12,7 @@ use Rattle.links.specs.Chain.{none as nowhere}
 use Rattle.links.specs.Lists.{Links, deq}
 use Rattle.links.specs.Lists.{turn as turnLists}
 use Rattle.links.specs.Change.{turnTo, turnNow, HeldBy, Turns}
-use Rattle.links.proofs.Slots.{app-right, in-same}
+use Rattle.numbers.proofs.Members.{app-right, in-same}
 use Rattle.rules.specs.Geometry.{wheel01, buckets}
 use Rattle.rules.specs.Visits.{visitedAt, bucketAt, ahead}
 use Rattle.rules.specs.Lists.{enter}
@@ -20,7 +20,7 @@ use Rattle.rules.specs.Wheel.{closed, within, Wheel, Answer, end, pull}
 use Rattle.rules.specs.Pull.{Pulled, swept, pulled}
 use Rattle.rules.specs.Calls.{withLists, withClock}
 use Rattle.rules.specs.Sound.{Sound}
-use Rattle.rules.proofs.Cases.{not-both}
+use Rattle.numbers.proofs.Cases.{not-both}
 use Rattle.rules.proofs.SoundLists.{sound-enter}
 use Rattle.records.specs.declared.Clock.{Clock}
 use Rattle.records.specs.Records.{Entries, records, join}

@@ -7,8 +7,8 @@ use mathlib.Core.Bool.{Bool}
 use mathlib.Core.Option.{Option, none, some}
 use mathlib.Core.List.{List}
 use Rattle.rules.specs.Wheel.{Call, Answer, refused, ok, handle, removed, end, expired, rescheduled as moved, number, due}
-use Rattle.rules.proofs.Cases.{same?}
-use Rattle.links.proofs.Rows.{Single, none-left, row}
+use Rattle.numbers.proofs.Cases.{same?}
+use Rattle.numbers.proofs.Rows.{Single, none-left, row}
 use Rattle.records.specs.declared.Clock.{Clock}
 use Rattle.records.specs.Records.{Nodes, Entries, Records, records}
 use Rattle.wheel_plain.specs.declared.Timed.{Timed}

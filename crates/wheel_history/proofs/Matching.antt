@@ -16,7 +16,7 @@ use Rattle.rules.specs.Geometry.{wheel01, buckets}
 use Rattle.rules.specs.Lists.{Node}
 use Rattle.rules.specs.Wheel.{Entry, Advance, closed, poised, within, Wheel, enable, setEntry, schedule, reschedule, deschedule, start, pull, abandon, armedCount, nextDue}
 use Rattle.rules.specs.Refusals.{Row, pick, isOpen, isNone, isEmpty, isStale, outOfRange, refusal}
-use Rattle.rules.proofs.Cases.{same?, below?}
+use Rattle.numbers.proofs.Cases.{same?, below?}
 use Rattle.records.specs.declared.Clock.{Clock}
 use Rattle.records.specs.Records.{Records}
 use Rattle.records.specs.Shows.{nodeAt, ShowsAdvance, Shows}

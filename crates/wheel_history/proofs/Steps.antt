@@ -11,7 +11,7 @@ use Rattle.rules.specs.Wheel.{Wheel, Call, create, enable, setEntry, schedule, 
 use Rattle.rules.specs.Refusals.{refusal}
 use Rattle.rules.specs.Calls.{act, judged, step}
 use Rattle.rules.specs.Sound.{SoundIfEnabled}
-use Rattle.rules.proofs.Cases.{same?}
+use Rattle.numbers.proofs.Cases.{same?}
 use Rattle.rules.proofs.SoundCalls.{sound-step}
 use Rattle.records.specs.Records.{Records}
 use Rattle.wheel_sound.specs.Sound.{SoundRecords, InRange}

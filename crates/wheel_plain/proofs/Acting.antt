@@ -14,7 +14,7 @@ use mir.Val.{Fits}
 use Rattle.links.specs.Lists.{Links, links, homeOf}
 use Rattle.links.specs.Chain.{none as noSlot}
 use Rattle.links.specs.Listed.{listed}
-use Rattle.links.proofs.Slots.{first-in}
+use Rattle.links.proofs.Laws.{first-in}
 use Rattle.rules.specs.Geometry.{wheel01, buckets}
 use Rattle.rules.specs.Lists.{Node}
 use Rattle.rules.specs.Wheel.{Entry, Wheel}

@@ -14,7 +14,7 @@ use mir.Val.{Fits}
 use Rattle.links.specs.Chain.{none}
 use Rattle.links.specs.Lists.{homeOf}
 use Rattle.rules.specs.Geometry.{wheel01, buckets}
-use Rattle.rules.proofs.Cases.{same?}
+use Rattle.numbers.proofs.Cases.{same?}
 use Rattle.records.specs.declared.Clock.{Clock}
 use Rattle.records.specs.Records.{Records}
 use Rattle.wheel_sound.specs.Decides.{Decides}

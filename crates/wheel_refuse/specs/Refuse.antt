@@ -6,7 +6,7 @@ use mathlib.Core.Bool.{Bool, true, false}
 use lib.ListN.{length, getD}
 use Rattle.links.specs.Chain.{none}
 use Rattle.links.specs.Lists.{homeOf}
-pub use Rattle.links.specs.Rows.{unless, answered}
+pub use Rattle.numbers.specs.Rows.{unless, answered}
 use Rattle.rules.specs.Geometry.{wheel01, buckets}
 use Rattle.records.specs.Records.{Records}
 use Rattle.wheel_sound.specs.Clauses.{Ranges, EndsLengths, NodesLengths, EntriesLengths}

@@ -6,7 +6,7 @@ use mathlib.Core.Logic.{_⊎_, inl, inr, ⊎-elim}
 use mathlib.Core.List.{List, [], _∷_, _++_}
 use Rattle.links.specs.Chain.{In, Once}
 use Rattle.rules.specs.Lists.{hit, count}
-use Rattle.rules.proofs.Cases.{same?}
+use Rattle.numbers.proofs.Cases.{same?}
 use Rattle.rules.proofs.Counting.{hit-is, hit-not, count-app}
 
 pub count-none : (x : ℕ) (xs : List ℕ) → (In x xs → ⊥) → count x xs ≡ 0

@@ -9,7 +9,7 @@ use mathlib.Core.List.{List}
 use lib.ListN.{length, getD, set, replicate, length-set, length-replicate}
 use lib.Seq.{getD-set-same, getD-set-other}
 use borrow.Author.Tests.{not-true, not-false}
-use Rattle.rules.proofs.Cases.{same?, below?}
+use Rattle.numbers.proofs.Cases.{same?, below?}
 use Rattle.wheel_sound.specs.Decides.{Decides}
 use Rattle.wheel_sound.specs.Clauses.{Armed, SerialsDiffer}
 use Rattle.wheel_sound.specs.Filing.{Leads, here, back, Walkable, Met, Filed, Fileable, Files}

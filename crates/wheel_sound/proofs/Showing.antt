@@ -10,16 +10,14 @@ use borrow.Author.Tests.{lt-ltb, le-ltb, ltb-true}
 use Rattle.links.specs.Chain.{none, In, Once, before, after}
 use Rattle.links.specs.Lists.{Links, Lists, Rep, deq, homeOf}
 use Rattle.links.specs.Listed.{listed}
-use Rattle.links.proofs.Slots.{split}
-use Rattle.links.proofs.Swap.{deq-once}
-use Rattle.links.proofs.Unique.{whole-listed}
-use Rattle.links.proofs.Members.{in-home, home-in, free-once, free-home, home-free}
+use Rattle.numbers.proofs.Members.{split}
+use Rattle.links.proofs.Laws.{deq-once, whole-listed, in-home, home-in, free-once, free-home, home-free}
 use Rattle.rules.specs.Geometry.{Geometry, buckets}
 use Rattle.rules.specs.Visits.{SoundPosition}
 use Rattle.rules.specs.Lists.{Node, hit, count, times}
 use Rattle.rules.specs.Wheel.{Advance, closed, poised, within}
 use Rattle.rules.specs.Sound.{spare, SoundLists, SoundAdvance, Sound}
-use Rattle.rules.proofs.Cases.{same?, below?}
+use Rattle.numbers.proofs.Cases.{same?, below?}
 use Rattle.rules.proofs.Counting.{hit-is, hit-not}
 use Rattle.records.specs.declared.Clock.{Clock}
 use Rattle.records.specs.Records.{Nodes, Records}

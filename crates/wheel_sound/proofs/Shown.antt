@@ -8,14 +8,14 @@ use mathlib.Core.List.{List, [], _∷_}
 use lib.ListN.{length, getD}
 use borrow.Author.Tests.{lt-ltb}
 use Rattle.links.specs.Chain.{none}
-use Rattle.links.proofs.Slots.{in-same, app-right}
-use Rattle.links.proofs.Members.{home-in}
+use Rattle.numbers.proofs.Members.{in-same, app-right}
+use Rattle.links.proofs.Laws.{home-in}
 use Rattle.rules.specs.Geometry.{Geometry, buckets}
 use Rattle.rules.specs.Visits.{visitedAt, SoundPosition}
 use Rattle.rules.specs.Lists.{Node}
 use Rattle.rules.specs.Wheel.{Advance, closed, poised, within, Wheel}
 use Rattle.rules.specs.Sound.{Sound}
-use Rattle.rules.proofs.Cases.{same?}
+use Rattle.numbers.proofs.Cases.{same?}
 use Rattle.records.specs.declared.Clock.{Clock}
 use Rattle.records.specs.Records.{Records}
 use Rattle.records.specs.Shows.{nodeAt, ShowsAdvance, Shows}

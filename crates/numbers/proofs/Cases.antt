@@ -1,4 +1,4 @@
--- Two numbers: less or not, the same or not. Assumes nothing.
+-- Two numbers: less or not, the same or not.
 use Prim.Native.Nat.{ℕ, suc, _≤_, _<_}
 use native.Mathlib.Omega.{arith}
 use native.Mathlib.Decide.{ℕ-discrete, decLe}

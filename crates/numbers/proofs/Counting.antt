@@ -1,14 +1,15 @@
--- Lists with no slot twice: how long they are, and that one of n numbers below n has them all. Assumes nothing.
+-- Lists with no number twice: how long they are, and that one of n numbers below n has them all.
 use Prim.Native.Nat.{ℕ, zero, suc, _+_, _≤_, _<_}
 use native.Mathlib.Omega.{arith}
 use mathlib.Core.Path.{_≡_, refl, sym, ap, subst, _∙_}
 use mathlib.Core.Logic.{_⊎_, inl, inr, ⊎-elim}
 use mathlib.Core.List.{List, [], _∷_, _++_}
 use lib.ListN.{length, getD, length-append}
-use Rattle.links.specs.Chain.{none, In, Once, remove, upFrom}
-use Rattle.links.proofs.Slots.{same?, in?, in-at, kept, length-remove, in-app, app-left, app-right, once-app}
+use Rattle.numbers.specs.Lists.{In, Once, remove, upFrom}
+use Rattle.numbers.proofs.Cases.{same?}
+use Rattle.numbers.proofs.Members.{in?, in-at, kept, length-remove, in-app, app-left, app-right, once-app}
 
--- a list with no slot twice is no longer than one that has all of its slots
+-- a list with no number twice is no longer than one that has all of its numbers
 pub fit : (xs ys : List ℕ) → Once xs → ((x : ℕ) → In x xs → In x ys) → length xs ≤ length ys
 fit [] ys o h = omega arith
 fit (x ∷ xs) ys o h =
@@ -51,7 +52,7 @@ all-there n xs o h e x i =
     absurd (omega (arith, at-most n (x ∷ xs) (k, o) (λ z w. ⊎-elim (λ (j : z ≡ x). rw j i) (λ m. h z m) w))))
     (in? x xs)
 
--- ---- all the slots of a list of lists
+-- ---- all the numbers of a list of lists
 abbrev pub flat : List (List ℕ) → List ℕ
 flat [] = []
 flat (q ∷ qs) = q ++ flat qs
@@ -72,7 +73,7 @@ pub flat-back : (qs : List (List ℕ)) (xs : List ℕ) → length (flat (qs ++ (
 flat-back [] xs = simp length-append (omega arith)
 flat-back (q ∷ qs) xs = simp length-append (omega (arith, flat-back qs xs))
 
--- lists that are apart by a number of each slot, its home, have no slot twice
+-- lists that are apart by a number of each member, its home, have no number twice
 pub once-flat : (home : ℕ → ℕ) (o : ℕ) (qs : List (List ℕ)) → ((i : ℕ) → i < length qs → Once (getD qs i [])) → ((i x : ℕ) → i < length qs → In x (getD qs i []) → home x ≡ o + i) → Once (flat qs)
 once-flat home o [] p h = tt
 once-flat home o (q ∷ qs) p h =

@@ -1,8 +1,8 @@
--- Rows of refusals give one number. Assumes nothing.
+-- Rows of refusals give one number.
 use Prim.Native.Nat.{ℕ}
 use mathlib.Core.Path.{_≡_, sym, _∙_}
 use mathlib.Core.Logic.{_⊎_, inl, inr}
-use Rattle.links.specs.Rows.{unless, answered}
+use Rattle.numbers.specs.Rows.{unless, answered}
 
 abbrev pub Single : (ℕ → Type 0) → Type 0
 Single rows = (j k : ℕ) → rows j → rows k → j ≡ k

@@ -1,4 +1,4 @@
--- Rows of refusals, which every layer over these records orders by the lowest number first. Assumes nothing.
+-- Rows of refusals, ordered by the lowest number first, as a relation of the answered number.
 use Prim.Native.Nat.{ℕ}
 use mathlib.Core.Path.{_≡_}
 use mathlib.Core.Logic.{_⊎_}
