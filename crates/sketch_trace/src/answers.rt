@@ -1,38 +1,38 @@
-// What a call answers, and the line that says so. Assumes nothing.
+// The line that says an answer.
+use crate::calls;
+use crate::calls::State;
+use lines::Source;
 
-// An answer: nothing, `ok`, `bad line`, a refusal's number, or the call's own word with one number
-// or three.
-pub enum Reply {
-    Nothing,
-    Good,
-    Bad,
-    Refused(u64),
-    One(u64),
-    Three(u64, u64, u64),
+// Puts the last answer's line after the bytes that wait in out, writes all out where all of the
+// block is answered, and answers how many wait then.
+pub fn say(out: &mut [u8], at: usize, s: State, source: Source) -> usize {
+    let answer = s.answer;
+    let words = b"ok refused index record digest estimate word bad";
+    let worded = lines::append(out, at, lines::part(words, answer));
+    let said = append_rest(out, worded, s);
+    lines::settle(out, said, source)
 }
 
-// Puts the answer to a line after the bytes that wait in out, and answers how many wait then.
-pub fn say(out: &mut [u8], at: usize, line: &[u8], reply: Reply) -> usize {
-    match reply {
-        Reply::Nothing => at,
-        Reply::Good => lines::append(out, at, b"ok\n"),
-        Reply::Bad => lines::append(out, at, b"bad line\n"),
-        Reply::Refused(n) => say_one(out, at, b"refused", n),
-        Reply::One(n) => say_one(out, at, lines::part(line, 0), n),
-        Reply::Three(a, b, c) => say_three(out, at, lines::part(line, 0), a, b, c),
+// What follows an answer's word: `bad` has another, all others but `ok` a number.
+fn append_rest(out: &mut [u8], at: usize, s: State) -> usize {
+    let answer = s.answer;
+    match answer {
+        calls::NOTHING => at,
+        calls::BAD => lines::append(out, at, b" line\n"),
+        calls::OK => lines::append(out, at, b"\n"),
+        _ => append_numbers(out, at, s),
     }
 }
 
-fn say_one(out: &mut [u8], at: usize, word: &[u8], n: u64) -> usize {
-    let worded = lines::append(out, at, word);
-    let last = lines::append_field(out, worded, n);
-    lines::append(out, last, b"\n")
-}
-
-fn say_three(out: &mut [u8], at: usize, word: &[u8], a: u64, b: u64, c: u64) -> usize {
-    let worded = lines::append(out, at, word);
-    let first = lines::append_field(out, worded, a);
-    let second = lines::append_field(out, first, b);
-    let last = lines::append_field(out, second, c);
+// One number, and for `record` two more.
+fn append_numbers(out: &mut [u8], at: usize, s: State) -> usize {
+    let answer = s.answer;
+    let first = lines::append_field(out, at, s.number);
+    if answer != calls::RECORD {
+        return lines::append(out, first, b"\n");
+    }
+    let k = s.sketch;
+    let second = lines::append_field(out, first, k.sample);
+    let last = lines::append_field(out, second, k.size);
     lines::append(out, last, b"\n")
 }

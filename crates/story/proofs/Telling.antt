@@ -1,4 +1,4 @@
--- A call's promise takes a story one call further. Assumes nothing.
+-- A call's promise takes a story one call further.
 use Prim.Native.Nat.{ℕ}
 use mathlib.Core.Path.{_≡_, sym, subst, _∙_}
 use mathlib.Core.List.{List, [], _∷_, _++_}

@@ -1,2 +1,4 @@
--- What the contracts of the story cite. Assumes nothing.
+-- What the contracts of the story cite.
+pub mod Held
+pub mod Tests
 pub mod Story

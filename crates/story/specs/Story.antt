@@ -1,4 +1,4 @@
--- The story: what is called, chapter by chapter, and what it means to have come that far. Assumes nothing.
+-- The story: what is called, chapter by chapter, and what it means to have come that far.
 use Prim.Native.Nat.{_+_, _^_}
 use mathlib.Core.Option.{some}
 use mathlib.Core.List.{List, [], _∷_, _++_}

@@ -1,24 +1,24 @@
 // The chapters of the story: what is called, and what is expected of each answer. Unchecked: a chapter asks that the story has come that far.
-ghost use Rattle.story_calls.specs.Held.{held};
+ghost use Rattle.story.specs.Held.{held};
 ghost use Rattle.story.specs.Story.{Reached, begun, armed, cancelled, abandoned, tooEarly, steppedBack, handedOut};
-use story_calls::answers::is_count;
-use story_calls::answers::is_done;
-use story_calls::answers::is_end;
-use story_calls::answers::is_expired;
-use story_calls::answers::is_handle;
-use story_calls::answers::is_moved;
-use story_calls::answers::is_noted;
-use story_calls::answers::is_refused;
-use story_calls::calls::abandon;
-use story_calls::calls::armed_count;
-use story_calls::calls::deschedule;
-use story_calls::calls::pull;
-use story_calls::calls::schedule;
-use story_calls::calls::set;
-use story_calls::calls::start;
-use story_calls::held::Held;
-use story_calls::making::create;
-use story_calls::making::enable;
+use crate::answers::is_count;
+use crate::answers::is_done;
+use crate::answers::is_end;
+use crate::answers::is_expired;
+use crate::answers::is_handle;
+use crate::answers::is_moved;
+use crate::answers::is_noted;
+use crate::answers::is_refused;
+use crate::calls::abandon;
+use crate::calls::armed_count;
+use crate::calls::deschedule;
+use crate::calls::pull;
+use crate::calls::schedule;
+use crate::calls::set;
+use crate::calls::start;
+use crate::held::Held;
+use crate::making::create;
+use crate::making::enable;
 
 // 2^30 nanoseconds.
 const TICK: u64 = 1073741824;

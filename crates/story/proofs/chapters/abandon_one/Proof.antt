@@ -1,11 +1,11 @@
--- `abandon_one` meets its contract: the abandoned advance leaves the reading as it was. Assumes nothing.
+-- `abandon_one` meets its contract: the abandoned advance leaves the reading as it was.
 use Prim.Native.Nat.{_^_}
 use mathlib.Core.Path.{refl}
 use mathlib.Core.List.{[], _∷_, _++_}
 use borrow.Author.Tests.{eq-eqb}
 use Rattle.rules.specs.Geometry.{tick}
 use Rattle.rules.specs.Wheel.{abandon, start}
-use Rattle.story_calls.specs.Held.{held}
+use Rattle.story.specs.Held.{held}
 use Rattle.story.specs.Story.{Reached, cancelled, abandoned}
 use Rattle.story.proofs.Telling.{on, says, reads}
 use borrow.Author.Needs.{needs}

@@ -1,11 +1,11 @@
--- `arm` meets its contract: the timer is armed with the slot and the serial that the rules give. Assumes nothing.
+-- `arm` meets its contract: the timer is armed with the slot and the serial that the rules give.
 use Prim.Native.Nat.{_^_, _+_}
 use mathlib.Core.Path.{refl}
 use mathlib.Core.Option.{some}
 use mathlib.Core.List.{[], _∷_, _++_}
 use Rattle.rules.specs.Geometry.{tick}
 use Rattle.rules.specs.Wheel.{schedule, setEntry}
-use Rattle.story_calls.specs.Held.{held}
+use Rattle.story.specs.Held.{held}
 use Rattle.story.specs.Story.{Reached, begun, armed}
 use Rattle.story.proofs.Telling.{on, says}
 use borrow.Author.Needs.{needs}

@@ -1,8 +1,8 @@
--- `begin` meets its contract: create, and enable, which is done. Assumes nothing.
+-- `begin` meets its contract: create, and enable, which is done.
 use mathlib.Core.Path.{refl}
 use Rattle.rules.specs.Geometry.{tick}
 use Rattle.rules.specs.Wheel.{enable}
-use Rattle.story_calls.specs.Held.{held}
+use Rattle.story.specs.Held.{held}
 use Rattle.story.proofs.Telling.{beginning, on, says}
 use borrow.Author.Needs.{needs}
 use Rattle.story.proofs.chapters.begin.Statement.{statement}

@@ -1,11 +1,11 @@
--- `cancel_another` meets its contract: another timer is armed, cancelled, and its handle refused. Assumes nothing.
+-- `cancel_another` meets its contract: another timer is armed, cancelled, and its handle refused.
 use Prim.Native.Nat.{_^_}
 use mathlib.Core.Path.{refl}
 use mathlib.Core.Option.{some}
 use mathlib.Core.List.{[], _∷_, _++_}
 use Rattle.rules.specs.Geometry.{tick}
 use Rattle.rules.specs.Wheel.{deschedule, schedule, setEntry}
-use Rattle.story_calls.specs.Held.{held}
+use Rattle.story.specs.Held.{held}
 use Rattle.story.specs.Story.{Reached, armed, cancelled}
 use Rattle.story.proofs.Telling.{on, says}
 use borrow.Author.Needs.{needs}

@@ -1,10 +1,10 @@
--- `come_too_early` meets its contract: before the deadline the timer is placed anew. Assumes nothing.
+-- `come_too_early` meets its contract: before the deadline the timer is placed anew.
 use Prim.Native.Nat.{_^_, _+_}
 use mathlib.Core.Path.{refl}
 use mathlib.Core.List.{[], _∷_, _++_}
 use Rattle.rules.specs.Geometry.{tick}
 use Rattle.rules.specs.Wheel.{pull, start}
-use Rattle.story_calls.specs.Held.{held}
+use Rattle.story.specs.Held.{held}
 use Rattle.story.specs.Story.{Reached, abandoned, tooEarly}
 use Rattle.story.proofs.Telling.{on, says}
 use borrow.Author.Needs.{needs}

@@ -1,4 +1,4 @@
--- `count_none` meets its contract: after the hand-out no timer is armed. Assumes nothing.
+-- `count_none` meets its contract: after the hand-out no timer is armed.
 use mathlib.Core.Path.{refl}
 use Rattle.rules.specs.Geometry.{tick}
 use Rattle.rules.specs.Wheel.{armedCount}

@@ -1,10 +1,10 @@
--- `hand_out` meets its contract: the advance beyond the deadline hands the timer out. Assumes nothing.
+-- `hand_out` meets its contract: the advance beyond the deadline hands the timer out.
 use Prim.Native.Nat.{_^_}
 use mathlib.Core.Path.{refl}
 use mathlib.Core.List.{[], _∷_, _++_}
 use Rattle.rules.specs.Geometry.{tick}
 use Rattle.rules.specs.Wheel.{pull, start}
-use Rattle.story_calls.specs.Held.{held}
+use Rattle.story.specs.Held.{held}
 use Rattle.story.specs.Story.{Reached, steppedBack, handedOut}
 use Rattle.story.proofs.Telling.{on, says}
 use borrow.Author.Needs.{needs}

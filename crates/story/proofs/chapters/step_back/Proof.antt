@@ -1,10 +1,10 @@
--- `step_back` meets its contract: a clock stepped back hands nothing out. Assumes nothing.
+-- `step_back` meets its contract: a clock stepped back hands nothing out.
 use mathlib.Core.Path.{refl}
 use mathlib.Core.List.{[], _∷_, _++_}
 use borrow.Author.Tests.{eq-eqb}
 use Rattle.rules.specs.Geometry.{tick}
 use Rattle.rules.specs.Wheel.{pull, start}
-use Rattle.story_calls.specs.Held.{held}
+use Rattle.story.specs.Held.{held}
 use Rattle.story.specs.Story.{Reached, tooEarly, steppedBack}
 use Rattle.story.proofs.Telling.{on, says, reads}
 use borrow.Author.Needs.{needs}

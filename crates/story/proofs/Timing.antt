@@ -1,0 +1,37 @@
+-- The clock after a call, where its answer is known, and the wheel's promise with that clock.
+use Prim.Native.Nat.{ℕ}
+use mathlib.Core.Path.{_≡_, sym, ap, subst}
+use Rattle.rules.specs.Wheel.{Call, Answer}
+use Rattle.records.specs.declared.Clock.{Clock}
+use Rattle.records.specs.Records.{Nodes, Entries, Records, records}
+use Rattle.wheel_plain.specs.declared.Timed.{Timed}
+use Rattle.wheel_plain.specs.declared.Timed.the-variants.{Done}
+use Rattle.wheel_plain.specs.declared.Scheduled.{Scheduled}
+use Rattle.wheel_plain.specs.declared.Scheduled.the-variants.{Armed}
+use Rattle.wheel_plain.specs.declared.Pulled.{Pulled}
+use Rattle.wheel_plain.specs.declared.Pulled.the-variants.{Expired, Moved, End}
+use Rattle.wheel.specs.Answers.{timedClock, scheduledClock, pulledClock}
+use Rattle.wheel.specs.Calls.{Meets}
+
+module _ (c k : Clock) where
+  pub done : (a : Timed) → a ≡ Done k → k ≡ timedClock c a
+  done a e = ap (timedClock c) (sym e)
+
+  pub armed : (a : Scheduled) (x n : ℕ) → a ≡ Armed x n k → k ≡ scheduledClock c a
+  armed a x n e = ap (scheduledClock c) (sym e)
+
+  pub expired : (a : Pulled) (e n d : ℕ) → a ≡ Expired e n d k → k ≡ pulledClock c a
+  expired a e n d i = ap (pulledClock c) (sym i)
+
+  pub moved : (a : Pulled) (e n b : ℕ) → a ≡ Moved e n b k → k ≡ pulledClock c a
+  moved a e n b i = ap (pulledClock c) (sym i)
+
+  pub ended : (a : Pulled) → a ≡ End k → k ≡ pulledClock c a
+  ended a i = ap (pulledClock c) (sym i)
+
+pub ruleset clocks = (done, armed, expired, moved, ended)
+
+-- the clock may be given by an equation
+pub with-clock : (c : Call) (rows : ℕ → Type 0) (R : Records) (N : Nodes) (E : Entries) (k k′ : Clock) (a : Answer) (after : Records) (then : Answer) → k ≡ k′
+    → Meets c rows R (records N E k′) a after then → Meets c rows R (records N E k) a after then
+with-clock c rows R N E k k′ a after then e m = subst (λ (x : Clock). Meets c rows R (records N E x) a after then) (sym e) m

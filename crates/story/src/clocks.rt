@@ -1,0 +1,50 @@
+// The clock that holds after a call: the one that its answer hands back, or the caller's own where it hands none.
+ghost use mathlib.Core.Path.{_≡_};
+ghost use Rattle.wheel.specs.Answers.{timedClock, scheduledClock, pulledClock};
+use records::Clock;
+use wheel::Pulled;
+use wheel::Scheduled;
+use wheel::Timed;
+
+pub fn after_timed(clock: Clock, answer: Timed) -> Clock
+    ensures { λ r. ⌜ r ≡ timedClock clock answer ⌝ }
+{
+    match answer {
+        Timed::Done(then) => then,
+        Timed::Refused(_) => clock,
+    }
+}
+
+pub fn after_schedule(clock: Clock, answer: Scheduled) -> Clock
+    ensures { λ r. ⌜ r ≡ scheduledClock clock answer ⌝ }
+{
+    match answer {
+        Scheduled::Armed {
+            slot: _,
+            serial: _,
+            clock: then,
+        } => then,
+        Scheduled::Refused(_) => clock,
+    }
+}
+
+pub fn after_pull(clock: Clock, answer: Pulled) -> Clock
+    ensures { λ r. ⌜ r ≡ pulledClock clock answer ⌝ }
+{
+    match answer {
+        Pulled::Expired {
+            entry: _,
+            serial: _,
+            deadline: _,
+            clock: then,
+        } => then,
+        Pulled::Moved {
+            entry: _,
+            serial: _,
+            place: _,
+            clock: then,
+        } => then,
+        Pulled::End(then) => then,
+        Pulled::Refused(_) => clock,
+    }
+}
