@@ -1,45 +1,26 @@
 // Seeded workloads for the sketch, to be timed: one line of standard input asks for one, and its
-// answer is a digest of what it left. Assumes nothing.
+// answer is a digest of what it left.
 mod requests;
 mod work;
 
-use lines::Source;
-use requests::answer;
+use requests::read;
 use requests::say;
+use work::answer;
 
 fn main() {
     let mut table = [0u64; 65536];
     let mut block = [0u8; 4096];
     let mut line = [0u8; 257];
     let mut out = [0u8; 4096];
-    run(&mut table, &mut block, &mut line, &mut out);
-}
-
-// Answers line by line to the end of the input.
-fn run(table: &mut [u64], block: &mut [u8], line: &mut [u8], out: &mut [u8]) {
     let mut source = lines::begin();
     let mut waiting = 0;
     let mut turns = u64::MAX;
     while turns > 0 {
-        source = lines::next_line(block, line, source);
-        waiting = answer_line(table, line, out, waiting, source);
+        source = lines::next_line(&mut block, &mut line, source);
+        let request = read(&line, source);
+        let digest = answer(&mut table, request);
+        waiting = say(&mut out, waiting, request.work, digest, source);
         turns = lines::turns_left(turns, source.more);
     }
-    lines::flush(out, waiting);
-}
-
-// Answers the line that was found, if there was one, and answers how many bytes wait then.
-fn answer_line(
-    table: &mut [u64],
-    line: &[u8],
-    out: &mut [u8],
-    waiting: usize,
-    source: Source,
-) -> usize {
-    if !source.more {
-        return waiting;
-    }
-    let reply = answer(table, lines::first(line, source.held));
-    let said = say(out, waiting, reply);
-    lines::settle(out, said, source)
+    lines::flush(&out, waiting);
 }

@@ -1,81 +1,110 @@
 // The requests: `increase WORDS CALLS SEED`, `estimate WORDS CALLS SEED`, `index WORDS CALLS SEED`,
-// and their answers. Assumes nothing.
-use crate::work;
+// and their answers.
 use lines::Kind;
 use lines::Number;
+use lines::Source;
 
-// An answer.
-pub enum Reply {
-    Nothing,
-    Bad,
-    Digest(u64),
+// The workloads; then a line that asks for none, and one that asks nothing.
+pub const INCREASE: usize = 0;
+pub const ESTIMATE: usize = 1;
+pub const INDEX: usize = 2;
+const BAD: usize = 3;
+const SILENT: usize = 4;
+
+// The most words of a table.
+const MOST: u64 = 65536;
+
+pub struct Request {
+    pub work: usize,
+    pub words: u64,
+    pub calls: u64,
+    pub seed: u64,
 }
 
-// Answers a line.
-pub fn answer(table: &mut [u64], line: &[u8]) -> Reply {
-    match lines::kind_of(line) {
-        Kind::Silent => Reply::Nothing,
-        Kind::Long => Reply::Bad,
-        Kind::Call => request(table, line),
+// What the line that was found last asks for.
+pub fn read(line: &[u8], source: Source) -> Request {
+    if !source.more {
+        return bare(SILENT);
+    }
+    let held = lines::first(line, source.held);
+    match lines::kind_of(held) {
+        Kind::Silent => bare(SILENT),
+        Kind::Long => bare(BAD),
+        Kind::Call => read_call(held),
     }
 }
 
-// A request: a word and three numbers, of which the first is a power of two up to 65,536.
-fn request(table: &mut [u64], line: &[u8]) -> Reply {
+fn bare(work: usize) -> Request {
+    Request {
+        work,
+        words: 0,
+        calls: 0,
+        seed: 0,
+    }
+}
+
+// A word and three numbers.
+fn read_call(line: &[u8]) -> Request {
     if lines::count(line) != 4 {
-        return Reply::Bad;
+        return bare(BAD);
     }
     let Number::Is(words) = lines::number_at(line, 1) else {
-        return Reply::Bad;
+        return bare(BAD);
     };
     let Number::Is(calls) = lines::number_at(line, 2) else {
-        return Reply::Bad;
+        return bare(BAD);
     };
     let Number::Is(seed) = lines::number_at(line, 3) else {
-        return Reply::Bad;
+        return bare(BAD);
     };
-    if !numbers::is_power(words) {
-        return Reply::Bad;
-    }
-    workload(
-        lines::part(line, 0),
-        table,
+    Request {
+        work: checked(named(line), words),
         words,
         calls,
-        work::first_number(seed),
-    )
-}
-
-// The workload of that name, on a table of so many words.
-fn workload(word: &[u8], table: &mut [u64], words: u64, calls: u64, x: u64) -> Reply {
-    if lines::same(word, b"index") {
-        return Reply::Digest(work::sum_of_indexes(words, calls, x));
-    }
-    let n = words as usize;
-    if table.len() < n {
-        return Reply::Bad;
-    }
-    let lent = &mut table[..n];
-    if lines::same(word, b"increase") {
-        return Reply::Digest(work::digest_of_increases(lent, calls, x));
-    }
-    if lines::same(word, b"estimate") {
-        return Reply::Digest(work::sum_of_estimates(lent, calls, x));
-    }
-    Reply::Bad
-}
-
-// Puts the answer's line after the bytes that wait in out, and answers how many wait then.
-pub fn say(out: &mut [u8], at: usize, reply: Reply) -> usize {
-    match reply {
-        Reply::Nothing => at,
-        Reply::Bad => lines::append(out, at, b"bad line\n"),
-        Reply::Digest(n) => say_digest(out, at, n),
+        seed,
     }
 }
 
-fn say_digest(out: &mut [u8], at: usize, n: u64) -> usize {
+// The workload that the line names.
+fn named(line: &[u8]) -> usize {
+    if lines::is_part(line, 0, b"increase") {
+        return INCREASE;
+    }
+    if lines::is_part(line, 0, b"estimate") {
+        return ESTIMATE;
+    }
+    if lines::is_part(line, 0, b"index") {
+        return INDEX;
+    }
+    BAD
+}
+
+// The workload, if it can have so many words: a power of two, and a table that there is.
+fn checked(work: usize, words: u64) -> usize {
+    if !numbers::is_power(words) {
+        return BAD;
+    }
+    if words <= MOST {
+        return work;
+    }
+    if work == INDEX { INDEX } else { BAD }
+}
+
+// Puts the answer's line after the bytes that wait in out, writes all out where all of the block is
+// answered, and answers how many wait then.
+pub fn say(out: &mut [u8], at: usize, work: usize, digest: u64, source: Source) -> usize {
+    let said = append_answer(out, at, work, digest);
+    lines::settle(out, said, source)
+}
+
+fn append_answer(out: &mut [u8], at: usize, work: usize, digest: u64) -> usize {
+    if work == SILENT {
+        return at;
+    }
+    if work == BAD {
+        return lines::append(out, at, b"bad line\n");
+    }
     let worded = lines::append(out, at, b"digest");
-    let last = lines::append_field(out, worded, n);
+    let last = lines::append_field(out, worded, digest);
     lines::append(out, last, b"\n")
 }

@@ -1,9 +1,9 @@
 // The wheel's public calls on held records, each with the wheel's own promise.
 ghost use mathlib.Core.Option.{some};
 ghost use Rattle.rules.specs.Wheel.{setEntry, schedule, deschedule, start, pull, abandon, armedCount};
-ghost use Rattle.wheel.specs.Answers.{timedSays, notedSays, scheduledSays, pulledSays, countedSays};
+ghost use Rattle.wheel.specs.Answers.{timedClock, timedSays, notedSays, scheduledSays, pulledSays, countedSays};
 ghost use Rattle.wheel_history.specs.History.{Promised};
-ghost use Rattle.story.specs.Held.{held};
+ghost use Rattle.story.specs.Held.{held, later};
 use crate::clocks::after_pull;
 use crate::clocks::after_schedule;
 use crate::clocks::after_timed;
@@ -188,8 +188,8 @@ pub fn deschedule(s: Held, slot: usize, number: u64, h: u32) -> Timing
 }
 
 // Opens an advance to q.
-pub fn start(s: Held, q: u64) -> Timing
-    ensures { λ r. ⌜ Promised (start q) (held s) (held (r .after)) (timedSays (r .answer)) ⌝ }
+pub fn start(s: Held, q: u64) -> Timed
+    ensures { λ r. ⌜ Promised (start q) (held s) (later s (timedClock (s .clock) r)) (timedSays r) ⌝ }
 {
     let heads = s.heads;
     let tails = s.tails;
@@ -203,7 +203,7 @@ pub fn start(s: Held, q: u64) -> Timing
     let deadline = s.deadline;
     let stamp = s.stamp;
     let clock = s.clock;
-    let answer = wheel::start(
+    wheel::start(
         &heads,
         &tails,
         &next,
@@ -217,23 +217,7 @@ pub fn start(s: Held, q: u64) -> Timing
         &stamp,
         clock,
         q,
-    );
-    let clock = after_timed(clock, answer);
-    let after = Held {
-        heads,
-        tails,
-        next,
-        prev,
-        bucket,
-        entry,
-        generation,
-        serial,
-        dated,
-        deadline,
-        stamp,
-        clock,
-    };
-    Timing { after, answer }
+    )
 }
 
 // One event of the advance, or End.
@@ -285,8 +269,8 @@ pub fn pull(s: Held) -> Pulling
 }
 
 // Abandons the advance.
-pub fn abandon(s: Held) -> Timing
-    ensures { λ r. ⌜ Promised abandon (held s) (held (r .after)) (timedSays (r .answer)) ⌝ }
+pub fn abandon(s: Held) -> Timed
+    ensures { λ r. ⌜ Promised abandon (held s) (later s (timedClock (s .clock) r)) (timedSays r) ⌝ }
 {
     let heads = s.heads;
     let tails = s.tails;
@@ -300,7 +284,7 @@ pub fn abandon(s: Held) -> Timing
     let deadline = s.deadline;
     let stamp = s.stamp;
     let clock = s.clock;
-    let answer = wheel::abandon(
+    wheel::abandon(
         &heads,
         &tails,
         &next,
@@ -313,23 +297,7 @@ pub fn abandon(s: Held) -> Timing
         &deadline,
         &stamp,
         clock,
-    );
-    let clock = after_timed(clock, answer);
-    let after = Held {
-        heads,
-        tails,
-        next,
-        prev,
-        bucket,
-        entry,
-        generation,
-        serial,
-        dated,
-        deadline,
-        stamp,
-        clock,
-    };
-    Timing { after, answer }
+    )
 }
 
 // How many timers are armed.

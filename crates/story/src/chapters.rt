@@ -16,6 +16,7 @@ use crate::calls::pull;
 use crate::calls::schedule;
 use crate::calls::set;
 use crate::calls::start;
+use crate::clocks::clocked;
 use crate::held::Held;
 use crate::making::create;
 use crate::making::enable;
@@ -80,14 +81,12 @@ pub fn abandon_one(s: Held) -> Held
     requires { ⌜ Reached cancelled (held s) ⌝ }
     ensures { λ r. ⌜ Reached abandoned (held r) ⌝ }
 {
-    let opening = start(s, 2 * TICK);
-    let opened = opening.answer;
+    let opened = start(s, 2 * TICK);
     check::expect(is_done(opened));
-    let s = opening.after;
-    let leaving = abandon(s);
-    let left = leaving.answer;
+    let s = clocked(s, opened);
+    let left = abandon(s);
     check::expect(is_done(left));
-    let s = leaving.after;
+    let s = clocked(s, left);
     let clock = s.clock;
     check::expect(clock.reading == 0);
     s
@@ -98,10 +97,9 @@ pub fn come_too_early(s: Held) -> Held
     requires { ⌜ Reached abandoned (held s) ⌝ }
     ensures { λ r. ⌜ Reached tooEarly (held r) ⌝ }
 {
-    let opening = start(s, DUE - 1);
-    let opened = opening.answer;
+    let opened = start(s, DUE - 1);
     check::expect(is_done(opened));
-    let s = opening.after;
+    let s = clocked(s, opened);
     let pulling = pull(s);
     let event = pulling.answer;
     check::expect(is_moved(event, 0, 7, 1));
@@ -117,10 +115,9 @@ pub fn step_back(s: Held) -> Held
     requires { ⌜ Reached tooEarly (held s) ⌝ }
     ensures { λ r. ⌜ Reached steppedBack (held r) ⌝ }
 {
-    let opening = start(s, 5);
-    let opened = opening.answer;
+    let opened = start(s, 5);
     check::expect(is_done(opened));
-    let s = opening.after;
+    let s = clocked(s, opened);
     let ending = pull(s);
     let last = ending.answer;
     check::expect(is_end(last));
@@ -135,10 +132,9 @@ pub fn hand_out(s: Held) -> Held
     requires { ⌜ Reached steppedBack (held s) ⌝ }
     ensures { λ r. ⌜ Reached handedOut (held r) ⌝ }
 {
-    let opening = start(s, 2 * TICK);
-    let opened = opening.answer;
+    let opened = start(s, 2 * TICK);
     check::expect(is_done(opened));
-    let s = opening.after;
+    let s = clocked(s, opened);
     let pulling = pull(s);
     let event = pulling.answer;
     check::expect(is_expired(event, 0, 7, DUE));

@@ -1,6 +1,8 @@
 // The clock that holds after a call: the one that its answer hands back, or the caller's own where it hands none.
 ghost use mathlib.Core.Path.{_≡_};
 ghost use Rattle.wheel.specs.Answers.{timedClock, scheduledClock, pulledClock};
+ghost use Rattle.story.specs.Held.{held, later};
+use crate::held::Held;
 use records::Clock;
 use wheel::Pulled;
 use wheel::Scheduled;
@@ -47,4 +49,14 @@ pub fn after_pull(clock: Clock, answer: Pulled) -> Clock
         Pulled::End(then) => then,
         Pulled::Refused(_) => clock,
     }
+}
+
+// The records with the clock that the answer hands back, of a call that changes nothing else.
+pub fn clocked(s: Held, answer: Timed) -> Held
+    ensures { λ r. ⌜ held r ≡ later s (timedClock (s .clock) answer) ⌝ }
+{
+    let clock = after_timed(s.clock, answer);
+    let mut after = s;
+    after.clock = clock;
+    after
 }

@@ -1,5 +1,4 @@
 -- `abandon` keeps the wheel's promise.
-use Rattle.story.proofs.Timing.{with-clock}
 use borrow.Author.Needs.{needs}
 use Rattle.story.proofs.calls.abandon.Statement.{statement}
 use Rattle.story.proofs.calls.abandon.Tie as tie
@@ -40,11 +39,8 @@ slice-aggregate-abandon-11 c = search needs
 abandon-requires : tie.Need-abandon-requires
 abandon-requires c κs = search needs
 
-after-timed-requires : tie.Need-after-timed-requires
-after-timed-requires c κs = search needs
-
 returns : tie.Need-returns
-returns c = with-clock _ _ _ _ _ _ _ _ _ _ (c .after-timed .ensures) (c .before .abandon .ensures .meets)
+returns c = c .abandon .ensures .meets
 
 pub abandon-spec : {M : Type 1} → statement M
 abandon-spec =
@@ -62,5 +58,4 @@ abandon-spec =
     slice-aggregate-abandon-10
     slice-aggregate-abandon-11
     abandon-requires
-    after-timed-requires
     returns)

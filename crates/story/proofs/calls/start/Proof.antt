@@ -1,5 +1,4 @@
 -- `start` keeps the wheel's promise.
-use Rattle.story.proofs.Timing.{with-clock}
 use borrow.Author.Needs.{needs}
 use Rattle.story.proofs.calls.start.Statement.{statement}
 use Rattle.story.proofs.calls.start.Tie as tie
@@ -40,11 +39,8 @@ slice-aggregate-start-11 c = search needs
 start-requires : tie.Need-start-requires
 start-requires c κs = search needs
 
-after-timed-requires : tie.Need-after-timed-requires
-after-timed-requires c κs = search needs
-
 returns : tie.Need-returns
-returns c = with-clock _ _ _ _ _ _ _ _ _ _ (c .after-timed .ensures) (c .before .start .ensures .meets)
+returns c = c .start .ensures .meets
 
 pub start-spec : {M : Type 1} → statement M
 start-spec =
@@ -62,5 +58,4 @@ start-spec =
     slice-aggregate-start-10
     slice-aggregate-start-11
     start-requires
-    after-timed-requires
     returns)
