@@ -1,6 +1,6 @@
 //! The two functions on plain numbers.
 
-#[link(name = "place", kind = "static")]
+#[link(name = "wheel_timers", kind = "static")]
 extern "C" {
     fn wheel_place(reading: u64, deadline: u64) -> u64;
 }

@@ -139,17 +139,13 @@ mod kind {
 }
 
 // A slice of the Rattle side is two parameters here, its address and its length. A parameter of a mutable slice is `*mut`. The answer's five numbers are an address alone.
-#[link(name = "exports_making", kind = "static")]
+#[link(name = "exports", kind = "static")]
 extern "C" {
     fn wheel_create(first: u64) -> Created;
     fn wheel_enable(
         nodes: *mut Node, n: usize, clock: *mut Clock, heads: *mut usize, h: usize, tails: *mut usize, t: usize,
         dated: *mut bool, d: usize, deadline: *mut u64, l: usize, stamp: *mut u32, s: usize, answer: &mut Told,
     ) -> u64;
-}
-
-#[link(name = "exports_asking", kind = "static")]
-extern "C" {
     fn wheel_set_entry(
         nodes: *const Node, n: usize, clock: Clock, heads: *const usize, h: usize, tails: *const usize, t: usize,
         dated: *mut bool, d: usize, deadline: *mut u64, l: usize, stamp: *mut u32, s: usize, entry: usize, has: bool,
@@ -163,10 +159,6 @@ extern "C" {
         nodes: *const Node, n: usize, clock: Clock, heads: *const usize, h: usize, tails: *const usize, t: usize,
         dated: *const bool, d: usize, deadline: *const u64, l: usize, stamp: *const u32, s: usize, answer: &mut Told,
     ) -> u64;
-}
-
-#[link(name = "exports_arming", kind = "static")]
-extern "C" {
     fn wheel_schedule(
         nodes: *mut Node, n: usize, clock: *mut Clock, heads: *mut usize, h: usize, tails: *mut usize, t: usize,
         dated: *const bool, d: usize, deadline: *const u64, l: usize, stamp: *const u32, s: usize, entry: usize,
@@ -182,10 +174,6 @@ extern "C" {
         dated: *const bool, d: usize, deadline: *const u64, l: usize, stamp: *const u32, s: usize, slot: usize,
         serial: u64, generation: u32, answer: &mut Told,
     ) -> u64;
-}
-
-#[link(name = "exports_advancing", kind = "static")]
-extern "C" {
     fn wheel_start(
         nodes: *const Node, n: usize, clock: *mut Clock, heads: *const usize, h: usize, tails: *const usize, t: usize,
         dated: *const bool, d: usize, deadline: *const u64, l: usize, stamp: *const u32, s: usize, reading: u64,
