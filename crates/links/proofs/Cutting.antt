@@ -61,12 +61,15 @@ module _ (a : Links) (v : Lists) (loose : List ℕ) (s : ℕ) (r : Rep a v loose
   elsewhere y w x h n e = n (ap (homeOf a) e ∙ r .member d y hd (w (λ k. omega (arith, h, r .small, e, k))) .1)
 
   home-s : homeOf b s ≡ none
+  unfolding cutOut
   home-s = getD-set-same (a .home) s none 0 (rw (r .home-len) s-slot)
 
   home-x : (x : ℕ) → (x ≡ s → ⊥) → homeOf b x ≡ homeOf a x
+  unfolding cutOut
   home-x x n = getD-set-other (a .home) s x none 0 n
 
   pub cut-local : Local a b d s
+  unfolding cutOut
   cut-local =
       record {
         heads-len = length-endAt (a .heads) d p q;
@@ -82,6 +85,7 @@ module _ (a : Links) (v : Lists) (loose : List ℕ) (s : ℕ) (r : Rep a v loose
       }
 
   linked : Chain none (step (b .heads) (b .next) d) (step (b .tails) (b .prev) d) none (remove s (deq v d))
+  unfolding cutOut
   linked =
       cut none f g _ _ s
       (rw (g-s, f-s) (put-at (a .heads) (a .next) d p q (rw (r .heads-len) hd) (λ n. rw (r .next-len) (r .member d p hd (p-in n) .0))))
@@ -147,6 +151,7 @@ module _ (a : Links) (s : ℕ) (k : Held a s) where
 
   -- what `unlink` ensures
   pub cut-does : (h n t p : List ℕ) → h ≡ endAt (a .heads) (homeOf a s) (getD (a .prev) s 0) (getD (a .next) s 0) → n ≡ set (a .next) (getD (a .prev) s 0) (getD (a .next) s 0) → t ≡ endAt (a .tails) (homeOf a s) (getD (a .next) s 0) (getD (a .prev) s 0) → p ≡ set (a .prev) (getD (a .next) s 0) (getD (a .prev) s 0) → CutsOut a (links h t n p (set (a .home) s none)) s
+  unfolding cutOut
   cut-does h n t p i j v w =
       record {
         is = rw (i, j, v, w) refl;

@@ -22,5 +22,10 @@ pub use Rattle.links.proofs.Swap.{slot-real, deq-once}
 pub use Rattle.links.proofs.Unique.{each-len, each-at, deq-is, free-is, listed-is, whole-listed}
 -- ---- for a test that looks at more of each deque: deques walked one after another, and what the counts say at the end
 pub use Rattle.links.proofs.Judging.{Upto, begin, more, no-walk, no-walk-free, walk-counts, too-few, is-whole}
--- ---- ends that are written
-pub use Rattle.links.proofs.Arrays.{length-endAt}
+-- ---- what the calls write, record by record
+-- the homes after each call
+pub use Rattle.links.proofs.Fields.{home-linked, home-removed, home-moved, home-turned}
+-- a slot linked at the back: the ends and its links, for a deque that was empty all of them
+pub use Rattle.links.proofs.Fields.{heads-long, next-long, tails-linked, prev-linked, heads-alone, next-alone}
+-- records laid out
+pub use Rattle.links.proofs.Fields.{fresh-heads, fresh-tails, fresh-prev, fresh-home, fresh-next-len, fresh-chained}

@@ -107,7 +107,7 @@ string-goes n₀ p₀ o₀ n p o s free e l k =
           (same? x (s - 1));
     }
 
-length-nexts : (xs : List ℕ) → length (nexts xs) ≡ length xs
+pub length-nexts : (xs : List ℕ) → length (nexts xs) ≡ length xs
 length-nexts [] = refl
 length-nexts (x ∷ xs) = ap suc (length-nexts xs)
 
@@ -133,12 +133,13 @@ string-ends n₀ p₀ o₀ n p o s free e l k =
     }
 
 -- ---- lay_out
-path-up : (n k i : ℕ) → i + k ≡ n → Path (λ (x : ℕ). getD (nexts (upFrom n 0)) x 0) (upFrom k i)
+pub path-up : (n k i : ℕ) → i + k ≡ n → Path (λ (x : ℕ). getD (nexts (upFrom n 0)) x 0) (upFrom k i)
 path-up n zero i e = tt
 path-up n (suc k) i e =
     (nexts-at n 0 i (omega (arith, e)) ∙ first-same (n - suc i) k (0 + suc i) (suc i) (omega (arith, e)) (omega arith), path-up n k (suc i) (omega (arith, e)))
 
 pub fresh-rep : (c n : ℕ) → c ≤ none → n ≤ none → Rep (fresh c n) (allFree c n) []
+unfolding fresh
 fresh-rep c n f s =
     let empty : (d : ℕ) → d < c → deq (allFree c n) d ≡ [] = λ d h. getD-replicate c d [] [] h in
     let homes : (x : ℕ) → x < n → homeOf (fresh c n) x ≡ none = λ x h. getD-replicate n x none 0 h in
@@ -162,6 +163,7 @@ fresh-rep c n f s =
     }
 
 pub lay-does : (a : Links) (h t n p o : List ℕ) (r : ℕ) → Sizes a → Empties (a .heads) h t → Strings (a .next) n p o r → LaysOut a (links h t n p o) r
+unfolding fresh
 lay-does a h t n p o r z e s =
     record {
       is = rw (e .heads-is, e .tails-is, s .next-is, s .prev-is, s .home-is) refl;

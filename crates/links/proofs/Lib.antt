@@ -14,4 +14,5 @@ pub mod Judging
 pub mod Unique
 pub mod Members
 pub mod TurnRule
+pub mod Fields
 pub mod Laws

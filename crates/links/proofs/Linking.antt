@@ -48,12 +48,15 @@ module _ (a : Links) (v : Lists) (loose : List ℕ) (d s : ℕ) (r : Rep a v (s 
   s-not-t e = not-s t (t-in (λ i. s-real (e ∙ i))) (sym e)
 
   home-s : homeOf b s ≡ d
+  unfolding linkBack
   home-s = getD-set-same (a .home) s d 0 (rw (r .home-len) s-slot)
 
   home-x : (x : ℕ) → (x ≡ s → ⊥) → homeOf b x ≡ homeOf a x
+  unfolding linkBack
   home-x x n = getD-set-other (a .home) s x d 0 n
 
   pub link-local : Local a b d s
+  unfolding linkBack
   link-local =
       record {
         heads-len = length-endAt (a .heads) d t s;
@@ -71,6 +74,7 @@ module _ (a : Links) (v : Lists) (loose : List ℕ) (d s : ℕ) (r : Rep a v (s 
       }
 
   linked : Chain none (step (b .heads) (b .next) d) (step (b .tails) (b .prev) d) none (deq v d ++ (s ∷ []))
+  unfolding linkBack
   linked =
       snoc none (step (a .heads) (a .next) d) (step (a .tails) (a .prev) d) _ _ s
       (put-at (a .heads) (set (a .next) s none) d t s (rw (r .heads-len) hd) (λ n. simp (length-set, r .next-len) (r .member d t hd (t-in n) .0)))
@@ -129,6 +133,7 @@ link-asks a d s l =
 
 -- what `link_back` ensures
 pub link-does : (a : Links) (d s : ℕ) (h n : List ℕ) → Linkable a d s → h ≡ endAt (a .heads) d (getD (a .tails) d 0) s → n ≡ set (set (a .next) s none) (getD (a .tails) d 0) s → LinksBack a (links h (set (a .tails) d s) n (set (a .prev) s (getD (a .tails) d 0)) (set (a .home) s d)) d s
+unfolding linkBack
 link-does a d s h n l p q =
     record {
       is = rw (p, q) refl;

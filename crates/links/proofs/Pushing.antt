@@ -19,10 +19,12 @@ push-rep a v free d r f l h =
 
 pub remove-rep : (a : Links) (v : Lists) (free s : ℕ) → Rep a v [] → first (v .free) ≡ free → s < v .slots → (homeOf a s ≡ none → ⊥)
     → Rep (removed a free s) (freed s (takeOut (homeOf a s) s v)) []
+unfolding removed handBack
 remove-rep a v free s r f l h = give-rep _ _ _ _ _ (takeOut (homeOf a s) s v) [] s free none (cut-rep a v [] s r l h) f
 
 pub move-rep : (a : Links) (v : Lists) (loose : List ℕ) (d s : ℕ) → Rep a v loose → s < v .slots → (homeOf a s ≡ none → ⊥) → d < v .count
     → Rep (moveBack a d s) (pushBack d s (takeOut (homeOf a s) s v)) loose
+unfolding moveBack
 move-rep a v loose d s r l h k = link-rep (cutOut a s) (takeOut (homeOf a s) s v) loose d s (cut-rep a v loose s r l h) k
 
 -- ---- push: what it asks of its second step, and what both come to
@@ -37,6 +39,7 @@ module _ (h t n p o : List ℕ) (free d r : ℕ) (k : Takes n free r) where
 -- ---- remove
 module _ (h t n p o h′ t′ n′ p′ o′ : List ℕ) (s : ℕ) (k : CutsOut (links h t n p o) (links h′ t′ n′ p′ o′) s) where
   pub remove-does : (n″ p″ : List ℕ) (free : ℕ) → GivesBack n′ p′ n″ p″ s free → Removes (links h t n p o) (links h′ t′ n″ p″ o′) free s
+  unfolding removed handBack
   remove-does n″ p″ free g =
       record {
         is = rw (g .next-is, g .prev-is) (ap (λ (z : Links). handBack z s free) (k .is));

@@ -112,6 +112,7 @@ module _ (a : Links) (v : Lists) (loose : List ℕ) (d : ℕ) (r : Rep a v loose
   front-rep = subst (λ (w : Lists). Rep (linkBack (cutOut a h) d h) w loose) link-v (link-rep (cutOut a h) (withDeque d ys v) loose d h cut-r hd)
 
   front-kept : Kept a (linkBack (cutOut a h) d h) d
+  unfolding linkBack cutOut
   front-kept =
       let k : Local a (cutOut a h) d h = subst (λ (y : ℕ). Local a (cutOut a h) y h) h-home (cut-local a v loose h r h-slot h-held) in
       let l : Local (cutOut a h) (linkBack (cutOut a h) d h) d h = link-local (cutOut a h) (withDeque d ys v) loose d h cut-r hd in
@@ -196,6 +197,7 @@ turn-kept a v loose d s r l hd i n =
 
 -- the splice is the rule, however long the rule may take from as many steps on as the deque has slots
 pub turn-is-rule : (a : Links) (v : Lists) (loose : List ℕ) (d s k : ℕ) → Rep a v loose → s < v .slots → d < v .count → homeOf a s ≡ d → length (deq v d) ≤ k → turnTo a d s ≡ untilLast k a d s
+unfolding turnTo
 turn-is-rule a v loose d s k r l hd i f = go (after s (deq v d)) refl
   where
     s-in : In s (deq v d)

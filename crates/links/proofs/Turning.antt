@@ -280,6 +280,7 @@ module _ (a : Links) (d s : ℕ) (k : HeldBy a d s) where
   slots-same v loose r = (omega (arith, r .home-len, k .rep .home-len, k .slot), omega (arith, r .heads-len, k .rep .heads-len, k .deque))
 
   pub turn-stays : length (a .next) ≤ getD (a .next) s 0 → Turns a a d s
+  unfolding turnTo
   turn-stays l =
       let e : getD (a .next) s 0 ≡ none =
       ⊎-elim (λ i. i)
@@ -293,6 +294,7 @@ module _ (a : Links) (d s : ℕ) (k : HeldBy a d s) where
       }
 
   pub turn-does : getD (a .next) s 0 < length (a .next) → Turns a (turnNow a d s (getD (a .next) s 0)) d s
+  unfolding turnTo
   turn-does l =
       let n : getD (a .next) s 0 ≡ none → ⊥ = λ e. omega (arith, l, e, k .rep .next-len, k .rep .small) in
       record {

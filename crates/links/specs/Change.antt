@@ -24,13 +24,13 @@ pub record CanPut (ends next : List ℕ) (d p : ℕ) : Type 0 where
   pub small : length next ≤ none
 
 -- s is linked at the back of the deque d, after the old tail
-abbrev pub linkBack : Links → ℕ → ℕ → Links
+unfoldable pub linkBack : Links → ℕ → ℕ → Links
 linkBack a d s =
     let t = getD (a .tails) d 0 in
     links (endAt (a .heads) d t s) (set (a .tails) d s) (set (set (a .next) s none) t s) (set (a .prev) s t) (set (a .home) s d)
 
 -- s is taken out of its deque: what stood before it and what stood after it are neighbours now. Its own next and prev stay as they are
-abbrev pub cutOut : Links → ℕ → Links
+unfoldable pub cutOut : Links → ℕ → Links
 cutOut a s =
     let d = homeOf a s in
     let p = getD (a .prev) s 0 in
@@ -38,11 +38,11 @@ cutOut a s =
     links (endAt (a .heads) d p q) (endAt (a .tails) d q p) (set (a .next) p q) (set (a .prev) q p) (set (a .home) s none)
 
 -- s is taken out of its deque and handed back, where free was the first free slot
-abbrev pub removed : Links → ℕ → ℕ → Links
+unfoldable pub removed : Links → ℕ → ℕ → Links
 removed a free s = handBack (cutOut a s) s free
 
 -- s is moved to the back of the deque d, from whichever deque it is in
-abbrev pub moveBack : Links → ℕ → ℕ → Links
+unfoldable pub moveBack : Links → ℕ → ℕ → Links
 moveBack a d s = linkBack (cutOut a s) d s
 
 -- the deque d is turned until s is last, in one splice: the old tail is followed by the old head, and the slot after s is the head
@@ -53,7 +53,7 @@ turnNow a d s q =
     links (set (a .heads) d q) (set (a .tails) d s) (set (set (a .next) t h) s none) (set (set (a .prev) h t) q none) (a .home)
 
 -- nothing is written where s is last already
-abbrev pub turnTo : Links → ℕ → ℕ → Links
+unfoldable pub turnTo : Links → ℕ → ℕ → Links
 turnTo a d s = let q = getD (a .next) s 0 in cond (eqb q none) a (turnNow a d s q)
 
 -- ---- what the functions ask

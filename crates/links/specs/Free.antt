@@ -12,7 +12,7 @@ pub record Takes (next : List ℕ) (free r : ℕ) : Type 0 where
   pub does : (h t p o : List ℕ) (v : Lists) (loose : List ℕ) → Rep (links h t next p o) v loose → first (v .free) ≡ free → Rep (links h t next p o) (taken v) (free ∷ loose) × (first (taken v .free) ≡ r) × (v .free ≡ free ∷ (taken v .free))
 
 -- what giving the slot s back writes, where free was the first free slot
-abbrev pub handBack : Links → ℕ → ℕ → Links
+unfoldable pub handBack : Links → ℕ → ℕ → Links
 handBack a s free = links (a .heads) (a .tails) (set (a .next) s free) (set (a .prev) s none) (a .home)
 
 -- the loose slot s is the first free one: its next is the former first, its prev none (its home is none already)

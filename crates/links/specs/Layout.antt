@@ -12,7 +12,7 @@ nexts [] = []
 nexts (x ∷ xs) = first xs ∷ nexts xs
 
 -- the records of c empty deques over n free slots
-abbrev pub fresh : ℕ → ℕ → Links
+unfoldable pub fresh : ℕ → ℕ → Links
 fresh c n = links (replicate c none) (replicate c none) (nexts (upFrom n 0)) (replicate n none) (replicate n none)
 
 -- the lent slices have the lengths of deques and slots

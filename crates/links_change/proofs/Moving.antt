@@ -27,6 +27,7 @@ pub move-asks-2 : (a b : Links) (d s : ℕ) → Movable a d s → CutsOut a b s 
 move-asks-2 a b d s k u = record { v = _; loose = k .loose; rep = u .does (k .v) (k .loose) (k .rep); slot = k .slot; deque = k .deque }
 
 pub move-does : (a b c : Links) (d s : ℕ) → CutsOut a b s → LinksBack b c d s → MovesBack a c d s
+unfolding moveBack
 move-does a b c d s u l =
     record { is = l .is ∙ ap (λ (x : Links). linkBack x d s) (u .is); does = λ v loose r. l .does _ loose (u .does v loose r) }
 
@@ -84,6 +85,7 @@ module _ (h t n p o : List ℕ) (d s : ℕ) (k : Ahead (links h t n p o) d s) wh
   home-stays = simp set-set (rw (sym (k .held .homed)) (set-getD o s 0))
 
   pub send-does : (h′ n′ : List ℕ) → h′ ≡ endAt h d (getD p s 0) (getD n s 0) → n′ ≡ set n (getD p s 0) (getD n s 0) → MovesBack (links h t n p o) (links h′ (set t d s) (set (set n′ s none) (getD t d 0) s) (set (set p (getD n s 0) (getD p s 0)) s (getD t d 0)) o) d s
+  unfolding moveBack linkBack cutOut
   send-does h′ n′ i j =
       let e : links h′ (set t d s) (set (set n′ s none) (getD t d 0) s) (set (set p (getD n s 0) (getD p s 0)) s (getD t d 0)) o ≡ moveBack a d s =
       rw (i, j) (simp (k .held .homed, ne-eqb q none followed, ne-eqb (getD t d 0) none tail-real, home-stays)) in

@@ -9,6 +9,7 @@ use lib.ListN.{length, getD, set, length-set}
 use lib.Dec.{leb, ltb}
 use borrow.Author.Tests.{ltb-true, le-leb, lt-leb}
 use Rattle.links.specs.Lists.{Links, homeOf}
+use Rattle.links.proofs.Laws.{home-removed}
 use Rattle.rules.specs.Geometry.{Geometry, wheel01, buckets}
 use Rattle.rules.specs.Place.{bucketOf, placeOf}
 use Rattle.rules.specs.Lists.{Node, Lists, placedIn, unlink, link, release, pop}
@@ -173,7 +174,7 @@ module _ (N : Nodes) (t : List Bool) (d : List ℕ) (c : Clock) (x : ℕ) (y : P
           less = λ i.
               let s = y .turn .ready .shows in
               let o = y .turn .ready .sound in
-              let eh : N′ .links .home ≡ set (N .links .home) x nowhere = ap (λ (M : Nodes). M .links .home) (z .is) in
+              let eh : N′ .links .home ≡ set (N .links .home) x nowhere = ap (λ (M : Nodes). M .links .home) (z .is) ∙ home-removed (N .links) (c .free) x in
               let hl : length (N .links .home) ≡ w₀ .nodes = s .rep .home-len ∙ s .slots in
               let q : armedAmong D (N .links .home) (length (N .links .home)) ≡ suc (armedAmong D (set (N .links .home) x nowhere) (length (N .links .home))) =
               fewer D (N .links .home) x nowhere (past (y .turn .ages) w₀ s o) (homed (y .turn .ages) w₀ s o) (omega (arith, s .rep .few, s .count))

@@ -15,9 +15,8 @@ use lib.Dec.{ltb}
 use borrow.Author.Tests.{lt-ltb, le-ltb}
 use Rattle.links.specs.Chain.{none, Path, first, upFrom}
 use Rattle.links.specs.Lists.{Links, Rep, allFree}
-use Rattle.links.specs.Change.{endAt}
 use Rattle.links.specs.Layout.{fresh}
-use Rattle.links.proofs.Laws.{length-endAt, fresh-rep, push-rep}
+use Rattle.links.proofs.Laws.{push-rep, fresh-rep, home-linked, heads-long, next-long, tails-linked, prev-linked, heads-alone, next-alone, fresh-heads, fresh-tails, fresh-prev, fresh-home, fresh-next-len, fresh-chained}
 use Rattle.numbers.proofs.Counting.{length-up}
 use Rattle.rules.specs.Geometry.{wheel01, buckets}
 use Rattle.rules.specs.Wheel.{enable}
@@ -62,107 +61,110 @@ path-at f n i p l =
     rw (le-ltb (suc i) n h) (ap f (sym z) ∙ path-last f 0 i (subst (λ (k : ℕ). Path f (upFrom k 0)) e p)))
     (below? (suc i) n)
 
+at : {l m : List ℕ} (i : ℕ) → l ≡ m → getD l i 0 ≡ getD m i 0
+at i e = ap (λ (l : List ℕ). getD l i 0) e
+
 -- ---- the sentinels below k are linked
 module _ (D n : ℕ) where
   abbrev Bare : ℕ → Links
   Bare k = seated k (fresh D n)
 
-  heads-long : (k : ℕ) → length (Bare k .heads) ≡ D
-  heads-long zero = length-replicate D none
-  heads-long (suc k) = length-endAt (Bare k .heads) k (getD (Bare k .tails) k 0) k ∙ heads-long k
+  heads-length : (k : ℕ) → length (Bare k .heads) ≡ D
+  heads-length zero = ap length (fresh-heads D n) ∙ length-replicate D none
+  heads-length (suc k) = heads-long (Bare k) k k ∙ heads-length k
 
-  tails-long : (k : ℕ) → length (Bare k .tails) ≡ D
-  tails-long zero = length-replicate D none
-  tails-long (suc k) = length-set (Bare k .tails) k k ∙ tails-long k
+  tails-length : (k : ℕ) → length (Bare k .tails) ≡ D
+  tails-length zero = ap length (fresh-tails D n) ∙ length-replicate D none
+  tails-length (suc k) = ap length (tails-linked (Bare k) k k) ∙ length-set (Bare k .tails) k k ∙ tails-length k
 
   -- a bucket that is still empty has no tail
   tail-none : (k b : ℕ) → k ≤ b → b < D → getD (Bare k .tails) b 0 ≡ none
-  tail-none zero b h l = getD-replicate D b none 0 l
-  tail-none (suc k) b h l = getD-set-other (Bare k .tails) k b k 0 (λ e. omega arith) ∙ tail-none k b (omega arith) l
+  tail-none zero b h l = at b (fresh-tails D n) ∙ getD-replicate D b none 0 l
+  tail-none (suc k) b h l =
+      at b (tails-linked (Bare k) k k) ∙ getD-set-other (Bare k .tails) k b k 0 (λ e. omega arith) ∙ tail-none k b (omega arith) l
 
   tail-is : (k b : ℕ) → k ≤ D → b < k → getD (Bare k .tails) b 0 ≡ b
   tail-is zero b h l = absurd (omega arith)
   tail-is (suc k) b h l =
-      ⊎-elim
-      (λ (e : b ≡ k). rw e (getD-set-same (Bare k .tails) k k 0 (omega (arith, tails-long k))))
+      at b (tails-linked (Bare k) k k)
+      ∙ ⊎-elim
+      (λ (e : b ≡ k). rw e (getD-set-same (Bare k .tails) k k 0 (omega (arith, tails-length k))))
       (λ (ne : b ≡ k → ⊥). getD-set-other (Bare k .tails) k b k 0 ne ∙ tail-is k b (omega arith) (omega (arith, ne)))
       (same? b k)
 
   -- so its head is written
-  head-set : (k : ℕ) → k < D → Bare (suc k) .heads ≡ set (Bare k .heads) k k
-  head-set k h = ap (λ (t : ℕ). endAt (Bare k .heads) k t k) (tail-none k k (omega arith) h)
-
   head-is : (k b : ℕ) → k ≤ D → b < k → getD (Bare k .heads) b 0 ≡ b
   head-is zero b h l = absurd (omega arith)
   head-is (suc k) b h l =
-      ap (λ (xs : List ℕ). getD xs b 0) (head-set k (omega arith))
+      at b (heads-alone (Bare k) k k (tail-none k k (omega arith) (omega arith)))
       ∙ ⊎-elim
-      (λ (e : b ≡ k). rw e (getD-set-same (Bare k .heads) k k 0 (omega (arith, heads-long k))))
+      (λ (e : b ≡ k). rw e (getD-set-same (Bare k .heads) k k 0 (omega (arith, heads-length k))))
       (λ (ne : b ≡ k → ⊥). getD-set-other (Bare k .heads) k b k 0 ne ∙ head-is k b (omega arith) (omega (arith, ne)))
       (same? b k)
 
   pub bare-heads : bareLinks D n .heads ≡ upFrom D 0
-  bare-heads = numbered (Bare D .heads) D (heads-long D) (λ i h. head-is D i (omega arith) h)
+  bare-heads = numbered (Bare D .heads) D (heads-length D) (λ i h. head-is D i (omega arith) h)
 
   pub bare-tails : bareLinks D n .tails ≡ upFrom D 0
-  bare-tails = numbered (Bare D .tails) D (tails-long D) (λ i h. tail-is D i (omega arith) h)
+  bare-tails = numbered (Bare D .tails) D (tails-length D) (λ i h. tail-is D i (omega arith) h)
 
   -- ---- the slots
-  next-long : (k : ℕ) → n ≤ none → length (Bare k .next) ≡ n
-  next-long zero s = fresh-rep 0 n (omega arith) s .next-len
-  next-long (suc k) s = length-set (set (Bare k .next) k none) (getD (Bare k .tails) k 0) k ∙ length-set (Bare k .next) k none ∙ next-long k s
+  next-length : (k : ℕ) → length (Bare k .next) ≡ n
+  next-length zero = fresh-next-len D n
+  next-length (suc k) = next-long (Bare k) k k ∙ next-length k
 
-  prev-long : (k : ℕ) → length (Bare k .prev) ≡ n
-  prev-long zero = length-replicate n none
-  prev-long (suc k) = length-set (Bare k .prev) k (getD (Bare k .tails) k 0) ∙ prev-long k
+  prev-length : (k : ℕ) → length (Bare k .prev) ≡ n
+  prev-length zero = ap length (fresh-prev D n) ∙ length-replicate n none
+  prev-length (suc k) = ap length (prev-linked (Bare k) k k) ∙ length-set (Bare k .prev) k (getD (Bare k .tails) k 0) ∙ prev-length k
 
-  home-long : (k : ℕ) → length (Bare k .home) ≡ n
-  home-long zero = length-replicate n none
-  home-long (suc k) = length-set (Bare k .home) k k ∙ home-long k
+  home-length : (k : ℕ) → length (Bare k .home) ≡ n
+  home-length zero = ap length (fresh-home D n) ∙ length-replicate n none
+  home-length (suc k) = ap length (home-linked (Bare k) k k) ∙ length-set (Bare k .home) k k ∙ home-length k
 
   prev-is : (k i : ℕ) → k ≤ D → i < n → getD (Bare k .prev) i 0 ≡ none
-  prev-is zero i h l = getD-replicate n i none 0 l
+  prev-is zero i h l = at i (fresh-prev D n) ∙ getD-replicate n i none 0 l
   prev-is (suc k) i h l =
-      ⊎-elim
+      at i (prev-linked (Bare k) k k)
+      ∙ ⊎-elim
       (λ (e : i ≡ k).
-      rw e (getD-set-same (Bare k .prev) k (getD (Bare k .tails) k 0) 0 (omega (arith, prev-long k, e)) ∙ tail-none k k (omega arith) (omega arith)))
+      rw e (getD-set-same (Bare k .prev) k (getD (Bare k .tails) k 0) 0 (omega (arith, prev-length k, e)) ∙ tail-none k k (omega arith) (omega arith)))
       (λ (ne : i ≡ k → ⊥). getD-set-other (Bare k .prev) k i (getD (Bare k .tails) k 0) 0 ne ∙ prev-is k i (omega arith) l)
       (same? i k)
 
   home-none : (k i : ℕ) → k ≤ i → i < n → getD (Bare k .home) i 0 ≡ none
-  home-none zero i h l = getD-replicate n i none 0 l
-  home-none (suc k) i h l = getD-set-other (Bare k .home) k i k 0 (λ e. omega arith) ∙ home-none k i (omega arith) l
+  home-none zero i h l = at i (fresh-home D n) ∙ getD-replicate n i none 0 l
+  home-none (suc k) i h l = at i (home-linked (Bare k) k k) ∙ getD-set-other (Bare k .home) k i k 0 (λ e. omega arith) ∙ home-none k i (omega arith) l
 
   home-is : (k i : ℕ) → i < k → i < n → getD (Bare k .home) i 0 ≡ i
   home-is zero i h l = absurd (omega arith)
   home-is (suc k) i h l =
-      ⊎-elim
-      (λ (e : i ≡ k). rw e (getD-set-same (Bare k .home) k k 0 (omega (arith, home-long k, e))))
+      at i (home-linked (Bare k) k k)
+      ∙ ⊎-elim
+      (λ (e : i ≡ k). rw e (getD-set-same (Bare k .home) k k 0 (omega (arith, home-length k, e))))
       (λ (ne : i ≡ k → ⊥). getD-set-other (Bare k .home) k i k 0 ne ∙ home-is k i (omega (arith, ne)) l)
       (same? i k)
 
   module _ (small : n ≤ none) where
-    -- the tail that is none has no place in next
-    beside : (k i : ℕ) → k < D → i < n → getD (Bare (suc k) .next) i 0 ≡ getD (set (Bare k .next) k none) i 0
-    beside k i h l =
-        getD-set-other (set (Bare k .next) k none) (getD (Bare k .tails) k 0) i k 0 (λ e. omega (arith, e, tail-none k k (omega arith) h, small))
+    -- an empty bucket's sentinel is followed by none
+    beside : (k i : ℕ) → k < D → getD (Bare (suc k) .next) i 0 ≡ getD (set (Bare k .next) k none) i 0
+    beside k i h = at i (next-alone (Bare k) k k (tail-none k k (omega arith) h) (omega (arith, next-length k, small)))
 
     next-none : (k i : ℕ) → k ≤ D → i < k → i < n → getD (Bare k .next) i 0 ≡ none
     next-none zero i h j l = absurd (omega arith)
     next-none (suc k) i h j l =
-        beside k i (omega arith) l
+        beside k i (omega arith)
         ∙ ⊎-elim
-        (λ (e : i ≡ k). rw e (getD-set-same (Bare k .next) k none 0 (omega (arith, next-long k small, e))))
+        (λ (e : i ≡ k). rw e (getD-set-same (Bare k .next) k none 0 (omega (arith, next-length k, e))))
         (λ (ne : i ≡ k → ⊥). getD-set-other (Bare k .next) k i none 0 ne ∙ next-none k i (omega arith) (omega (arith, ne)) l)
         (same? i k)
 
     next-is : (k i : ℕ) → k ≤ D → k ≤ i → i < n → getD (Bare k .next) i 0 ≡ cond (ltb (suc i) n) (suc i) none
-    next-is zero i h j l = path-at (λ (x : ℕ). getD (fresh D n .next) x 0) n i (fresh-rep 0 n (omega arith) small .chained) l
+    next-is zero i h j l = path-at (λ (x : ℕ). getD (fresh D n .next) x 0) n i (fresh-chained D n) l
     next-is (suc k) i h j l =
-        beside k i (omega arith) l ∙ getD-set-other (Bare k .next) k i none 0 (λ e. omega arith) ∙ next-is k i (omega arith) (omega arith) l
+        beside k i (omega arith) ∙ getD-set-other (Bare k .next) k i none 0 (λ e. omega arith) ∙ next-is k i (omega arith) (omega arith) l
 
     pub bare-next-len : length (bareLinks D n .next) ≡ n
-    bare-next-len = next-long D small
+    bare-next-len = next-length D
 
     pub bare-next-at : (i : ℕ) → i < n → getD (bareLinks D n .next) i 0 ≡ cond (ltb i D) none (cond (ltb (suc i) n) (suc i) none)
     bare-next-at i l =
@@ -172,13 +174,13 @@ module _ (D n : ℕ) where
         (below? i D)
 
   pub bare-prev-len : length (bareLinks D n .prev) ≡ n
-  bare-prev-len = prev-long D
+  bare-prev-len = prev-length D
 
   pub bare-prev-at : (i : ℕ) → i < n → getD (bareLinks D n .prev) i 0 ≡ none
   bare-prev-at i l = prev-is D i (omega arith) l
 
   pub bare-home-len : length (bareLinks D n .home) ≡ n
-  bare-home-len = home-long D
+  bare-home-len = home-length D
 
   pub bare-home-at : (i : ℕ) → i < n → getD (bareLinks D n .home) i 0 ≡ cond (ltb i D) i none
   bare-home-at i l =

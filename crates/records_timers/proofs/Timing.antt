@@ -12,6 +12,7 @@ use Rattle.links.specs.Chain.{none as nowhere}
 use Rattle.links.specs.Lists.{Links, links, homeOf, Rep}
 use Rattle.links.specs.Lists.{Lists as Held, pushBack, takeOut, taken as takenFree, freed as freedSlot}
 use Rattle.links.specs.Change.{linkBack, removed, moveBack, Pushable, PushesBack, Held as HeldSlot, Removes, Movable, MovesBack}
+use Rattle.links.proofs.Laws.{home-linked, home-removed, home-moved}
 use Rattle.rules.specs.Geometry.{Geometry, wheel01, buckets}
 use Rattle.rules.specs.Place.{bucketOf}
 use Rattle.rules.specs.Lists.{Lists, newNode, placedIn, link, unlink, release, claim}
@@ -68,7 +69,7 @@ module _ (h t n p o e γ s : List ℕ) (c : Clock) (y : ArmReady wheel01 (nodes 
         let eb : b ≡ bucketOf wheel01 (W .reading) d = i .is ∙ ap (λ (m : ℕ). bucketOf wheel01 m d) (z .reading) in
         let td = tied-arm (buckets wheel01) (W .nodes) (W .entries) (W .next) N v (W .lists) (tied wheel01 (records N E c) W z) (q .lists) x (u .0) (u .1)
         (links h′ t′ n′ p′ o′) b i′ j (c .serial) fs (omega (arith, i .is, bucketOf-in wheel01 (c .reading) d)) (r .2) (r .0)
-        (ap (λ (m : Links). m .home) (l .is)) in
+        (ap (λ (m : Links). m .home) (l .is) ∙ home-linked (links h t n p o) b x) in
         let td′ : Tied (buckets wheel01) (W .nodes) N′ (pushBack b x (takenFree v)) (link b x (newNode b i′ j (c .serial)) (claim fs (W .lists))) =
         subst (λ (m : Nodes). Tied (buckets wheel01) (W .nodes) m (pushBack b x (takenFree v)) (link b x (newNode b i′ j (c .serial)) (claim fs (W .lists))))
         (joined refl (sym (w .entry-is)) (sym (w .generation-is)) (sym (w .serial-is))) td in
@@ -124,7 +125,7 @@ module _ (h t n p o e γ s : List ℕ) (c : Clock) (x : ℕ) (y : SlotReady whee
         let v : Held = z .lists in
         let td = tied-free (buckets wheel01) (W .nodes) (W .entries) (W .next) M v (W .lists) (tied wheel01 (records M E c) W z) (q .lists) x
         (past wheel01 M E c W z x (y .after)) (there wheel01 M E c W z x (y .slot)) (alive wheel01 M E c W z x (y .after) (y .slot) (y .armed))
-        (links h′ t′ n′ p′ o′) 0 0 0 (u .does v (z .rep) (z .free-is)) (ap (λ (m : Links). m .home) (u .is)) in
+        (links h′ t′ n′ p′ o′) 0 0 0 (u .does v (z .rep) (z .free-is)) (ap (λ (m : Links). m .home) (u .is) ∙ home-removed (links h t n p o) (c .free) x) in
         let td′ : Tied (buckets wheel01) (W .nodes) M′ (freedSlot x (takeOut (homeOf (links h t n p o) x) x v)) (release x (unlink x (W .lists))) =
         subst (λ (m : Nodes). Tied (buckets wheel01) (W .nodes) m (freedSlot x (takeOut (homeOf (links h t n p o) x) x v)) (release x (unlink x (W .lists))))
         (joined refl (sym (w .entry-is)) (sym (w .generation-is)) (sym (w .serial-is))) td in
@@ -163,7 +164,7 @@ module _ (a : Links) (r x : ℕ) (y : MoveReady wheel01 a r x) (d b : ℕ) (i : 
         let td = tied-move (buckets wheel01) (W .nodes) (W .entries) (W .next) N v (W .lists) (tied wheel01 (records N E c) W z) (q .lists) x
         (past wheel01 N E c W z x (y .ready .after)) (there wheel01 N E c W z x (y .ready .slot))
         (alive wheel01 N E c W z x (y .ready .after) (y .ready .slot) (y .ready .armed)) a′ b (omega (arith, i .is, bucketOf-in wheel01 r d)) (u .does v [] (z .rep))
-        (ap (λ (m : Links). m .home) (u .is)) in
+        (ap (λ (m : Links). m .home) (u .is) ∙ home-moved a b x) in
         let sh : Shows wheel01 (records (join a′ pe ph pn) E c) (withLists (link b x (placedIn b (W .lists .node x)) (unlink x (W .lists))) W) =
         untied-nodes wheel01 N (join a′ pe ph pn) E c W _ _ z td (z .free-is) in
         let at : act wheel01 W (reschedule x n h) ≡ rearmed wheel01 W x (some d) = ap (rearmed wheel01 W x) due in

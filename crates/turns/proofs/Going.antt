@@ -11,8 +11,9 @@ use Rattle.links.specs.Chain.{In}
 use Rattle.links.specs.Chain.{none as nowhere}
 use Rattle.links.specs.Lists.{Links, deq}
 use Rattle.links.specs.Lists.{turn as turnLists}
-use Rattle.links.specs.Change.{turnTo, turnNow, HeldBy, Turns}
+use Rattle.links.specs.Change.{turnTo, HeldBy, Turns}
 use Rattle.numbers.proofs.Members.{app-right, in-same}
+use Rattle.links.proofs.Laws.{home-turned}
 use Rattle.rules.specs.Geometry.{wheel01, buckets}
 use Rattle.rules.specs.Visits.{visitedAt, bucketAt, ahead}
 use Rattle.rules.specs.Lists.{enter}
@@ -39,13 +40,6 @@ use Rattle.turns.specs.Turns.{OnReady, GoesOn}
 use Rattle.popping.proofs.Positions.{Leads, leads, bucketAt-in}
 use Rattle.popping.proofs.Turning.{after}
 use Rattle.popping.proofs.Waiting.{to-sweep}
-
-turn-home : (a : Links) (d s : ℕ) → turnTo a d s .home ≡ a .home
-turn-home a d s = go (eqb (getD (a .next) s 0) nowhere)
-  where
-    go : (b : Bool) → (cond b a (turnNow a d s (getD (a .next) s 0))) .home ≡ a .home
-    go true = refl
-    go false = refl
 
 module _ (a : Links) (c : Clock) (y : OnReady wheel01 a c) (r : Position) (e : r ≡ onward wheel01 (c .previous) (c .reading) (c .level) (c .step)) where
   lead : Leads wheel01 (c .previous) (c .reading) (c .level) (c .step) r
@@ -108,7 +102,7 @@ module _ (a : Links) (c : Clock) (y : OnReady wheel01 a c) (r : Position) (e : r
             let s1 : Shows wheel01 (records (join a′ pe ph pn) E c) (withLists (enter b (w .lists)) w) =
             untied-nodes wheel01 (join a pe ph pn) (join a′ pe ph pn) E c w (turnLists b b (s .lists)) (enter b (w .lists)) s
             (tied-enter (buckets wheel01) (w .nodes) (w .entries) (w .next) (join a pe ph pn) (s .lists) (w .lists) (tied wheel01 (records (join a pe ph pn) E c) w s) (o .lists) b a′ hb
-            (u .does (s .lists) [] (s .rep)) (ap (λ (x : Links). x .home) (u .is) ∙ turn-home a b b)) (s .free-is) in
+            (u .does (s .lists) [] (s .rep)) (ap (λ (x : Links). x .home) (u .is) ∙ home-turned a b b)) (s .free-is) in
             let s2 : Shows wheel01 (records (join a′ pe ph pn) E (standing (r .level) (r .step) c)) (withClock (w .reading) (within p b bs) (withLists (enter b (w .lists)) w)) =
             retimed wheel01 (join a′ pe ph pn) E c (withLists (enter b (w .lists)) w) (c .open) p (r .level) (r .step) (c .reading) (w .reading) (within p b bs) s1 (s .reading)
             (i, y .turn .opened, refl, some .1, some .2, bi, refl) in
@@ -137,7 +131,7 @@ module _ (a : Links) (c : Clock) (y : OnReady wheel01 a c) (r : Position) (e : r
               turn-is = rw f (ap (λ (x : Position). goes (standing (x .level) (x .step) c)) e);
               nears = record {
                 less = λ i.
-                    let h : a′ .home ≡ a .home = ap (λ (x : Links). x .home) (u .is) ∙ turn-home a b b in
+                    let h : a′ .home ≡ a .home = ap (λ (x : Links). x .home) (u .is) ∙ home-turned a b b in
                     let k : length (ahead wheel01 (c .previous) (c .reading) (c .level) (c .step)) ≡ suc (length (ahead wheel01 (c .previous) (c .reading) (r .level) (r .step))) =
                     ap length (some .3) ∙ ap (λ (j : ℕ). suc (length (ahead wheel01 (c .previous) (c .reading) (r .level) j))) (sym (some .1)) in
                     omega (arith, k, ap (λ (l : List ℕ). armedAmong (buckets wheel01) l (length l)) h);
