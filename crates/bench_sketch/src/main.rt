@@ -11,16 +11,13 @@ fn main() {
     let mut table = [0u64; 65536];
     let mut block = [0u8; 4096];
     let mut line = [0u8; 257];
-    let mut out = [0u8; 4096];
     let mut source = lines::begin();
-    let mut waiting = 0;
     let mut turns = u64::MAX;
     while turns > 0 {
         source = lines::next_line(&mut block, &mut line, source);
         let request = read(&line, source);
         let digest = answer(&mut table, request);
-        waiting = say(&mut out, waiting, request.work, digest, source);
+        say(request.work, digest);
         turns = lines::turns_left(turns, source.more);
     }
-    lines::flush(&out, waiting);
 }

@@ -6,9 +6,13 @@ use lines::Source;
 
 // The workloads; then a line that asks for none, and one that asks nothing.
 pub const INCREASE: usize = 0;
+
 pub const ESTIMATE: usize = 1;
+
 pub const INDEX: usize = 2;
+
 const BAD: usize = 3;
+
 const SILENT: usize = 4;
 
 // The most words of a table.
@@ -67,14 +71,13 @@ fn read_call(line: &[u8]) -> Request {
 
 // The workload that the line names.
 fn named(line: &[u8]) -> usize {
-    if lines::is_part(line, 0, b"increase") {
-        return INCREASE;
-    }
-    if lines::is_part(line, 0, b"estimate") {
-        return ESTIMATE;
-    }
-    if lines::is_part(line, 0, b"index") {
-        return INDEX;
+    let names = b"increase estimate index";
+    let mut k = 0;
+    while k < BAD {
+        if lines::is_part(line, 0, lines::part(names, k)) {
+            return k;
+        }
+        k += 1;
     }
     BAD
 }
@@ -90,21 +93,18 @@ fn checked(work: usize, words: u64) -> usize {
     if work == INDEX { INDEX } else { BAD }
 }
 
-// Puts the answer's line after the bytes that wait in out, writes all out where all of the block is
-// answered, and answers how many wait then.
-pub fn say(out: &mut [u8], at: usize, work: usize, digest: u64, source: Source) -> usize {
-    let said = append_answer(out, at, work, digest);
-    lines::settle(out, said, source)
-}
-
-fn append_answer(out: &mut [u8], at: usize, work: usize, digest: u64) -> usize {
+// Writes the answer's line.
+pub fn say(work: usize, digest: u64) {
     if work == SILENT {
-        return at;
+        return;
     }
     if work == BAD {
-        return lines::append(out, at, b"bad line\n");
+        lines::flush(b"bad line\n", 9);
+        return;
     }
-    let worded = lines::append(out, at, b"digest");
-    let last = lines::append_field(out, worded, digest);
-    lines::append(out, last, b"\n")
+    let mut out = [0u8; 32];
+    let worded = lines::append(&mut out, 0, b"digest");
+    let last = lines::append_field(&mut out, worded, digest);
+    let end = lines::append(&mut out, last, b"\n");
+    lines::flush(&out, end);
 }

@@ -32,6 +32,9 @@ pub fn answer(table: &mut [u64], r: Request) -> u64 {
     if work == requests::INDEX {
         return sum_of_indexes(words, r.calls, x);
     }
+    if work > requests::INDEX {
+        return 0;
+    }
     let n = words as usize;
     if table.len() < n {
         return 0;
@@ -42,18 +45,17 @@ pub fn answer(table: &mut [u64], r: Request) -> u64 {
 // So many increases on a fresh sketch: the digest of the table and the record. Or so many estimates
 // on one that has seen 8 increases for each word: their sum.
 fn on_table(table: &mut [u64], work: usize, calls: u64, x: u64) -> u64 {
-    let s = fresh(table);
-    if work == requests::INCREASE {
-        let made = increases(table, s, calls, x);
-        return digest(table, made.sketch);
-    }
+    let mut seen = calls;
     if work == requests::ESTIMATE {
-        let seen = 8 * (table.len() as u64);
-        let made = increases(table, s, seen, x);
-        let after = made.sketch;
-        return estimates(table, after, calls, made.x);
+        seen = 8 * (table.len() as u64);
     }
-    0
+    let s = fresh(table);
+    let made = increases(table, s, seen, x);
+    let after = made.sketch;
+    if work == requests::INCREASE {
+        return digest(table, after);
+    }
+    estimates(table, after, calls, made.x)
 }
 
 // The digest of the table and the record.
@@ -68,9 +70,10 @@ fn digest(table: &[u64], s: Sketch) -> u64 {
 fn fresh(table: &mut [u64]) -> Sketch {
     let words = table.len();
     sketch::unchecked::clear(table, words);
-    match sketch::ensure_capacity(table, sketch::unused(), words as u64) {
+    let unused = sketch::unused();
+    match sketch::ensure_capacity(table, unused, words as u64) {
         Ensured::Done(s) => s,
-        Ensured::Refused(_) => sketch::unused(),
+        Ensured::Refused(_) => unused,
     }
 }
 
