@@ -3,9 +3,8 @@
 mod requests;
 mod work;
 
-use requests::read;
+use requests::answer;
 use requests::say;
-use work::answer;
 
 fn main() {
     let mut table = [0u64; 65536];
@@ -15,9 +14,8 @@ fn main() {
     let mut turns = u64::MAX;
     while turns > 0 {
         source = lines::next_line(&mut block, &mut line, source);
-        let request = read(&line, source);
-        let digest = answer(&mut table, request);
-        say(request.work, digest);
+        let reply = answer(&mut table, &line, source);
+        say(reply);
         turns = lines::turns_left(turns, source.more);
     }
 }

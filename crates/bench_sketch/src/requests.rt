@@ -1,110 +1,92 @@
 // The requests: `increase WORDS CALLS SEED`, `estimate WORDS CALLS SEED`, `index WORDS CALLS SEED`,
 // and their answers.
+use crate::work;
 use lines::Kind;
 use lines::Number;
 use lines::Source;
 
-// The workloads; then a line that asks for none, and one that asks nothing.
-pub const INCREASE: usize = 0;
-
-pub const ESTIMATE: usize = 1;
-
-pub const INDEX: usize = 2;
-
-const BAD: usize = 3;
-
-const SILENT: usize = 4;
-
-// The most words of a table.
-const MOST: u64 = 65536;
-
-pub struct Request {
-    pub work: usize,
-    pub words: u64,
-    pub calls: u64,
-    pub seed: u64,
+// An answer.
+pub enum Reply {
+    Nothing,
+    Bad,
+    Digest(u64),
 }
 
-// What the line that was found last asks for.
-pub fn read(line: &[u8], source: Source) -> Request {
+// Answers the line that was found last, if there was one.
+pub fn answer(table: &mut [u64], line: &[u8], source: Source) -> Reply {
     if !source.more {
-        return bare(SILENT);
+        return Reply::Nothing;
     }
     let held = lines::first(line, source.held);
     match lines::kind_of(held) {
-        Kind::Silent => bare(SILENT),
-        Kind::Long => bare(BAD),
-        Kind::Call => read_call(held),
+        Kind::Silent => Reply::Nothing,
+        Kind::Long => Reply::Bad,
+        Kind::Call => request(table, held),
     }
 }
 
-fn bare(work: usize) -> Request {
-    Request {
-        work,
-        words: 0,
-        calls: 0,
-        seed: 0,
-    }
-}
-
-// A word and three numbers.
-fn read_call(line: &[u8]) -> Request {
+// A request: a word and three numbers, of which the first is a power of two up to 65,536.
+fn request(table: &mut [u64], line: &[u8]) -> Reply {
     if lines::count(line) != 4 {
-        return bare(BAD);
+        return Reply::Bad;
     }
     let Number::Is(words) = lines::number_at(line, 1) else {
-        return bare(BAD);
+        return Reply::Bad;
     };
     let Number::Is(calls) = lines::number_at(line, 2) else {
-        return bare(BAD);
+        return Reply::Bad;
     };
     let Number::Is(seed) = lines::number_at(line, 3) else {
-        return bare(BAD);
+        return Reply::Bad;
     };
-    Request {
-        work: checked(named(line), words),
+    if !numbers::is_power(words) {
+        return Reply::Bad;
+    }
+    workload(
+        lines::part(line, 0),
+        table,
         words,
         calls,
-        seed,
-    }
+        work::first_number(seed),
+    )
 }
 
-// The workload that the line names.
-fn named(line: &[u8]) -> usize {
-    let names = b"increase estimate index";
-    let mut k = 0;
-    while k < BAD {
-        if lines::is_part(line, 0, lines::part(names, k)) {
-            return k;
-        }
-        k += 1;
+// The workload of that name, on a table of so many words.
+fn workload(word: &[u8], table: &mut [u64], words: u64, calls: u64, x: u64) -> Reply {
+    if lines::same(word, b"index") {
+        return Reply::Digest(work::sum_of_indexes(words, calls, x));
     }
-    BAD
-}
-
-// The workload, if it can have so many words: a power of two, and a table that there is.
-fn checked(work: usize, words: u64) -> usize {
-    if !numbers::is_power(words) {
-        return BAD;
+    let n = words as usize;
+    if table.len() < n {
+        return Reply::Bad;
     }
-    if words <= MOST {
-        return work;
+    let lent = &mut table[..n];
+    if lines::same(word, b"increase") {
+        return Reply::Digest(work::digest_of_increases(lent, calls, x));
     }
-    if work == INDEX { INDEX } else { BAD }
+    if lines::same(word, b"estimate") {
+        return Reply::Digest(work::sum_of_estimates(lent, calls, x));
+    }
+    Reply::Bad
 }
 
 // Writes the answer's line.
-pub fn say(work: usize, digest: u64) {
-    if work == SILENT {
-        return;
+pub fn say(reply: Reply) {
+    match reply {
+        Reply::Nothing => (),
+        Reply::Bad => say_bad(),
+        Reply::Digest(n) => say_digest(n),
     }
-    if work == BAD {
-        lines::flush(b"bad line\n", 9);
-        return;
-    }
+}
+
+fn say_bad() {
+    lines::flush(b"bad line\n", 9);
+}
+
+fn say_digest(n: u64) {
     let mut out = [0u8; 32];
     let worded = lines::append(&mut out, 0, b"digest");
-    let last = lines::append_field(&mut out, worded, digest);
+    let last = lines::append_field(&mut out, worded, n);
     let end = lines::append(&mut out, last, b"\n");
     lines::flush(&out, end);
 }

@@ -1,6 +1,4 @@
 // The workloads, on the sketch's public calls.
-use crate::requests;
-use crate::requests::Request;
 use sketch::Ensured;
 use sketch::Estimated;
 use sketch::Increased;
@@ -13,7 +11,7 @@ struct Made {
 }
 
 // The generator's first number: the seed, and 1 for 0, after which only 0 would come.
-fn first_number(seed: u64) -> u64 {
+pub fn first_number(seed: u64) -> u64 {
     if seed == 0 { 1 } else { seed }
 }
 
@@ -24,56 +22,33 @@ fn next(x: u64) -> u64 {
     b ^ (b << 17)
 }
 
-// The digest of what the workload of a request leaves.
-pub fn answer(table: &mut [u64], r: Request) -> u64 {
-    let work = r.work;
-    let words = r.words;
-    let x = first_number(r.seed);
-    if work == requests::INDEX {
-        return sum_of_indexes(words, r.calls, x);
-    }
-    if work > requests::INDEX {
-        return 0;
-    }
-    let n = words as usize;
-    if table.len() < n {
-        return 0;
-    }
-    on_table(&mut table[..n], work, r.calls, x)
+// So many increases on a fresh sketch: the digest of the table and the record.
+pub fn digest_of_increases(table: &mut [u64], calls: u64, x: u64) -> u64 {
+    let s = fresh(table);
+    let made = increases(table, s, calls, x);
+    let after = made.sketch;
+    let words = lines::digest_all(lines::digest_start(), table);
+    let used = lines::digest_step(words, after.used as u64);
+    let sample = lines::digest_step(used, after.sample);
+    lines::digest_step(sample, after.size)
 }
 
-// So many increases on a fresh sketch: the digest of the table and the record. Or so many estimates
-// on one that has seen 8 increases for each word: their sum.
-fn on_table(table: &mut [u64], work: usize, calls: u64, x: u64) -> u64 {
-    let mut seen = calls;
-    if work == requests::ESTIMATE {
-        seen = 8 * (table.len() as u64);
-    }
+// So many estimates on a sketch that has seen 8 increases for each word: their sum.
+pub fn sum_of_estimates(table: &mut [u64], calls: u64, x: u64) -> u64 {
     let s = fresh(table);
+    let seen = 8 * (table.len() as u64);
     let made = increases(table, s, seen, x);
     let after = made.sketch;
-    if work == requests::INCREASE {
-        return digest(table, after);
-    }
     estimates(table, after, calls, made.x)
-}
-
-// The digest of the table and the record.
-fn digest(table: &[u64], s: Sketch) -> u64 {
-    let words = lines::digest_all(lines::digest_start(), table);
-    let used = lines::digest_step(words, s.used as u64);
-    let sample = lines::digest_step(used, s.sample);
-    lines::digest_step(sample, s.size)
 }
 
 // A sketch over the whole table, all of it 0.
 fn fresh(table: &mut [u64]) -> Sketch {
     let words = table.len();
     sketch::unchecked::clear(table, words);
-    let unused = sketch::unused();
-    match sketch::ensure_capacity(table, unused, words as u64) {
+    match sketch::ensure_capacity(table, sketch::unused(), words as u64) {
         Ensured::Done(s) => s,
-        Ensured::Refused(_) => unused,
+        Ensured::Refused(_) => sketch::unused(),
     }
 }
 
@@ -116,7 +91,7 @@ fn estimated(table: &[u64], s: Sketch, hash: u64) -> u64 {
 }
 
 // So many word indexes, depth after depth, in a table of so many words: their sum.
-fn sum_of_indexes(words: u64, calls: u64, first: u64) -> u64 {
+pub fn sum_of_indexes(words: u64, calls: u64, first: u64) -> u64 {
     let mask = std::num::wrapping_sub_u64(words, 1);
     let mut sum: u64 = 0;
     let mut x = first;

@@ -55,6 +55,31 @@ impl State {
             number,
         }
     }
+
+    // The state after a call of the sketch.
+    fn increased(self, answer: Increased) -> State {
+        let k = self.sketch;
+        match answer {
+            Increased::Done(after) => self.with(after, OK, 0),
+            Increased::Refused(n) => self.with(k, REFUSED, n),
+        }
+    }
+
+    fn ensured(self, answer: Ensured) -> State {
+        let k = self.sketch;
+        match answer {
+            Ensured::Done(after) => self.with(after, OK, 0),
+            Ensured::Refused(n) => self.with(k, REFUSED, n),
+        }
+    }
+
+    fn estimated(self, answer: Estimated) -> State {
+        let k = self.sketch;
+        match answer {
+            Estimated::Least(n) => self.with(k, ESTIMATE, n),
+            Estimated::Refused(n) => self.with(k, REFUSED, n),
+        }
+    }
 }
 
 // Answers a request: `lend` and `index` at any time, the others on the words that are lent.
@@ -91,14 +116,8 @@ fn change(lent: &mut [u64], s: State, r: Request) -> State {
     let k = s.sketch;
     let call = r.call;
     match call {
-        requests::INCREASE => match sketch::increase(lent, k, r.a) {
-            Increased::Done(after) => s.with(after, OK, 0),
-            Increased::Refused(n) => s.with(k, REFUSED, n),
-        },
-        requests::ENSURE => match sketch::ensure_capacity(lent, k, r.a) {
-            Ensured::Done(after) => s.with(after, OK, 0),
-            Ensured::Refused(n) => s.with(k, REFUSED, n),
-        },
+        requests::INCREASE => s.increased(sketch::increase(lent, k, r.a)),
+        requests::ENSURE => s.ensured(sketch::ensure_capacity(lent, k, r.a)),
         requests::POKE_WORD => {
             let i = r.a as usize;
             if i < lent.len() {
@@ -117,10 +136,7 @@ fn look(lent: &[u64], s: State, r: Request) -> State {
     let k = s.sketch;
     let call = r.call;
     match call {
-        requests::ESTIMATE => match sketch::estimate(lent, k, r.a) {
-            Estimated::Least(n) => s.with(k, ESTIMATE, n),
-            Estimated::Refused(n) => s.with(k, REFUSED, n),
-        },
+        requests::ESTIMATE => s.estimated(sketch::estimate(lent, k, r.a)),
         requests::WORD => {
             let i = r.a as usize;
             if i < lent.len() {

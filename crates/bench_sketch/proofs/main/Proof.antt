@@ -27,14 +27,11 @@ slice-aggregate-next-line-2 c = search needs
 next-line-requires : tie.Need-next-line-requires Inv-loop μ-loop
 next-line-requires c κs = search needs
 
-slice-aggregate-read : tie.Need-slice-aggregate-read Inv-loop μ-loop
-slice-aggregate-read c = search needs
-
-read-requires : tie.Need-read-requires Inv-loop μ-loop
-read-requires c κs = search needs
-
 slice-aggregate-answer : tie.Need-slice-aggregate-answer Inv-loop μ-loop
 slice-aggregate-answer c = search needs
+
+slice-aggregate-answer-2 : tie.Need-slice-aggregate-answer-2 Inv-loop μ-loop
+slice-aggregate-answer-2 c = search needs
 
 answer-requires : tie.Need-answer-requires Inv-loop μ-loop
 answer-requires c κs = search needs
@@ -65,9 +62,8 @@ main-spec =
     slice-aggregate-next-line
     slice-aggregate-next-line-2
     next-line-requires
-    slice-aggregate-read
-    read-requires
     slice-aggregate-answer
+    slice-aggregate-answer-2
     answer-requires
     say-requires
     turns-left-requires
