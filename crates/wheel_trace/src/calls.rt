@@ -1,5 +1,9 @@
-// What the wheel's calls answered, as what goes on: the clock, and the reply. Assumes nothing.
-use records::Clock;
+// What the wheel's calls answered, as what goes on: the clock, and the answer to say.
+use crate::answers;
+use crate::state::State;
+use crate::state::answer;
+use crate::state::plain;
+use crate::state::timed;
 use wheel::Counted;
 use wheel::Due;
 use wheel::Noted;
@@ -7,99 +11,89 @@ use wheel::Pulled;
 use wheel::Rescheduled;
 use wheel::Scheduled;
 use wheel::Timed;
-use wheel_text::answers::Plain;
-use wheel_text::answers::Reply;
-use wheel_text::answers::Word;
 
-// What a call leaves: the clock, and the answer.
-pub struct Called {
-    pub clock: Clock,
-    pub reply: Reply,
+fn refused(s: State, n: u64) -> State {
+    answer(s, answers::REFUSED, 1, n, 0, 0)
 }
 
-// The clock as it is.
-pub fn keep(clock: Clock, reply: Reply) -> Called {
-    Called { clock, reply }
-}
-
-pub fn refused(clock: Clock, n: u64) -> Called {
-    keep(clock, Reply::One(Word::Refused, n))
-}
-
-pub fn plain(clock: Clock, p: Plain) -> Called {
-    keep(clock, Reply::Plain(p))
-}
-
-// Of the calls that answer `ok`.
-pub fn timed(clock: Clock, r: Timed) -> Called {
+// Of the calls that answer `ok` and may change the clock.
+pub fn done(s: State, r: Timed) -> State {
     match r {
-        Timed::Done(after) => plain(after, Plain::Good),
-        Timed::Refused(n) => refused(clock, n),
+        Timed::Done(after) => plain(timed(s, after), answers::GOOD),
+        Timed::Refused(n) => refused(s, n),
     }
 }
 
-pub fn noted(clock: Clock, r: Noted) -> Called {
+pub fn noted(s: State, r: Noted) -> State {
     match r {
-        Noted::Done => plain(clock, Plain::Good),
-        Noted::Refused(n) => refused(clock, n),
+        Noted::Done => plain(s, answers::GOOD),
+        Noted::Refused(n) => refused(s, n),
     }
 }
 
-pub fn scheduled(clock: Clock, r: Scheduled) -> Called {
+pub fn scheduled(s: State, r: Scheduled) -> State {
     match r {
         Scheduled::Armed {
             slot,
             serial,
             clock: after,
-        } => keep(after, Reply::Two(Word::Armed, slot as u64, serial)),
-        Scheduled::Refused(n) => refused(clock, n),
+        } => answer(timed(s, after), answers::ARMED, 2, slot as u64, serial, 0),
+        Scheduled::Refused(n) => refused(s, n),
     }
 }
 
-pub fn rescheduled(clock: Clock, r: Rescheduled) -> Called {
+pub fn rescheduled(s: State, r: Rescheduled) -> State {
     match r {
-        Rescheduled::Moved => plain(clock, Plain::Rescheduled),
-        Rescheduled::Removed(after) => plain(after, Plain::Removed),
-        Rescheduled::Refused(n) => refused(clock, n),
+        Rescheduled::Moved => plain(s, answers::RESCHEDULED),
+        Rescheduled::Removed(after) => plain(timed(s, after), answers::REMOVED),
+        Rescheduled::Refused(n) => refused(s, n),
     }
 }
 
-pub fn pulled(clock: Clock, r: Pulled) -> Called {
+pub fn pulled(s: State, r: Pulled) -> State {
     match r {
         Pulled::Expired {
             entry,
             serial,
             deadline,
             clock: after,
-        } => keep(
-            after,
-            Reply::Three(Word::Expired, entry as u64, serial, deadline),
+        } => answer(
+            timed(s, after),
+            answers::EXPIRED,
+            3,
+            entry as u64,
+            serial,
+            deadline,
         ),
         Pulled::Moved {
             entry,
             serial,
             place,
             clock: after,
-        } => keep(
-            after,
-            Reply::Three(Word::Rescheduled, entry as u64, serial, place),
+        } => answer(
+            timed(s, after),
+            answers::RESCHEDULED,
+            3,
+            entry as u64,
+            serial,
+            place,
         ),
-        Pulled::End(after) => plain(after, Plain::End),
-        Pulled::Refused(n) => refused(clock, n),
+        Pulled::End(after) => plain(timed(s, after), answers::END),
+        Pulled::Refused(n) => refused(s, n),
     }
 }
 
-pub fn counted(clock: Clock, r: Counted) -> Called {
+pub fn counted(s: State, r: Counted) -> State {
     match r {
-        Counted::Armed(n) => keep(clock, Reply::One(Word::Armed, n as u64)),
-        Counted::Refused(n) => refused(clock, n),
+        Counted::Armed(n) => answer(s, answers::ARMED, 1, n as u64, 0, 0),
+        Counted::Refused(n) => refused(s, n),
     }
 }
 
-pub fn next_due(clock: Clock, r: Due) -> Called {
+pub fn next_due(s: State, r: Due) -> State {
     match r {
-        Due::At(t) => keep(clock, Reply::One(Word::Due, t)),
-        Due::Never => plain(clock, Plain::NeverDue),
-        Due::Refused(n) => refused(clock, n),
+        Due::At(t) => answer(s, answers::DUE, 1, t, 0, 0),
+        Due::Never => plain(s, answers::NEVER),
+        Due::Refused(n) => refused(s, n),
     }
 }

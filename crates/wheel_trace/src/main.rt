@@ -1,15 +1,27 @@
-// Speaks the trace format for the wheel: calls on standard input, an answer for each on standard
-// output. Assumes nothing.
-mod calls;
-mod state;
-mod work;
+// Speaks the trace format for the wheel: calls on standard input, an answer for each on standard output.
+mod answers; // an answer, and the line that says so
+mod buckets; // a bucket's slots
+mod calls; // what the wheel's calls answered, as an answer
+mod fields; // a part of a line as a field of a call
+mod making; // lend, create, pokes, place
+mod pokes; // a field is written
+mod requests; // a line as what it asks for
+mod shows; // clock, dump, digest
+mod state; // what goes from line to line
+mod timers; // pull, schedule, reschedule, deschedule
+mod turns; // start, abandon, armed, due
+mod words; // a word's place in a table of words
+mod work; // the wheel's calls on the records that are lent
 
-use lines::Source;
-use state::Progress;
+use making::change;
+use requests::Request;
+use requests::request_of;
+use shows::look;
+use state::State;
+use state::answered;
 use state::at_start;
-use state::respond;
-use wheel_text::reading::read;
-use wheel_text::requests::Request;
+use state::settled;
+use work::work_lent;
 
 fn main() {
     let mut heads = [4096usize; 165];
@@ -89,17 +101,78 @@ fn run(
     lines::flush(out, p.waiting);
 }
 
-// What the line that was found asks for, if there was one.
-fn request_of(line: &[u8], source: Source, lent: bool) -> Request {
-    if !source.more {
-        return Request::Silent;
+// Answers a request.
+fn respond(
+    heads: &mut [usize; 165],
+    tails: &mut [usize; 165],
+    next: &mut [usize; 4100],
+    prev: &mut [usize; 4100],
+    bucket: &mut [usize; 4100],
+    entry: &mut [usize; 4100],
+    generation: &mut [u32; 4100],
+    serial: &mut [u64; 4100],
+    dated: &mut [bool; 4100],
+    deadline: &mut [u64; 4100],
+    stamp: &mut [u32; 4100],
+    out: &mut [u8; 65536],
+    s: State,
+    r: Request,
+) -> State {
+    let call = r.call;
+    match call {
+        0..=4 | 10 | 20 | 30..=32 => answered(
+            out,
+            work_lent(
+                heads,
+                tails,
+                next,
+                prev,
+                bucket,
+                entry,
+                generation,
+                serial,
+                dated,
+                deadline,
+                stamp,
+                s.nodes,
+                s.entries,
+                s,
+                r,
+            ),
+        ),
+        5..=7 | 12 => look(
+            heads,
+            tails,
+            next,
+            prev,
+            bucket,
+            entry,
+            generation,
+            serial,
+            dated,
+            deadline,
+            stamp,
+            out,
+            s,
+            r,
+        ),
+        _ => answered(
+            out,
+            change(
+                heads,
+                tails,
+                next,
+                prev,
+                bucket,
+                entry,
+                generation,
+                serial,
+                dated,
+                deadline,
+                stamp,
+                s,
+                r,
+            ),
+        ),
     }
-    read(lines::first(line, source.held), lent)
-}
-
-// What waits is written out where more has to be read.
-fn settled(out: &[u8], p: Progress, source: Source) -> Progress {
-    let mut after = p;
-    after.waiting = lines::settle(out, p.waiting, source);
-    after
 }

@@ -1,4 +1,4 @@
--- `wheel_trace::run` is safe and ends. The measure is the number of turns that are left. Assumes nothing.
+-- `wheel_trace::run` is safe and ends. The measure is the number of turns that are left.
 use borrow.Author.Needs.{needs}
 use native.Mathlib.Omega.{arith}
 use Prim.Native.Nat.{_≤_}

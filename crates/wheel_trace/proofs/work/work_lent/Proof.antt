@@ -1,4 +1,4 @@
--- `wheel_trace::work::work_lent` is safe: each slice is lent as far as it goes. Assumes nothing.
+-- `wheel_trace::work::work_lent` is safe: each slice is lent as far as it goes.
 use borrow.Author.Needs.{needs}
 use native.Mathlib.Omega.{arith}
 use mathlib.Core.Path.{sym}

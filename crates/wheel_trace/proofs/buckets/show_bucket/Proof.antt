@@ -1,15 +1,15 @@
--- `wheel_text::shows::show_bucket` is safe and ends. The measure is the number of slots that may follow. Assumes nothing.
+-- `wheel_trace::buckets::show_bucket` is safe and ends. The measure is the number of slots that may follow.
 use borrow.Author.Needs.{needs}
 use native.Mathlib.Omega.{arith}
-use Prim.Native.Nat.{ℕ, _+_, _-_, _*_, _^_, _≤_, _<_}
-use Rattle.wheel_text.proofs.shows.show_bucket.Statement.{statement}
-use Rattle.wheel_text.proofs.shows.show_bucket.Tie as tie
+use Prim.Native.Nat.{_≤_}
+use Rattle.wheel_trace.proofs.buckets.show_bucket.Statement.{statement}
+use Rattle.wheel_trace.proofs.buckets.show_bucket.Tie as tie
 
 abbrev Inv-loop : tie.InvT-loop
-Inv-loop out₀ at next nodes head waits₀ x₀ turns₀ t10 out waits x turns = 0 ≤ turns
+Inv-loop heads next out₀ s b nodes waits₀ x₀ turns₀ t11 out waits x turns = 0 ≤ turns
 
 abbrev μ-loop : tie.MeasureT-loop
-μ-loop out₀ at next nodes head waits₀ x₀ turns₀ t10 out waits x turns = turns
+μ-loop heads next out₀ s b nodes waits₀ x₀ turns₀ t11 out waits x turns = turns
 
 slice-aggregate-append : tie.Need-slice-aggregate-append Inv-loop μ-loop
 slice-aggregate-append c = search needs
@@ -17,8 +17,11 @@ slice-aggregate-append c = search needs
 append-requires : tie.Need-append-requires Inv-loop μ-loop
 append-requires c κs = search needs
 
+head-of-requires : tie.Need-head-of-requires Inv-loop μ-loop
+head-of-requires c κs = search needs
+
 loop-holds : tie.Need-loop-holds Inv-loop μ-loop
-loop-holds c = omega arith
+loop-holds c = search needs
 
 show-slot-requires : tie.Need-show-slot-requires Inv-loop μ-loop
 show-slot-requires c κs = search needs
@@ -36,13 +39,16 @@ loop-less : tie.Need-loop-less Inv-loop μ-loop
 loop-less c = c .turns-left .ensures .less (omega arith)
 
 loop-again : tie.Need-loop-again Inv-loop μ-loop
-loop-again c = omega arith
+loop-again c = search needs
 
 slice-aggregate-append-2 : tie.Need-slice-aggregate-append-2 Inv-loop μ-loop
 slice-aggregate-append-2 c = search needs
 
 append-requires-2 : tie.Need-append-requires-2 Inv-loop μ-loop
 append-requires-2 c κs = search needs
+
+shown-requires : tie.Need-shown-requires Inv-loop μ-loop
+shown-requires c κs = search needs
 
 returns : tie.Need-returns Inv-loop μ-loop
 returns c = search needs
@@ -55,6 +61,7 @@ show-bucket-spec =
     μ-loop
     slice-aggregate-append
     append-requires
+    head-of-requires
     loop-holds
     show-slot-requires
     after-requires
@@ -64,4 +71,5 @@ show-bucket-spec =
     loop-again
     slice-aggregate-append-2
     append-requires-2
+    shown-requires
     returns)

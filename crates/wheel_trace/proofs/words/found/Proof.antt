@@ -1,0 +1,58 @@
+-- `wheel_trace::words::found` is safe and ends. The measure is the number of words that are left.
+use borrow.Author.Needs.{needs}
+use Prim.Native.Nat.{_-_, _≤_}
+use Rattle.wheel_trace.proofs.words.found.Statement.{statement}
+use Rattle.wheel_trace.proofs.words.found.Tie as tie
+
+abbrev Inv-loop : tie.InvT-loop
+Inv-loop table word base words i₀ i = i ≤ words
+
+abbrev μ-loop : tie.MeasureT-loop
+μ-loop table word base words i₀ i = words - i
+
+count-requires : tie.Need-count-requires Inv-loop μ-loop
+count-requires c κs = search needs
+
+loop-holds : tie.Need-loop-holds Inv-loop μ-loop
+loop-holds c = search needs
+
+part-requires : tie.Need-part-requires Inv-loop μ-loop
+part-requires c κs = search needs
+
+same-requires : tie.Need-same-requires Inv-loop μ-loop
+same-requires c κs = search needs
+
+after-requires : tie.Need-after-requires Inv-loop μ-loop
+after-requires c κs = search needs
+
+returns : tie.Need-returns Inv-loop μ-loop
+returns c = search needs
+
+add-i : tie.Need-add-i Inv-loop μ-loop
+add-i c = search needs
+
+loop-less : tie.Need-loop-less Inv-loop μ-loop
+loop-less c = search needs
+
+loop-again : tie.Need-loop-again Inv-loop μ-loop
+loop-again c = search needs
+
+returns-2 : tie.Need-returns-2 Inv-loop μ-loop
+returns-2 c = search needs
+
+pub found-spec : {M : Type 1} → statement M
+found-spec =
+    tie.close
+    (tie.spec
+    Inv-loop
+    μ-loop
+    count-requires
+    loop-holds
+    part-requires
+    same-requires
+    after-requires
+    returns
+    add-i
+    loop-less
+    loop-again
+    returns-2)

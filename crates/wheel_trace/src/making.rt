@@ -1,0 +1,115 @@
+// Lending, creating and pokes, and the calls that touch no record.
+use crate::answers;
+use crate::pokes::poke_bucket;
+use crate::pokes::poke_clock;
+use crate::pokes::poke_node;
+use crate::requests;
+use crate::requests::Request;
+use crate::state::State;
+use crate::state::answer;
+use crate::state::plain;
+use crate::state::timed;
+
+// `lend`, `create`, a poke, `place`, a line that answers nothing, or a bad one.
+pub fn change(
+    heads: &mut [usize; 165],
+    tails: &mut [usize; 165],
+    next: &mut [usize; 4100],
+    prev: &mut [usize; 4100],
+    bucket: &mut [usize; 4100],
+    entry: &mut [usize; 4100],
+    generation: &mut [u32; 4100],
+    serial: &mut [u64; 4100],
+    dated: &mut [bool; 4100],
+    deadline: &mut [u64; 4100],
+    stamp: &mut [u32; 4100],
+    s: State,
+    r: Request,
+) -> State {
+    let call = r.call;
+    match call {
+        requests::LEND => lend(
+            heads,
+            tails,
+            next,
+            prev,
+            bucket,
+            entry,
+            generation,
+            serial,
+            dated,
+            deadline,
+            stamp,
+            s,
+            r,
+        ),
+        requests::CREATE => create(heads, tails, s, r.index as u64),
+        40..=45 => poke_node(next, prev, bucket, entry, generation, serial, s, r),
+        50 | 51 => poke_bucket(heads, tails, s, r),
+        _ => aside(s, r),
+    }
+}
+
+// `lend NODES ENTRIES`.
+fn lend(
+    heads: &mut [usize; 165],
+    tails: &mut [usize; 165],
+    next: &mut [usize; 4100],
+    prev: &mut [usize; 4100],
+    bucket: &mut [usize; 4100],
+    entry: &mut [usize; 4100],
+    generation: &mut [u32; 4100],
+    serial: &mut [u64; 4100],
+    dated: &mut [bool; 4100],
+    deadline: &mut [u64; 4100],
+    stamp: &mut [u32; 4100],
+    s: State,
+    r: Request,
+) -> State {
+    *next = [0usize; 4100];
+    *prev = [0usize; 4100];
+    *bucket = [0usize; 4100];
+    *entry = [0usize; 4100];
+    *generation = [0u32; 4100];
+    *serial = [0u64; 4100];
+    *dated = [false; 4100];
+    *deadline = [0u64; 4100];
+    *stamp = [0u32; 4100];
+    let mut after = s;
+    after.lent = true;
+    after.nodes = r.index;
+    after.entries = r.second as usize;
+    create(heads, tails, after, 0)
+}
+
+// `create SERIAL`.
+fn create(heads: &mut [usize; 165], tails: &mut [usize; 165], s: State, first: u64) -> State {
+    let made = wheel::create(first);
+    let ends = made.heads;
+    *heads = ends;
+    let ends = made.tails;
+    *tails = ends;
+    let clock = made.clock;
+    plain(timed(s, clock), answers::GOOD)
+}
+
+// `place`, `poke-clock`, or a bad line.
+fn aside(s: State, r: Request) -> State {
+    let call = r.call;
+    match call {
+        requests::PLACE => placed(s, r),
+        60..=69 => poked(s, r),
+        requests::BAD => plain(s, answers::BAD),
+        _ => s,
+    }
+}
+
+fn placed(s: State, r: Request) -> State {
+    let at = place::wheel_place(r.index as u64, r.second);
+    answer(s, answers::PLACE, 1, at, 0, 0)
+}
+
+fn poked(s: State, r: Request) -> State {
+    let clock = s.clock;
+    plain(timed(s, poke_clock(clock, r.call, r.second)), answers::GOOD)
+}
