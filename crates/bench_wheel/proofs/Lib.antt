@@ -1,3 +1,3 @@
--- Laws that the proofs of several functions cite. Assumes nothing.
+-- Laws that the proofs of several functions cite.
 pub mod Staying
 pub mod Keeping

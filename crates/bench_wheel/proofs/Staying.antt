@@ -1,13 +1,12 @@
--- A wheel stays sound where one timer is armed or disarmed, and in every other call of the workloads. Assumes nothing.
+-- A wheel stays sound where one timer is armed or disarmed, and in every other call of the workloads.
 use Prim.Native.Nat.{ℕ, _<_}
 use mathlib.Core.Path.{_≡_, refl, ap}
 use mathlib.Core.Bool.{Bool, true, cond}
-use mathlib.Core.Option.{Option, none, some}
-use mathlib.Core.List.{List, [], _∷_}
+use mathlib.Core.Option.{Option, some}
 use borrow.Author.Tests.{eq-eqb}
 use Rattle.rules.specs.Geometry.{Geometry}
 use Rattle.rules.specs.Wheel.{Entry, Wheel, setEntry, schedule, deschedule, start, pull}
-use Rattle.rules.specs.Calls.{armed, act}
+use Rattle.rules.specs.Calls.{act}
 use Rattle.rules.specs.Sound.{Sound}
 use Rattle.rules.proofs.SoundCalls.{arms, drops, pulled-sound, pulled-at}
 
@@ -30,17 +29,6 @@ module _ (g : Geometry) (w : Wheel) (s : Sound g w) where
         lists = pulled-sound g (w .entry) (w .nodes) (w .entries) (w .next) (w .reading) (w .advance) (w .lists) (s .lists);
         advance = pulled-at g (w .entry) (w .reading) (w .advance) (w .lists) (s .advance);
       }
-
--- an arming leaves the lengths
-pub nodes-stay : (g : Geometry) (w : Wheel) (e h : ℕ) (o : Option ℕ) (fs : List ℕ) → armed g w e h o fs .1 .nodes ≡ w .nodes
-nodes-stay g w e h none fs = refl
-nodes-stay g w e h (some d) [] = refl
-nodes-stay g w e h (some d) (x ∷ fs) = refl
-
-pub entries-stay : (g : Geometry) (w : Wheel) (e h : ℕ) (o : Option ℕ) (fs : List ℕ) → armed g w e h o fs .1 .entries ≡ w .entries
-entries-stay g w e h none fs = refl
-entries-stay g w e h (some d) [] = refl
-entries-stay g w e h (some d) (x ∷ fs) = refl
 
 -- an entry that was set has its deadline
 pub set-has : (g : Geometry) (w : Wheel) (e d h : ℕ) → act g w (setEntry e (some d) h) .1 .entry e .deadline ≡ some d

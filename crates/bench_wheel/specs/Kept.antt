@@ -1,41 +1,56 @@
--- What the workloads keep from call to call: the records show a sound wheel, and their lengths stay. Assumes nothing.
+-- What the turns of a workload go by: the records show a sound wheel, and they allow the turn.
 use Prim.Native.Nat.{ℕ, _-_, _^_, _≤_, _<_}
 use mathlib.Core.Path.{_≡_}
 use mathlib.Core.Bool.{Bool, true}
+use mathlib.Core.Logic.{_⊎_}
 use mathlib.Core.List.{List}
 use lib.ListN.{length, getD}
 use Rattle.rules.specs.Geometry.{wheel01}
 use Rattle.records.specs.declared.Clock.{Clock}
 use Rattle.records.specs.Records.{Records}
+use Rattle.records.specs.Moments.{Starts}
 use Rattle.records_timers.specs.Timers.{Ready}
+use Rattle.bench_wheel.specs.declared.turning.Turn.{Turn}
+use Rattle.bench_wheel.specs.declared.turning.Turn.the-variants.{Arm, Cancel, Open, Pull, Count, Stop}
 
 -- the records show a sound wheel
 abbrev pub Works : Records → Type 0
 Works R = Ready wheel01 R
 
--- R′, which R became, shows a sound wheel with as many node records and entries
-pub record Kept (R R′ : Records) : Type 0 where
-  pub works : Works R′
-  pub nodes : R′ .clock .nodes ≡ R .clock .nodes
-  pub entries : R′ .clock .entries ≡ R .clock .entries
+-- the entry e exists, a slot is free, and the next serial is not the last number
+pub record MayArm (c : Clock) (nodes entries e : ℕ) : Type 0 where
+  pub entry : e < entries
+  pub slot : c .free < nodes
+  pub few : c .serial < 2 ^ 64 - 1
 
--- where the test says so, the entry e may be armed: it exists, a slot is free, and the next serial is not the last number
-pub record MayArm (c : Clock) (e entries nodes : ℕ) (good : Bool) : Type 0 where
-  pub entry : good ≡ true → e < entries
-  pub slot : good ≡ true → c .free < nodes
-  pub few : good ≡ true → c .serial < 2 ^ 64 - 1
+-- the slot x is armed
+pub record MayCancel (heads bucket : List ℕ) (x : ℕ) : Type 0 where
+  pub after : length heads ≤ x
+  pub slot : x < length bucket
+  pub armed : getD bucket x 0 < length heads
 
--- where the test says so, the slot x is armed
+-- the test says so
 pub record IsArmed (heads bucket : List ℕ) (x : ℕ) (good : Bool) : Type 0 where
-  pub after : good ≡ true → length heads ≤ x
-  pub slot : good ≡ true → x < length bucket
-  pub armed : good ≡ true → getD bucket x 0 < length heads
+  pub yes : good ≡ true → MayCancel heads bucket x
 
--- where the test says so, the records show a sound wheel
-pub record Tested (R : Records) (good : Bool) : Type 0 where
-  pub works : good ≡ true → Works R
+-- an arming of the entry e that is allowed, or the end
+abbrev pub Arming : Clock → ℕ → ℕ → ℕ → Turn → Type 0
+Arming c nodes entries e Arm = MayArm c nodes entries e
+Arming c nodes entries e Cancel = ⊥
+Arming c nodes entries e Open = ⊥
+Arming c nodes entries e Pull = ⊥
+Arming c nodes entries e Count = ⊥
+Arming c nodes entries e Stop = Unit {0}
 
--- the turns that are left: fewer, and some only while the advance is open
-pub record Fewer (left : ℕ) (on : Bool) (r : ℕ) : Type 0 where
-  pub less : 0 < left → r < left
-  pub going : 0 < r → on ≡ true
+-- the records allow the turn, for the entry e and the slot x
+abbrev pub Fit : List ℕ → List ℕ → Clock → ℕ → ℕ → ℕ → ℕ → Turn → Type 0
+Fit heads bucket c nodes entries e x Arm = MayArm c nodes entries e
+Fit heads bucket c nodes entries e x Cancel = MayCancel heads bucket x
+Fit heads bucket c nodes entries e x Open = Unit {0}
+Fit heads bucket c nodes entries e x Pull = c .open ≡ true
+Fit heads bucket c nodes entries e x Count = Unit {0}
+Fit heads bucket c nodes entries e x Stop = Unit {0}
+
+-- an advance to q is opened, or none
+abbrev pub Opens : Clock → ℕ → Clock → Type 0
+Opens c q r = Starts wheel01 c r q ⊎ (r ≡ c)

@@ -1,2 +1,2 @@
--- What the contracts of `bench_wheel` cite. Assumes nothing.
+-- What the contracts of `bench_wheel` cite.
 pub mod Kept

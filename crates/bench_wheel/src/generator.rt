@@ -1,4 +1,4 @@
-// The numbers of a workload: the generator, and the steps and delays that are made of its numbers. Assumes nothing.
+// The numbers of a workload: the generator, and the steps and delays that are made of its numbers.
 
 pub enum Workload {
     Cancel,

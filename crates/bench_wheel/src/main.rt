@@ -1,10 +1,10 @@
 // Seeded workloads for the wheel, to be timed: one line of standard input asks for one, and its
-// answer is a digest of what came out. Assumes nothing.
-mod advancing;
+// answer is a digest of what came out.
+mod course;
 mod generator;
 mod requests;
-mod rounds;
-mod steps;
+mod running;
+mod turning;
 mod work;
 
 use lines::Source;

@@ -1,4 +1,4 @@
-// The requests: `WORKLOAD RECORDS CALLS SEED`, and their answers. Assumes nothing.
+// The requests: `WORKLOAD RECORDS CALLS SEED`, and their answers.
 ghost use Prim.Native.Nat.{_<_, _≤_};
 use crate::generator::Workload;
 use crate::generator::first_number;

@@ -1,4 +1,4 @@
--- `named` is safe and ends. Assumes nothing.
+-- `named` is safe and ends.
 use borrow.Author.Needs.{needs}
 use Rattle.bench_wheel.proofs.requests.named.Statement.{statement}
 use Rattle.bench_wheel.proofs.requests.named.Tie as tie

@@ -1,4 +1,4 @@
--- `digest_of` is safe and ends. Assumes nothing.
+-- `digest_of` is safe and ends.
 use borrow.Author.Needs.{needs}
 use native.Mathlib.Omega.{arith}
 use mathlib.Core.Path.{sym}
@@ -69,17 +69,11 @@ array-borrow-prefix-stamp c = search needs
 slice-aggregate-make-and-run-11 : tie.Need-slice-aggregate-make-and-run-11
 slice-aggregate-make-and-run-11 c = sym (length-take-le _ _ (omega arith))
 
-array-borrow-prefix-slots : tie.Need-array-borrow-prefix-slots
-array-borrow-prefix-slots c = search needs
+array-borrow-prefix-list : tie.Need-array-borrow-prefix-list
+array-borrow-prefix-list c = search needs
 
 slice-aggregate-make-and-run-12 : tie.Need-slice-aggregate-make-and-run-12
 slice-aggregate-make-and-run-12 c = sym (length-take-le _ _ (omega arith))
-
-array-borrow-prefix-expired : tie.Need-array-borrow-prefix-expired
-array-borrow-prefix-expired c = search needs
-
-slice-aggregate-make-and-run-13 : tie.Need-slice-aggregate-make-and-run-13
-slice-aggregate-make-and-run-13 c = sym (length-take-le _ _ (omega arith))
 
 make-and-run-requires : tie.Need-make-and-run-requires
 make-and-run-requires c κs = search needs
@@ -112,9 +106,7 @@ digest-of-spec =
     slice-aggregate-make-and-run-10
     array-borrow-prefix-stamp
     slice-aggregate-make-and-run-11
-    array-borrow-prefix-slots
+    array-borrow-prefix-list
     slice-aggregate-make-and-run-12
-    array-borrow-prefix-expired
-    slice-aggregate-make-and-run-13
     make-and-run-requires
     returns)

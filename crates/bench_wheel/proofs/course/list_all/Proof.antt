@@ -1,11 +1,11 @@
--- `list_all` is safe and ends. The measure is what is left of the list. Assumes nothing.
+-- `list_all` is safe and ends. The measure is what is left of the list.
 use borrow.Author.Needs.{needs}
 use native.Mathlib.Omega.{arith}
 use Prim.Native.Nat.{_-_}
 use mathlib.Core.Path.{_≡_}
 use lib.ListN.{length}
-use Rattle.bench_wheel.proofs.work.list_all.Statement.{statement}
-use Rattle.bench_wheel.proofs.work.list_all.Tie as tie
+use Rattle.bench_wheel.proofs.course.list_all.Statement.{statement}
+use Rattle.bench_wheel.proofs.course.list_all.Tie as tie
 
 abbrev Inv-loop : tie.InvT-loop
 Inv-loop list₀ i₀ list i =

@@ -1,0 +1,141 @@
+// The turns of a workload: records are tested once and worked on.
+ghost use Prim.Native.Nat.{_<_};
+ghost use Rattle.wheel_refuse.specs.Lent.{lent};
+ghost use Rattle.bench_wheel.specs.Kept.{Works};
+use crate::course::begun;
+use crate::course::note;
+use crate::course::plan;
+use crate::course::result;
+use crate::generator::Workload;
+use crate::turning::Turn;
+use crate::turning::take;
+use crate::turning::turn_of;
+use records::Clock;
+use wheel_sound::is_sound;
+
+// The buckets of the wheel.
+const BUCKETS: usize = 165;
+
+// Runs the workload to its end, and answers its digest. Records that show no sound wheel are left alone.
+pub fn run(
+    heads: &mut [usize],
+    tails: &mut [usize],
+    next: &mut [usize],
+    prev: &mut [usize],
+    bucket: &mut [usize],
+    entry: &mut [usize],
+    generation: &mut [u32],
+    serial: &mut [u64],
+    dated: &mut [bool],
+    deadline: &mut [u64],
+    stamp: &mut [u32],
+    list: &mut [usize],
+    workload: Workload,
+    clock: Clock,
+    calls: u64,
+    x: u64,
+) -> u64 {
+    let mut c = clock;
+    let mut course = begun(list, workload, calls, x);
+    let mut turns = first_turns(
+        heads,
+        tails,
+        next,
+        prev,
+        bucket,
+        entry,
+        generation,
+        serial,
+        dated,
+        deadline,
+        stamp,
+        clock,
+    );
+    while turns > 0 {
+        let planned = plan(list, workload, course, c);
+        let before = planned.course;
+        let wish = planned.wish;
+        let e = planned.entry;
+        let slot = planned.slot;
+        let turn = turn_of(heads, bucket, c, next.len(), dated.len(), e, slot, wish);
+        let turned = take(
+            heads,
+            tails,
+            next,
+            prev,
+            bucket,
+            entry,
+            generation,
+            serial,
+            dated,
+            deadline,
+            stamp,
+            c,
+            workload,
+            before,
+            turn,
+            e,
+            slot,
+            planned.due,
+        );
+        c = turned.clock;
+        course = turned.course;
+        note(list, turned.at, turned.what);
+        turns = turns_after(turns, turn);
+    }
+    result(workload, course)
+}
+
+// The turns that there are at most: none where the records show no sound wheel. A proved loop has to end, so it counts down
+// from a number that no workload uses up.
+fn first_turns(
+    heads: &[usize],
+    tails: &[usize],
+    next: &[usize],
+    prev: &[usize],
+    bucket: &[usize],
+    entry: &[usize],
+    generation: &[u32],
+    serial: &[u64],
+    dated: &[bool],
+    deadline: &[u64],
+    stamp: &[u32],
+    clock: Clock,
+) -> u64
+    ensures { λ r. ⌜ (0 < r → Works (lent (now (heads .entry)) (now (tails .entry)) (now (next .entry)) (now (prev .entry)) (now (bucket .entry)) (now (entry .entry)) (now (generation .entry)) (now (serial .entry)) (now (dated .entry)) (now (deadline .entry)) (now (stamp .entry)) clock)) ⌝ }
+{
+    if !clock.enabled {
+        return 0;
+    }
+    if !is_sound(
+        heads,
+        tails,
+        next,
+        prev,
+        bucket,
+        entry,
+        generation,
+        serial,
+        dated,
+        deadline,
+        stamp,
+        clock,
+        BUCKETS,
+    ) {
+        return 0;
+    }
+    u64::MAX
+}
+
+// The turns that are left after one more: none after the end.
+fn turns_after(turns: u64, turn: Turn) -> u64
+    ensures { λ r. ⌜ (0 < turns → r < turns) ⌝ }
+{
+    if turns == 0 {
+        return 0;
+    }
+    match turn {
+        Turn::Stop => 0,
+        _ => turns - 1,
+    }
+}
