@@ -7,7 +7,7 @@ use deque::answer::Made;
 use deque::answer::Popped;
 use deque::answer::Pushed;
 
-// The answers' words, by their places in `say`; then the answers that are other lines.
+// The answers' words, and the answers that are other lines.
 const SLOT: usize = 0;
 
 const POPPED: usize = 1;
@@ -137,13 +137,22 @@ pub fn say(out: &mut [u8; 65536], called: Called) -> usize {
     if word == BAD_LINE {
         return lines::append(out, at, b"bad line\n");
     }
-    let text = lines::part(
-        b"slot popped element refused nothing ok length digest",
-        word,
-    );
-    let worded = lines::append(out, at, text);
+    let worded = say_word(out, at, word);
     let numbered = say_numbers(out, worded, called);
     lines::append(out, numbered, b"\n")
+}
+
+fn say_word(out: &mut [u8; 65536], at: usize, word: usize) -> usize {
+    match word {
+        SLOT => lines::append(out, at, b"slot"),
+        POPPED => lines::append(out, at, b"popped"),
+        ELEMENT => lines::append(out, at, b"element"),
+        REFUSED => lines::append(out, at, b"refused"),
+        NOTHING => lines::append(out, at, b"nothing"),
+        LENGTH => lines::append(out, at, b"length"),
+        DIGESTED => lines::append(out, at, b"digest"),
+        _ => lines::append(out, at, b"ok"),
+    }
 }
 
 fn say_numbers(out: &mut [u8; 65536], at: usize, called: Called) -> usize {
