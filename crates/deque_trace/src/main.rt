@@ -1,24 +1,22 @@
-// Speaks the trace format for the deque: calls on standard input, an answer for each on standard
-// output. Assumes nothing.
+// Speaks the trace format for the deque: calls on standard input, an answer for each on standard output.
 mod answers;
 mod parse;
 mod records;
 mod state;
+mod words;
 mod work;
 
-ghost use Prim.Native.Nat.{_≤_};
+ghost use mathlib.Core.Path.{_≡_};
+ghost use lib.ListN.{length};
+use answers::say;
 use lines::Source;
+use parse::Call;
+use parse::SILENT;
 use parse::call_of;
 use state::State;
-use state::answer;
-use state::before_make;
-use state::say_reply;
-
-// What goes from line to line: the state, and how many bytes of answers wait.
-struct Progress {
-    state: State,
-    waiting: usize,
-}
+use state::after;
+use state::planned;
+use work::perform;
 
 fn main() {
     let mut heads = [0usize; 256];
@@ -49,102 +47,64 @@ fn main() {
 
 // Answers line by line to the end of the input.
 fn run(
-    heads: &mut [usize; 256],
-    tails: &mut [usize; 256],
-    lens: &mut [usize; 256],
-    cursors: &mut [usize; 256],
-    next: &mut [usize; 4096],
-    prev: &mut [usize; 4096],
-    home: &mut [usize; 4096],
-    element: &mut [u64; 4096],
+    heads: &mut [usize],
+    tails: &mut [usize],
+    lens: &mut [usize],
+    cursors: &mut [usize],
+    next: &mut [usize],
+    prev: &mut [usize],
+    home: &mut [usize],
+    element: &mut [u64],
     block: &mut [u8; 65536],
     line: &mut [u8; 257],
     out: &mut [u8; 65536],
-) {
+)
+    requires { ⌜ (length (now heads) ≡ 256) × (length (now tails) ≡ 256) × (length (now lens) ≡ 256) × (length (now cursors) ≡ 256) × (length (now next) ≡ 4096) × (length (now prev) ≡ 4096) × (length (now home) ≡ 4096) × (length (now element) ≡ 4096) ⌝ }
+{
     let mut source = lines::begin();
-    let mut p = at_start();
+    let mut state = State {
+        deques: 0,
+        nodes: 0,
+        free: deque::NONE,
+    };
+    let mut waiting: usize = 0;
     let mut turns = u64::MAX;
     while turns > 0 {
         source = lines::next_line(block, line, source);
-        p = respond(
-            heads,
-            tails,
-            lens,
-            cursors,
-            next,
-            prev,
-            home,
-            element,
-            line,
+        let plan = planned(state, found(line, source));
+        let d = plan.deques;
+        let n = plan.nodes;
+        let call = plan.call;
+        let called = perform(
+            &mut heads[..d],
+            &mut tails[..d],
+            &mut lens[..d],
+            &mut cursors[..d],
+            &mut next[..n],
+            &mut prev[..n],
+            &mut home[..n],
+            &mut element[..n],
             out,
-            p,
-            source,
+            waiting,
+            state.free,
+            call,
         );
+        let said = say(out, called);
+        waiting = lines::settle(out, said, source);
+        state = after(state, plan, called);
         turns = lines::turns_left(turns, source.more);
     }
-    lines::flush(out, p.waiting);
+    lines::flush(out, waiting);
 }
 
-fn at_start() -> Progress
-    ensures { λ r. ⌜ (r .state .deques ≤ 256) × (r .state .nodes ≤ 4096) ⌝ }
-{
-    let state = before_make();
-    Progress { state, waiting: 0 }
-}
-
-// Answers the line that was found, if there was one.
-fn respond(
-    heads: &mut [usize; 256],
-    tails: &mut [usize; 256],
-    lens: &mut [usize; 256],
-    cursors: &mut [usize; 256],
-    next: &mut [usize; 4096],
-    prev: &mut [usize; 4096],
-    home: &mut [usize; 4096],
-    element: &mut [u64; 4096],
-    line: &[u8; 257],
-    out: &mut [u8; 65536],
-    p: Progress,
-    source: Source,
-) -> Progress
-    requires { ⌜ (p .state .deques ≤ 256) × (p .state .nodes ≤ 4096) ⌝ }
-    ensures { λ r. ⌜ (r .state .deques ≤ 256) × (r .state .nodes ≤ 4096) ⌝ }
-{
+// The call of the line that was found: nothing is asked where there was none.
+fn found(line: &[u8; 257], source: Source) -> Call {
     if !source.more {
-        return p;
+        return Call {
+            asks: SILENT,
+            i: 0,
+            x: 0,
+        };
     }
-    let call = call_of(lines::first(line, source.held));
-    let s = p.state;
-    let turn = answer(
-        heads,
-        tails,
-        lens,
-        cursors,
-        next,
-        prev,
-        home,
-        element,
-        s,
-        call,
-    );
-    let reply = turn.reply;
-    let state = turn.state;
-    let said = say_reply(
-        out,
-        p.waiting,
-        heads,
-        tails,
-        lens,
-        cursors,
-        next,
-        prev,
-        home,
-        element,
-        state,
-        reply,
-    );
-    Progress {
-        state,
-        waiting: lines::settle(out, said, source),
-    }
+    call_of(lines::first(line, source.held))
 }

@@ -1,12 +1,12 @@
--- `digest_deques` is safe and ends. Nothing has to hold from turn to turn; the measure is the number of deques that are left. Assumes nothing.
-use Prim.Native.Nat.{_-_}
+-- `digest_deques` ends. The measure is the number of deques that are left.
+use Prim.Native.Nat.{_≤_, _-_}
 use lib.ListN.{length}
 use borrow.Author.Needs.{needs}
 use Rattle.deque_trace.proofs.records.digest_deques.Statement.{statement}
 use Rattle.deque_trace.proofs.records.digest_deques.Tie as tie
 
 abbrev Inv-loop : tie.InvT-loop
-Inv-loop h heads tails lens cursors digest₀ d₀ digest d = Unit {0}
+Inv-loop h heads tails lens cursors digest₀ d₀ digest d = d ≤ length heads
 
 abbrev μ-loop : tie.MeasureT-loop
 μ-loop h heads tails lens cursors digest₀ d₀ digest d = length heads - d
@@ -14,23 +14,14 @@ abbrev μ-loop : tie.MeasureT-loop
 loop-holds : tie.Need-loop-holds Inv-loop μ-loop
 loop-holds c = search needs
 
-link-requires : tie.Need-link-requires Inv-loop μ-loop
-link-requires c κs = search needs
+deque-row-requires : tie.Need-deque-row-requires Inv-loop μ-loop
+deque-row-requires c κs = search needs
 
-link-requires-2 : tie.Need-link-requires-2 Inv-loop μ-loop
-link-requires-2 c κs = search needs
+slice-aggregate-digest-all : tie.Need-slice-aggregate-digest-all Inv-loop μ-loop
+slice-aggregate-digest-all c = search needs
 
-link-requires-3 : tie.Need-link-requires-3 Inv-loop μ-loop
-link-requires-3 c κs = search needs
-
-mul-digest-deque : tie.Need-mul-digest-deque Inv-loop μ-loop
-mul-digest-deque c = search needs
-
-shared-slice-read-digest-deque : tie.Need-shared-slice-read-digest-deque Inv-loop μ-loop
-shared-slice-read-digest-deque c = search needs
-
-digest-deque-requires : tie.Need-digest-deque-requires Inv-loop μ-loop
-digest-deque-requires c κs = search needs
+digest-all-requires : tie.Need-digest-all-requires Inv-loop μ-loop
+digest-all-requires c κs = search needs
 
 add-d : tie.Need-add-d Inv-loop μ-loop
 add-d c = search needs
@@ -51,12 +42,9 @@ digest-deques-spec =
     Inv-loop
     μ-loop
     loop-holds
-    link-requires
-    link-requires-2
-    link-requires-3
-    mul-digest-deque
-    shared-slice-read-digest-deque
-    digest-deque-requires
+    deque-row-requires
+    slice-aggregate-digest-all
+    digest-all-requires
     add-d
     loop-less
     loop-again

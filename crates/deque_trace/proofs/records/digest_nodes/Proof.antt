@@ -1,12 +1,12 @@
--- `digest_nodes` is safe and ends. Nothing has to hold from turn to turn; the measure is the number of nodes that are left. Assumes nothing.
-use Prim.Native.Nat.{_-_}
+-- `digest_nodes` ends. The measure is the number of nodes that are left.
+use Prim.Native.Nat.{_≤_, _-_}
 use lib.ListN.{length}
 use borrow.Author.Needs.{needs}
 use Rattle.deque_trace.proofs.records.digest_nodes.Statement.{statement}
 use Rattle.deque_trace.proofs.records.digest_nodes.Tie as tie
 
 abbrev Inv-loop : tie.InvT-loop
-Inv-loop h next prev home element digest₀ s₀ digest s = Unit {0}
+Inv-loop h next prev home element digest₀ s₀ digest s = s ≤ length next
 
 abbrev μ-loop : tie.MeasureT-loop
 μ-loop h next prev home element digest₀ s₀ digest s = length next - s
@@ -14,23 +14,14 @@ abbrev μ-loop : tie.MeasureT-loop
 loop-holds : tie.Need-loop-holds Inv-loop μ-loop
 loop-holds c = search needs
 
-link-requires : tie.Need-link-requires Inv-loop μ-loop
-link-requires c κs = search needs
+node-row-requires : tie.Need-node-row-requires Inv-loop μ-loop
+node-row-requires c κs = search needs
 
-link-requires-2 : tie.Need-link-requires-2 Inv-loop μ-loop
-link-requires-2 c κs = search needs
+slice-aggregate-digest-all : tie.Need-slice-aggregate-digest-all Inv-loop μ-loop
+slice-aggregate-digest-all c = search needs
 
-number-requires : tie.Need-number-requires Inv-loop μ-loop
-number-requires c κs = search needs
-
-mul-digest-node : tie.Need-mul-digest-node Inv-loop μ-loop
-mul-digest-node c = search needs
-
-shared-slice-read-digest-node : tie.Need-shared-slice-read-digest-node Inv-loop μ-loop
-shared-slice-read-digest-node c = search needs
-
-digest-node-requires : tie.Need-digest-node-requires Inv-loop μ-loop
-digest-node-requires c κs = search needs
+digest-all-requires : tie.Need-digest-all-requires Inv-loop μ-loop
+digest-all-requires c κs = search needs
 
 add-s : tie.Need-add-s Inv-loop μ-loop
 add-s c = search needs
@@ -51,12 +42,9 @@ digest-nodes-spec =
     Inv-loop
     μ-loop
     loop-holds
-    link-requires
-    link-requires-2
-    number-requires
-    mul-digest-node
-    shared-slice-read-digest-node
-    digest-node-requires
+    node-row-requires
+    slice-aggregate-digest-all
+    digest-all-requires
     add-s
     loop-less
     loop-again

@@ -1,37 +1,27 @@
--- `say_nodes` is safe and ends. The buffer keeps its length; the measure is the number of nodes that are left. Assumes nothing.
-use Prim.Native.Nat.{_-_}
-use mathlib.Core.Path.{_≡_}
+-- `say_nodes` ends. The measure is the number of nodes that are left.
+use Prim.Native.Nat.{_≤_, _-_}
 use lib.ListN.{length}
 use borrow.Author.Needs.{needs}
 use Rattle.deque_trace.proofs.records.say_nodes.Statement.{statement}
 use Rattle.deque_trace.proofs.records.say_nodes.Tie as tie
 
 abbrev Inv-loop : tie.InvT-loop
-Inv-loop out₀ at next prev home element waiting₀ s₀ out waiting s = length out ≡ length out₀
+Inv-loop out₀ at next prev home element waiting₀ s₀ t10 out waiting s = s ≤ length next
 
 abbrev μ-loop : tie.MeasureT-loop
-μ-loop out₀ at next prev home element waiting₀ s₀ out waiting s = length next - s
+μ-loop out₀ at next prev home element waiting₀ s₀ t10 out waiting s = length next - s
 
 loop-holds : tie.Need-loop-holds Inv-loop μ-loop
 loop-holds c = search needs
 
-link-requires : tie.Need-link-requires Inv-loop μ-loop
-link-requires c κs = search needs
+node-row-requires : tie.Need-node-row-requires Inv-loop μ-loop
+node-row-requires c κs = search needs
 
-link-requires-2 : tie.Need-link-requires-2 Inv-loop μ-loop
-link-requires-2 c κs = search needs
+slice-aggregate-say-row : tie.Need-slice-aggregate-say-row Inv-loop μ-loop
+slice-aggregate-say-row c = search needs
 
-number-requires : tie.Need-number-requires Inv-loop μ-loop
-number-requires c κs = search needs
-
-mul-say-node : tie.Need-mul-say-node Inv-loop μ-loop
-mul-say-node c = search needs
-
-shared-slice-read-say-node : tie.Need-shared-slice-read-say-node Inv-loop μ-loop
-shared-slice-read-say-node c = search needs
-
-say-node-requires : tie.Need-say-node-requires Inv-loop μ-loop
-say-node-requires c κs = search needs
+say-row-requires : tie.Need-say-row-requires Inv-loop μ-loop
+say-row-requires c κs = search needs
 
 add-s : tie.Need-add-s Inv-loop μ-loop
 add-s c = search needs
@@ -41,9 +31,6 @@ loop-less c = search needs
 
 loop-again : tie.Need-loop-again Inv-loop μ-loop
 loop-again c = search needs
-
-same-length : tie.Need-same-length Inv-loop μ-loop
-same-length c = search needs
 
 returns : tie.Need-returns Inv-loop μ-loop
 returns c = search needs
@@ -55,14 +42,10 @@ say-nodes-spec =
     Inv-loop
     μ-loop
     loop-holds
-    link-requires
-    link-requires-2
-    number-requires
-    mul-say-node
-    shared-slice-read-say-node
-    say-node-requires
+    node-row-requires
+    slice-aggregate-say-row
+    say-row-requires
     add-s
     loop-less
     loop-again
-    same-length
     returns)
