@@ -33,7 +33,8 @@ pub enum Wish {
     Stop,
 }
 
-// The wish and the course with it, the entry that it is about with its slot, and its deadline or the reading to advance to.
+// The wish and the course with it, the entry that it is about with its slot, and its deadline or the reading to advance
+// to.
 pub struct Planned {
     pub course: Course,
     pub wish: Wish,
@@ -57,8 +58,8 @@ pub fn note(list: &mut [usize], i: usize, n: usize) {
     }
 }
 
-// The course at its start. In `Cancel` the list has the slot of each entry, at first none; else it has the entries to arm,
-// at first all.
+// The course at its start. In `Cancel` the list has the slot of each entry, at first none; else it has the entries to
+// arm, at first all.
 pub fn begun(list: &mut [usize], workload: Workload, calls: u64, x: u64) -> Course {
     Course {
         left: calls,
@@ -145,7 +146,8 @@ fn plan_last(course: Course) -> Planned {
     wished(after, Wish::Open, u64::MAX)
 }
 
-// The listed entries are armed, each as far ahead of the reading as the generator's next number says; then the next call.
+// The listed entries are armed, each as far ahead of the reading as the generator's next number says; then the next
+// call.
 fn plan_armed(list: &[usize], workload: Workload, course: Course, reading: u64) -> Planned {
     let at = course.armed;
     if course.listed <= at {

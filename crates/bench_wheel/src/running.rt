@@ -86,8 +86,8 @@ pub fn run(
     result(workload, course)
 }
 
-// The turns that there are at most: none where the records show no sound wheel. A proved loop has to end, so it counts down
-// from a number that no workload uses up.
+// The turns that there are at most: none where the records show no sound wheel. A proved loop has to end, so it counts
+// down from a number that no workload uses up.
 fn first_turns(
     heads: &[usize],
     tails: &[usize],

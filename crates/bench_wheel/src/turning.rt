@@ -102,8 +102,8 @@ fn is_armed(heads: &[usize], bucket: &[usize], x: usize) -> bool
     bucket[x] < heads.len()
 }
 
-// One turn: the entry e is armed, the slot x cancelled, the advance read on; else an advance to the deadline is opened, the
-// armed timers are counted, or nothing is done.
+// One turn: the entry e is armed, the slot x cancelled, the advance read on; else an advance to the deadline is opened,
+// the armed timers are counted, or nothing is done.
 pub fn take(
     heads: &mut [usize],
     tails: &mut [usize],

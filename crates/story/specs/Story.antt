@@ -38,6 +38,7 @@ tooEarly = abandoned ++ (start (2 ^ 30 + 4) ∷ pull ∷ pull ∷ [])
 abbrev pub steppedBack : List Call
 steppedBack = tooEarly ++ (start 5 ∷ pull ∷ [])
 
--- "The first advance that is read to its end, goes to the deadline or later and enters a later tick than the one it started in hands it out once"
+-- "The first advance that is read to its end, goes to the deadline or later and enters a later tick than the one it
+-- started in hands it out once"
 abbrev pub handedOut : List Call
 handedOut = steppedBack ++ (start (2 ^ 31) ∷ pull ∷ pull ∷ [])

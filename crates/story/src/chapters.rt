@@ -1,4 +1,5 @@
-// The chapters of the story: what is called, and what is expected of each answer. Unchecked: a chapter asks that the story has come that far.
+// The chapters of the story: what is called, and what is expected of each answer. Unchecked: a chapter asks that the
+// story has come that far.
 ghost use Rattle.story.specs.Held.{held};
 ghost use Rattle.story.specs.Story.{Reached, begun, armed, cancelled, abandoned, tooEarly, steppedBack, handedOut};
 use crate::answers::is_count;
