@@ -53,11 +53,17 @@ pub fn run(
     );
     while turns > 0 {
         let planned = plan(list, workload, course, c);
-        let before = planned.course;
         let wish = planned.wish;
-        let e = planned.entry;
-        let slot = planned.slot;
-        let turn = turn_of(heads, bucket, c, next.len(), dated.len(), e, slot, wish);
+        let turn = turn_of(
+            heads,
+            bucket,
+            c,
+            next.len(),
+            dated.len(),
+            planned.entry,
+            planned.slot,
+            wish,
+        );
         let turned = take(
             heads,
             tails,
@@ -72,10 +78,10 @@ pub fn run(
             stamp,
             c,
             workload,
-            before,
+            planned.course,
             turn,
-            e,
-            slot,
+            planned.entry,
+            planned.slot,
             planned.due,
         );
         c = turned.clock;

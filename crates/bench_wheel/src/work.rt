@@ -27,7 +27,22 @@ pub fn digest_of(workload: Workload, nodes: usize, calls: u64, x: u64) -> u64
     let mut deadline = [0u64; 4168];
     let mut stamp = [0u32; 4168];
     let mut list = [NONE; 4168];
-    make_and_run(
+    let created = wheel::create(0);
+    let made = wheel::enable(
+        &mut heads,
+        &mut tails,
+        &mut next[..nodes],
+        &mut prev[..nodes],
+        &mut bucket[..nodes],
+        &mut entry[..nodes],
+        &mut generation[..nodes],
+        &mut serial[..nodes],
+        &mut dated[..entries],
+        &mut deadline[..entries],
+        &mut stamp[..entries],
+        created.clock,
+    );
+    run(
         &mut heads,
         &mut tails,
         &mut next[..nodes],
@@ -41,60 +56,7 @@ pub fn digest_of(workload: Workload, nodes: usize, calls: u64, x: u64) -> u64
         &mut stamp[..entries],
         &mut list[..entries],
         workload,
-        calls,
-        x,
-    )
-}
-
-// Makes a wheel over the records and runs the workload on it.
-fn make_and_run(
-    heads: &mut [usize],
-    tails: &mut [usize],
-    next: &mut [usize],
-    prev: &mut [usize],
-    bucket: &mut [usize],
-    entry: &mut [usize],
-    generation: &mut [u32],
-    serial: &mut [u64],
-    dated: &mut [bool],
-    deadline: &mut [u64],
-    stamp: &mut [u32],
-    list: &mut [usize],
-    workload: Workload,
-    calls: u64,
-    x: u64,
-) -> u64 {
-    let created = wheel::create(0);
-    let made = wheel::enable(
-        heads,
-        tails,
-        next,
-        prev,
-        bucket,
-        entry,
-        generation,
-        serial,
-        dated,
-        deadline,
-        stamp,
-        created.clock,
-    );
-    let clock = clock_of(made, created.clock);
-    run(
-        heads,
-        tails,
-        next,
-        prev,
-        bucket,
-        entry,
-        generation,
-        serial,
-        dated,
-        deadline,
-        stamp,
-        list,
-        workload,
-        clock,
+        clock_of(made, created.clock),
         calls,
         x,
     )

@@ -9,7 +9,7 @@ enum-told : tie.Need-enum-told
 enum-told c = search needs
 
 start-requires : tie.Need-start-requires
-start-requires c κs = search needs
+start-requires c κs = tt
 
 returns : tie.Need-returns
 returns c = inl (c .start .ensures)

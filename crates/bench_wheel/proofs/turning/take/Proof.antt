@@ -1,5 +1,6 @@
 -- `take` leaves a sound wheel.
 use borrow.Author.Needs.{needs}
+use mathlib.Core.Path.{refl}
 use Rattle.bench_wheel.proofs.Keeping.{arm-asks, set-asks, arm-works, disarm-asks, disarm-works, pull-asks, pull-works, open-works, fit-arm, fit-cancel, fit-pull}
 use Rattle.bench_wheel.proofs.turning.take.Statement.{statement}
 use Rattle.bench_wheel.proofs.turning.take.Tie as tie
@@ -14,10 +15,10 @@ arm-requires : tie.Need-arm-requires
 arm-requires c κs = arm-asks _ _ _ (c .before .before .before .before .before .before .before .before .before .before .before .before .before .before .before .before .before .before .before .before .before .before .before .before .before .before .before .before .before .before .before .pre .0) _ (fit-arm _ _ _ _ _ _ _ _ (c .before .before .before .before .before .before .before .before .before .before .before .before .before .before .before .before .before .before .enum-told .given .1) (c .before .before .before .before .before .before .before .before .before .before .before .before .before .before .before .before .before .before .before .before .before .before .before .before .before .before .before .before .before .before .before .pre .1))
 
 slot-place-requires : tie.Need-slot-place-requires
-slot-place-requires c κs = search needs
+slot-place-requires c κs = tt
 
 outcome-requires : tie.Need-outcome-requires
-outcome-requires c κs = search needs
+outcome-requires c κs = tt
 
 enum-told-2 : tie.Need-enum-told-2
 enum-told-2 c = search needs
@@ -26,7 +27,7 @@ disarm-requires : tie.Need-disarm-requires
 disarm-requires c κs = disarm-asks _ _ _ (c .before .before .before .before .before .before .before .before .before .before .before .before .before .before .before .before .before .before .before .before .before .pre .0) _ (fit-cancel _ _ _ _ _ _ _ _ (c .before .before .before .before .before .before .before .before .enum-told2 .given .1) (c .before .before .before .before .before .before .before .before .before .before .before .before .before .before .before .before .before .before .before .before .before .pre .1))
 
 outcome-requires-2 : tie.Need-outcome-requires-2
-outcome-requires-2 c κs = search needs
+outcome-requires-2 c κs = tt
 
 enum-told-3 : tie.Need-enum-told-3
 enum-told-3 c = search needs
@@ -35,25 +36,25 @@ pull-requires : tie.Need-pull-requires
 pull-requires c κs = pull-asks _ _ _ _ _ (c .before .before .before .before .before .before .before .before .before .before .before .before .before .before .before .before .before .before .before .before .before .before .before .pre .0) (fit-pull _ _ _ _ _ _ _ _ (c .before .before .before .before .before .before .before .before .before .before .enum-told3 .given .1) (c .before .before .before .before .before .before .before .before .before .before .before .before .before .before .before .before .before .before .before .before .before .before .before .pre .1))
 
 after-event-requires : tie.Need-after-event-requires
-after-event-requires c κs = search needs
+after-event-requires c κs = tt
 
 expired-requires : tie.Need-expired-requires
-expired-requires c κs = search needs
+expired-requires c κs = tt
 
 outcome-requires-3 : tie.Need-outcome-requires-3
-outcome-requires-3 c κs = search needs
+outcome-requires-3 c κs = tt
 
 counted-requires : tie.Need-counted-requires
-counted-requires c κs = search needs
+counted-requires c κs = tt
 
 opened-requires : tie.Need-opened-requires
-opened-requires c κs = search needs
+opened-requires c κs = tt
 
 after-count-requires : tie.Need-after-count-requires
-after-count-requires c κs = search needs
+after-count-requires c κs = tt
 
 outcome-requires-4 : tie.Need-outcome-requires-4
-outcome-requires-4 c κs = search needs
+outcome-requires-4 c κs = tt
 
 same-length : tie.Need-same-length
 same-length c = c .before .before .before .before .before .before .before .before .before .before .before .before .before .before .before .before .before .before .arm .kept .0
@@ -143,46 +144,46 @@ same-length-27 : tie.Need-same-length-27
 same-length-27 c = c .before .before .before .before .before .before .before .before .before .before .before .before .before .before .before .before .before .before .before .pull .kept .1 .1 .1 .1 .1 .1 .1 .0
 
 same-length-28 : tie.Need-same-length-28
-same-length-28 c = search needs
+same-length-28 c = refl
 
 same-length-29 : tie.Need-same-length-29
-same-length-29 c = search needs
+same-length-29 c = refl
 
 returns-3 : tie.Need-returns-3
 returns-3 c = pull-works _ _ _ _ _ (c .before .before .before .before .before .before .before .before .before .before .before .before .before .before .before .before .before .before .before .before .before .before .before .before .before .before .before .before .before .before .before .before .before .before .before .before .before .before .before .before .before .before .before .pre .0) _ _ _ (c .before .before .before .before .before .before .before .before .before .before .before .before .before .before .before .before .before .before .before .pull .ensures) _ (c .outcome3 .ensures)
 
 same-length-30 : tie.Need-same-length-30
-same-length-30 c = search needs
+same-length-30 c = refl
 
 same-length-31 : tie.Need-same-length-31
-same-length-31 c = search needs
+same-length-31 c = refl
 
 same-length-32 : tie.Need-same-length-32
-same-length-32 c = search needs
+same-length-32 c = refl
 
 same-length-33 : tie.Need-same-length-33
-same-length-33 c = search needs
+same-length-33 c = refl
 
 same-length-34 : tie.Need-same-length-34
-same-length-34 c = search needs
+same-length-34 c = refl
 
 same-length-35 : tie.Need-same-length-35
-same-length-35 c = search needs
+same-length-35 c = refl
 
 same-length-36 : tie.Need-same-length-36
-same-length-36 c = search needs
+same-length-36 c = refl
 
 same-length-37 : tie.Need-same-length-37
-same-length-37 c = search needs
+same-length-37 c = refl
 
 same-length-38 : tie.Need-same-length-38
-same-length-38 c = search needs
+same-length-38 c = refl
 
 same-length-39 : tie.Need-same-length-39
-same-length-39 c = search needs
+same-length-39 c = refl
 
 same-length-40 : tie.Need-same-length-40
-same-length-40 c = search needs
+same-length-40 c = refl
 
 returns-4 : tie.Need-returns-4
 returns-4 c = open-works _ _ _ (c .before .before .before .before .before .before .before .before .before .before .before .before .before .before .before .before .before .before .before .before .before .before .before .before .before .before .before .pre .0) _ _ (c .before .before .opened .ensures) _ (c .outcome4 .ensures)

@@ -9,19 +9,19 @@ enum-told : tie.Need-enum-told
 enum-told c = search needs
 
 is-armed-requires : tie.Need-is-armed-requires
-is-armed-requires c κs = search needs
+is-armed-requires c κs = tt
 
 returns : tie.Need-returns
 returns c = c .before .is-armed .ensures .yes (c .if1 .taken)
 
 arming-requires : tie.Need-arming-requires
-arming-requires c κs = search needs
+arming-requires c κs = tt
 
 enum-told-2 : tie.Need-enum-told-2
 enum-told-2 c = search needs
 
 arming-requires-2 : tie.Need-arming-requires-2
-arming-requires-2 c κs = search needs
+arming-requires-2 c κs = tt
 
 enum-told-3 : tie.Need-enum-told-3
 enum-told-3 c = search needs
@@ -30,7 +30,7 @@ enum-told-4 : tie.Need-enum-told-4
 enum-told-4 c = search needs
 
 returns-2 : tie.Need-returns-2
-returns-2 c = search needs
+returns-2 c = tt
 
 enum-told-5 : tie.Need-enum-told-5
 enum-told-5 c = search needs
@@ -45,16 +45,16 @@ returns-4 : tie.Need-returns-4
 returns-4 c = arming-fits (c .before .before .before .before .before .args .heads .now) (c .before .before .before .before .before .args .bucket .now) (c .before .before .before .before .before .args .clock) (c .before .before .before .before .before .args .nodes) (c .before .before .before .before .before .args .entries) (c .before .before .before .before .before .args .e) (c .before .before .before .before .before .args .x) (c .arming2 .result) (c .arming2 .ensures)
 
 returns-5 : tie.Need-returns-5
-returns-5 c = search needs
+returns-5 c = tt
 
 returns-6 : tie.Need-returns-6
 returns-6 c = not-false _ (c .if2 .left)
 
 returns-7 : tie.Need-returns-7
-returns-7 c = search needs
+returns-7 c = tt
 
 returns-8 : tie.Need-returns-8
-returns-8 c = search needs
+returns-8 c = tt
 
 pub turn-of-spec : {M : Type 1} → statement M
 turn-of-spec =
