@@ -18,9 +18,8 @@ use requests::Request;
 use requests::request_of;
 use shows::look;
 use state::State;
-use state::answered;
 use state::at_start;
-use state::settled;
+use state::said;
 use work::work_lent;
 
 fn main() {
@@ -95,7 +94,7 @@ fn run(
             p,
             request,
         );
-        p = settled(out, p, source);
+        p = said(out, p, source);
         turns = lines::turns_left(turns, source.more);
     }
     lines::flush(out, p.waiting);
@@ -120,25 +119,22 @@ fn respond(
 ) -> State {
     let call = r.call;
     match call {
-        0..=4 | 10 | 20 | 30..=32 => answered(
-            out,
-            work_lent(
-                heads,
-                tails,
-                next,
-                prev,
-                bucket,
-                entry,
-                generation,
-                serial,
-                dated,
-                deadline,
-                stamp,
-                s.nodes,
-                s.entries,
-                s,
-                r,
-            ),
+        0..=4 | 10 | 20 | 30..=32 => work_lent(
+            heads,
+            tails,
+            next,
+            prev,
+            bucket,
+            entry,
+            generation,
+            serial,
+            dated,
+            deadline,
+            stamp,
+            s.nodes,
+            s.entries,
+            s,
+            r,
         ),
         5..=7 | 12 => look(
             heads,
@@ -156,23 +152,20 @@ fn respond(
             s,
             r,
         ),
-        _ => answered(
-            out,
-            change(
-                heads,
-                tails,
-                next,
-                prev,
-                bucket,
-                entry,
-                generation,
-                serial,
-                dated,
-                deadline,
-                stamp,
-                s,
-                r,
-            ),
+        _ => change(
+            heads,
+            tails,
+            next,
+            prev,
+            bucket,
+            entry,
+            generation,
+            serial,
+            dated,
+            deadline,
+            stamp,
+            s,
+            r,
         ),
     }
 }

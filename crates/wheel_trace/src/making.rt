@@ -28,21 +28,18 @@ pub fn change(
 ) -> State {
     let call = r.call;
     match call {
-        requests::LEND => lend(
-            heads,
-            tails,
-            next,
-            prev,
-            bucket,
-            entry,
-            generation,
-            serial,
-            dated,
-            deadline,
-            stamp,
-            s,
-            r,
-        ),
+        requests::LEND => {
+            *next = [0usize; 4100];
+            *prev = [0usize; 4100];
+            *bucket = [0usize; 4100];
+            *entry = [0usize; 4100];
+            *generation = [0u32; 4100];
+            *serial = [0u64; 4100];
+            *dated = [false; 4100];
+            *deadline = [0u64; 4100];
+            *stamp = [0u32; 4100];
+            create(heads, tails, lent(s, r), 0)
+        }
         requests::CREATE => create(heads, tails, s, r.index as u64),
         40..=45 => poke_node(next, prev, bucket, entry, generation, serial, s, r),
         50 | 51 => poke_bucket(heads, tails, s, r),
@@ -50,36 +47,13 @@ pub fn change(
     }
 }
 
-// `lend NODES ENTRIES`.
-fn lend(
-    heads: &mut [usize; 165],
-    tails: &mut [usize; 165],
-    next: &mut [usize; 4100],
-    prev: &mut [usize; 4100],
-    bucket: &mut [usize; 4100],
-    entry: &mut [usize; 4100],
-    generation: &mut [u32; 4100],
-    serial: &mut [u64; 4100],
-    dated: &mut [bool; 4100],
-    deadline: &mut [u64; 4100],
-    stamp: &mut [u32; 4100],
-    s: State,
-    r: Request,
-) -> State {
-    *next = [0usize; 4100];
-    *prev = [0usize; 4100];
-    *bucket = [0usize; 4100];
-    *entry = [0usize; 4100];
-    *generation = [0u32; 4100];
-    *serial = [0u64; 4100];
-    *dated = [false; 4100];
-    *deadline = [0u64; 4100];
-    *stamp = [0u32; 4100];
+// `lend NODES ENTRIES`: as many are lent.
+fn lent(s: State, r: Request) -> State {
     let mut after = s;
     after.lent = true;
     after.nodes = r.index;
     after.entries = r.second as usize;
-    create(heads, tails, after, 0)
+    after
 }
 
 // `create SERIAL`.

@@ -6,7 +6,6 @@ use crate::requests;
 use crate::requests::Request;
 use crate::state::State;
 use crate::state::answer;
-use crate::state::answered;
 use crate::state::shown;
 use records::Clock;
 
@@ -280,13 +279,13 @@ fn tell(
         told = tell_row(out, told, row, sums);
         i += 1;
     }
-    ended(out, s, told, sums)
+    ended(s, told, sums)
 }
 
-// The digest is said.
-fn ended(out: &mut [u8; 65536], s: State, told: Told, sums: bool) -> State {
+// What there is to say when all is told: the digest, or no more.
+fn ended(s: State, told: Told, sums: bool) -> State {
     if sums {
-        return answered(out, answer(s, answers::DIGEST, 1, told.digest, 0, 0));
+        return answer(s, answers::DIGEST, 1, told.digest, 0, 0);
     }
     shown(s, told.waiting)
 }

@@ -58,15 +58,9 @@ pub fn shown(s: State, waiting: usize) -> State {
     after
 }
 
-// Says the answer.
-pub fn answered(out: &mut [u8; 65536], s: State) -> State {
+// Says the answer, and writes out what waits where more has to be read.
+pub fn said(out: &mut [u8; 65536], s: State, source: Source) -> State {
     let answer = s.reply;
-    shown(s, say(out, s.waiting, answer))
-}
-
-// What waits is written out where more has to be read.
-pub fn settled(out: &[u8], s: State, source: Source) -> State {
-    let mut after = s;
-    after.waiting = lines::settle(out, s.waiting, source);
-    after
+    let waits = say(out, s.waiting, answer);
+    shown(s, lines::settle(out, waits, source))
 }

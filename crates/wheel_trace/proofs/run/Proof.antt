@@ -29,14 +29,14 @@ request-of-requires c κs = search needs
 respond-requires : tie.Need-respond-requires Inv-loop μ-loop
 respond-requires c κs = search needs
 
-settled-requires : tie.Need-settled-requires Inv-loop μ-loop
-settled-requires c κs = search needs
+said-requires : tie.Need-said-requires Inv-loop μ-loop
+said-requires c κs = search needs
 
 turns-left-requires : tie.Need-turns-left-requires Inv-loop μ-loop
 turns-left-requires c κs = search needs
 
 loop-less : tie.Need-loop-less Inv-loop μ-loop
-loop-less c = c .turns-left .ensures .less (omega (arith, c .before .before .before .before .before .before .before .before .before .before .before .before .before .before .before .before .before .before .before .before .before .before .before .loop-test))
+loop-less c = c .turns-left .ensures .less (omega (arith, c .before .before .before .before .before .before .before .before .before .before .before .before .before .before .before .before .before .before .before .before .before .before .loop-test))
 
 loop-again : tie.Need-loop-again Inv-loop μ-loop
 loop-again c = omega arith
@@ -59,7 +59,7 @@ run-spec =
     next-line-requires
     request-of-requires
     respond-requires
-    settled-requires
+    said-requires
     turns-left-requires
     loop-less
     loop-again
