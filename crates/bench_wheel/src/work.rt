@@ -10,23 +10,23 @@ use wheel::Timed;
 const BUCKETS: usize = 165;
 
 // The digest of a workload over so many node records, and as many entries as there are slots beside the sentinels. The
-// arrays are longer than that by 104, so that equal places of two of them do not share a set of the cache.
+// arrays are longer than that by 72, so that equal places of two of them do not share a set of the cache.
 pub fn digest_of(workload: Workload, nodes: usize, calls: u64, x: u64) -> u64
     requires { ⌜ (165 < nodes) × (nodes ≤ 4096) ⌝ }
 {
     let entries = nodes - BUCKETS;
     let mut heads = [0usize; 165];
     let mut tails = [0usize; 165];
-    let mut next = [0usize; 4200];
-    let mut prev = [0usize; 4200];
-    let mut bucket = [0usize; 4200];
-    let mut entry = [0usize; 4200];
-    let mut generation = [0u32; 4200];
-    let mut serial = [0u64; 4200];
-    let mut dated = [false; 4200];
-    let mut deadline = [0u64; 4200];
-    let mut stamp = [0u32; 4200];
-    let mut list = [NONE; 4200];
+    let mut next = [0usize; 4168];
+    let mut prev = [0usize; 4168];
+    let mut bucket = [0usize; 4168];
+    let mut entry = [0usize; 4168];
+    let mut generation = [0u32; 4168];
+    let mut serial = [0u64; 4168];
+    let mut dated = [false; 4168];
+    let mut deadline = [0u64; 4168];
+    let mut stamp = [0u32; 4168];
+    let mut list = [NONE; 4168];
     let created = wheel::create(0);
     let made = wheel::enable(
         &mut heads,
