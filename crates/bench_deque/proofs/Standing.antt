@@ -1,11 +1,11 @@
--- The records stay those of one deque: what each call of the workloads asks, and what it leaves. Assumes nothing.
+-- The records stay those of one deque: what each call of the workloads asks, and what it leaves.
 use Prim.Native.Nat.{ℕ, _≤_, _<_}
 use native.Mathlib.Omega.{arith}
 use mathlib.Core.Path.{_≡_, refl, sym, ap, subst, _∙_}
 use mathlib.Core.Logic.{inl, ⊎-elim}
 use mathlib.Core.Bool.{Bool, true, false, not}
 use mathlib.Core.List.{List, [], _∷_}
-use lib.ListN.{length}
+use lib.ListN.{length, getD}
 use Rattle.links.specs.Chain.{none, In, first, rest}
 use Rattle.links.specs.Lists.{homeOf}
 use Rattle.deque_sound.specs.State.{State, state, nodes}
@@ -17,7 +17,18 @@ use Rattle.deque_work.specs.Work.{Pushes, Drops, Moves}
 use Rattle.deque_plain.proofs.Keeping.{stepped-shows, front-in}
 use Rattle.deque_sound.proofs.Sounding.{sound-shows}
 use Rattle.deque_plain.specs.declared.answer.Looked.{Looked}
-use Rattle.bench_deque.specs.Ready.{Ready, Leaves, Full, Lacks, Tested}
+use Rattle.bench_deque.specs.Ready.{Ready, Full, Held, Tested}
+
+-- ---- a node of the first deque
+pub not-held : (home : List ℕ) (s : ℕ) → Held home s false
+not-held home s =
+    record {
+      slot = λ t. let z : _≡_ {A = ℕ} 0 1 = cc in absurd (omega (arith, z));
+      first = λ t. let z : _≡_ {A = ℕ} 0 1 = cc in absurd (omega (arith, z));
+    }
+
+pub is-held : (home : List ℕ) (s : ℕ) → s < length home → getD home s 0 ≡ 0 → Held home s true
+is-held home s l h = record { slot = λ t. l; first = λ t. h }
 
 module _ (a : State) (free : ℕ) where
   pub not-tested : Tested a free false
@@ -56,17 +67,6 @@ module _ (a : State) (free : ℕ) where
   pub moved-full : (b : State) (s : ℕ) → Full a free → Moves a b free 0 s → Full b free
   moved-full b s y m = record { v = _; shows = m .does (y .v) (y .shows); one = y .one; none-free = y .none-free }
 
-  -- the node that left is the one that is taken again
-  pub dropped-lacks : (b : State) (s r : ℕ) → Full a free → s < nodes a → Drops a b free 0 s r → Lacks b s
-  dropped-lacks b s r y h d =
-      record { v = _; shows = d .does (y .v) (y .shows); one = y .one; slot = rw (y .shows .rep .next-len) at h; last = ap (λ (xs : List ℕ). s ∷ xs) (y .none-free) }
-
-  pub retake-asks : Lacks a free → PushReady a free 0
-  retake-asks y = record { v = y .v; shows = y .shows; slot = y .slot; deque = omega (arith, y .one) }
-
-  pub retaken-full : (b : State) (e r : ℕ) → Lacks a free → Pushes a b free 0 e r → Full b r
-  retaken-full b e r y p = record { v = _; shows = p .does (y .v) (y .shows); one = y .one; none-free = ap rest (y .last) }
-
   -- there are nodes to choose from, and what is chosen is a node of the deque
   pub ready-size : Ready a free → (0 < nodes a) × (nodes a ≤ 4096)
   ready-size y = (omega (arith, y .shows .lent .nodes .some), omega (arith, y .shows .lent .nodes .small))
@@ -88,22 +88,16 @@ module _ (a : State) (free : ℕ) where
         none-free = none-left (y .v .free) (y .shows .free-is) (λ x i. rw (y .shows .rep .next-len) (y .shows .rep .spare x i .0)) h;
       }
 
-  -- ---- the front leaves
-  pub front-asks : Ready a free → frontOf a 0 < nodes a → NodeReady a free 0 (frontOf a 0)
-  front-asks y h =
-      let one : 0 < y .v .count = omega (arith, y .one) in
-      let some : frontOf a 0 ≡ none → ⊥ = λ k. omega (arith, h, k, y .shows .rep .next-len, y .shows .rep .small) in
-      let m = y .shows .rep .member 0 (frontOf a 0) one (front-in a free (y .v) (y .shows) 0 one some) in
-      record { v = y .v; shows = y .shows; slot = m .0; deque = one; homed = m .1 }
+  -- ---- a node leaves, and is taken again
+  pub held-asks : (s : ℕ) (good : Bool) → Ready a free → Held (a .links .home) s good → not good ≡ false → NodeReady a free 0 s
+  held-asks s true y h t = record { v = y .v; shows = y .shows; slot = rw (y .shows .rep .home-len) at (h .slot refl); deque = omega (arith, y .one); homed = h .first refl }
+  held-asks s false y h t = let z : _≡_ {A = ℕ} 0 1 = cc in absurd (omega (arith, z))
 
-  pub front-leaves : Ready a free → frontOf a 0 < nodes a → Leaves a free (frontOf a 0)
-  front-leaves y h = record { ready = y; node = front-asks y h }
+  pub left-asks : (b : State) (s r : ℕ) → NodeReady a free 0 s → Ready a free → Drops a b free 0 s r → PushReady b s 0
+  left-asks b s r n y d = record { v = _; shows = d .does (y .v) (y .shows); slot = omega (arith, n .slot, n .shows .rep .next-len, y .shows .rep .next-len); deque = omega (arith, y .one) }
 
-  pub left-ready : (b : State) (s r : ℕ) → Leaves a free s → Drops a b free 0 s r → Ready b s
-  left-ready b s r y d = record { v = _; shows = d .does (y .ready .v) (y .ready .shows); one = y .ready .one }
-
-  pub leaves-node : (s : ℕ) → Leaves a free s → NodeReady a free 0 s
-  leaves-node s y = y .node
+  pub turned-ready : (b c : State) (s e x r : ℕ) → Ready a free → Drops a b free 0 s e → Pushes b c s 0 x r → Ready c r
+  turned-ready b c s e x r y d p = record { v = _; shows = p .does _ (d .does (y .v) (y .shows)); one = y .one }
 
   -- ---- the test
   pub tested-ready : (good : Bool) → Tested a free good → not good ≡ false → Ready a free

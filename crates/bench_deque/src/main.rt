@@ -1,8 +1,10 @@
 // Seeded workloads for the deque, to be timed: one line of standard input asks for one, and its
-// answer is a digest of what it left. Assumes nothing.
+// answer is a digest of what it left.
+mod choice;
+mod digests;
+mod laying;
 mod requests;
 mod runs;
-mod steps;
 mod work;
 
 use lines::Source;

@@ -1,4 +1,4 @@
-// The requests: `WORKLOAD NODES CALLS SEED`, and their answers. Assumes nothing.
+// The requests: `WORKLOAD NODES CALLS SEED`, and their answers.
 use crate::work::CHECKED;
 use crate::work::MOVE;
 use crate::work::NO_WORKLOAD;

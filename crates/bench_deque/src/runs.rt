@@ -1,78 +1,21 @@
 // For proved code only, unchecked: runs of calls on one deque whose records are sound.
 ghost use Prim.Native.Nat.{_≤_, _<_};
+ghost use mathlib.Core.Path.{_≡_};
 ghost use lib.ListN.{length};
 ghost use Rattle.deque_sound.specs.State.{state};
 ghost use Rattle.bench_deque.specs.Ready.{Ready, Full};
-use crate::steps::push;
-use crate::steps::push_pop;
-use crate::steps::replace;
-use crate::steps::step;
+use crate::choice::chosen;
+use crate::choice::following;
+use crate::choice::held;
+use crate::choice::picked;
+use crate::digests::digest;
+use crate::digests::digest_after;
+use deque::answer::Looked;
 use deque_work::unchecked;
 
-const HALF: u64 = 0x1_0000_0000;
-
-// What filling leaves: the first free node, and the generator's last number.
-pub struct Filled {
-    pub free: usize,
-    pub x: u64,
-}
-
-// The generator's next number.
-fn following(x: u64) -> u64 {
-    let a = x ^ (x << 13);
-    let b = a ^ (a >> 7);
-    b ^ (b << 17)
-}
-
-// The node that the number x chooses out of so many: the upper half of x times the count, without its lower half.
-fn chosen(x: u64, nodes: u64) -> usize
-    requires { ⌜ (0 < nodes) × (nodes ≤ 4096) ⌝ }
-    ensures { λ r. ⌜ r < nodes ⌝ }
-{
-    ((x / HALF) * nodes / HALF) as usize
-}
-
-// Pushes so many numbers.
-pub fn fill(
-    heads: &mut [usize],
-    tails: &mut [usize],
-    lens: &mut [usize],
-    cursors: &[usize],
-    next: &mut [usize],
-    prev: &mut [usize],
-    home: &mut [usize],
-    element: &mut [u64],
-    free: usize,
-    count: usize,
-    first: u64,
-) -> Filled
-    requires { ⌜ Ready (state (now heads) (now tails) (now lens) (now cursors) (now next) (now prev) (now home) (now element)) free ⌝ }
-    ensures { λ r. ⌜ Ready (state (now (heads .exit)) (now (tails .exit)) (now (lens .exit)) (now (cursors .entry)) (now (next .exit)) (now (prev .exit)) (now (home .exit)) (now (element .exit))) (r .free) ⌝ }
-{
-    let mut spare = free;
-    let mut x = first;
-    let mut left = count;
-    while left > 0 {
-        left -= 1;
-        x = following(x);
-        spare = push(
-            heads,
-            tails,
-            lens,
-            cursors,
-            next,
-            prev,
-            home,
-            element,
-            spare,
-            x,
-        );
-    }
-    Filled { free: spare, x }
-}
-
-// So many times a push and a pop: the sum of what was popped.
-pub fn queue(
+// So many nodes unlinked, each with a push after it. Of a queue the node is the front, else a number chooses it.
+// Answers the digest, and for a queue the sum of what was unlinked besides.
+pub fn turn_over(
     heads: &mut [usize],
     tails: &mut [usize],
     lens: &mut [usize],
@@ -84,9 +27,11 @@ pub fn queue(
     free: usize,
     calls: u64,
     first: u64,
+    queue: bool,
 ) -> u64
     requires { ⌜ Ready (state (now heads) (now tails) (now lens) (now cursors) (now next) (now prev) (now home) (now element)) free ⌝ }
 {
+    let nodes = next.len() as u64;
     let mut spare = free;
     let mut sum: u64 = 0;
     let mut x = first;
@@ -94,7 +39,11 @@ pub fn queue(
     while left > 0 {
         left -= 1;
         x = following(x);
-        let over = push_pop(
+        let s = picked(queue, heads[0], x, nodes);
+        if !held(home, s) {
+            return 0;
+        }
+        let e = unchecked::release(
             heads,
             tails,
             lens,
@@ -104,15 +53,28 @@ pub fn queue(
             home,
             element,
             spare,
+            0,
+            s,
+        );
+        spare = unchecked::push(
+            heads,
+            tails,
+            lens,
+            cursors,
+            next,
+            prev,
+            home,
+            element,
+            s,
+            0,
             x,
         );
-        spare = over.free;
-        sum = std::num::wrapping_add_u64(sum, over.element);
+        sum = std::num::wrapping_add_u64(sum, e);
     }
-    sum
+    digest_after(heads, next, element, sum, queue)
 }
 
-// So many moves to the back, if no node is free.
+// So many moves to the back, if no node is free: the digest.
 pub fn rotate(
     heads: &mut [usize],
     tails: &mut [usize],
@@ -125,11 +87,11 @@ pub fn rotate(
     free: usize,
     calls: u64,
     first: u64,
-)
+) -> u64
     requires { ⌜ Ready (state (now heads) (now tails) (now lens) (now cursors) (now next) (now prev) (now home) (now element)) free ⌝ }
 {
     if free < next.len() {
-        return;
+        return 0;
     }
     let nodes = next.len() as u64;
     let mut x = first;
@@ -152,48 +114,41 @@ pub fn rotate(
             s,
         );
     }
+    digest(heads, next, element, next.len())
 }
 
-// So many nodes unlinked, each with a push after it, if no node is free.
-pub fn drop_some(
-    heads: &mut [usize],
-    tails: &mut [usize],
-    lens: &mut [usize],
+// Next by cursor: the element, or 0 for Nothing.
+fn step(
+    heads: &[usize],
+    tails: &[usize],
+    lens: &[usize],
     cursors: &mut [usize],
-    next: &mut [usize],
-    prev: &mut [usize],
-    home: &mut [usize],
-    element: &mut [u64],
+    next: &[usize],
+    prev: &[usize],
+    home: &[usize],
+    element: &[u64],
     free: usize,
-    calls: u64,
-    first: u64,
-)
+) -> u64
     requires { ⌜ Ready (state (now heads) (now tails) (now lens) (now cursors) (now next) (now prev) (now home) (now element)) free ⌝ }
+    ensures { λ r. ⌜ Ready (state (now (heads .entry)) (now (tails .entry)) (now (lens .entry)) (now (cursors .exit)) (now (next .entry)) (now (prev .entry)) (now (home .entry)) (now (element .entry))) free ⌝ }
 {
-    if free < next.len() {
-        return;
-    }
-    let nodes = next.len() as u64;
-    let mut spare = free;
-    let mut x = first;
-    let mut left = calls;
-    while left > 0 {
-        left -= 1;
-        x = following(x);
-        let s = chosen(x, nodes);
-        spare = replace(
-            heads,
-            tails,
-            lens,
-            cursors,
-            next,
-            prev,
-            home,
-            element,
-            spare,
-            s,
-            x,
-        );
+    match unchecked::step(
+        heads,
+        tails,
+        lens,
+        cursors,
+        next,
+        prev,
+        home,
+        element,
+        free,
+        0,
+    ) {
+        Looked::Node {
+            slot: _,
+            element: e,
+        } => e,
+        _ => 0,
     }
 }
 

@@ -41,6 +41,9 @@ loop-less c = search needs
 loop-again : tie.Need-loop-again Inv-loop μ-loop
 loop-again c = (search moved-full, search needs)
 
+digest-requires : tie.Need-digest-requires Inv-loop μ-loop
+digest-requires c κs = search needs
+
 same-length : tie.Need-same-length Inv-loop μ-loop
 same-length c = search needs
 
@@ -73,6 +76,7 @@ rotate-spec =
     shift-requires
     loop-less
     loop-again
+    digest-requires
     same-length
     same-length-2
     same-length-3

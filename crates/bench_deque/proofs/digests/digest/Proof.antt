@@ -1,13 +1,13 @@
 -- `digest` is safe and ends on any links. Nothing has to hold from turn to turn; the measure is the number of nodes that may still come. Assumes nothing.
 use borrow.Author.Needs.{needs}
-use Rattle.bench_deque.proofs.work.digest.Statement.{statement}
-use Rattle.bench_deque.proofs.work.digest.Tie as tie
+use Rattle.bench_deque.proofs.digests.digest.Statement.{statement}
+use Rattle.bench_deque.proofs.digests.digest.Tie as tie
 
 abbrev Inv-loop : tie.InvT-loop
-Inv-loop heads next element h₀ s₀ left₀ h s left = Unit {0}
+Inv-loop heads next element shown h₀ s₀ left₀ h s left = Unit {0}
 
 abbrev μ-loop : tie.MeasureT-loop
-μ-loop heads next element h₀ s₀ left₀ h s left = left
+μ-loop heads next element shown h₀ s₀ left₀ h s left = left
 
 digest-start-requires : tie.Need-digest-start-requires Inv-loop μ-loop
 digest-start-requires c κs = search needs

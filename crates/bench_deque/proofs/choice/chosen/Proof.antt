@@ -1,7 +1,7 @@
 -- `chosen` meets its contract. Assumes nothing.
 use Rattle.bench_deque.proofs.Choosing.{choice-fits, choice-below}
-use Rattle.bench_deque.proofs.runs.chosen.Statement.{statement}
-use Rattle.bench_deque.proofs.runs.chosen.Tie as tie
+use Rattle.bench_deque.proofs.choice.chosen.Statement.{statement}
+use Rattle.bench_deque.proofs.choice.chosen.Tie as tie
 
 mul-result : tie.Need-mul-result
 mul-result c = record { fits = choice-fits (c .args .x) (c .args .nodes) (c .fits .x .fits) (c .pre .1) }

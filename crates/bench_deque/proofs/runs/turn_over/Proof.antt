@@ -1,0 +1,161 @@
+-- `turn_over` meets its contract.
+use Prim.Native.Nat.{_≤_, _<_}
+use native.Mathlib.Omega.{arith}
+use mathlib.Core.Path.{_≡_, _∙_}
+use lib.ListN.{length}
+use borrow.Author.Needs.{needs}
+use Rattle.deque_sound.specs.State.{state}
+use Rattle.bench_deque.specs.Ready.{Ready}
+use Rattle.bench_deque.proofs.Standing.{ready-size, held-asks, left-asks, turned-ready}
+use Rattle.bench_deque.proofs.runs.turn_over.Statement.{statement}
+use Rattle.bench_deque.proofs.runs.turn_over.Tie as tie
+
+abbrev Inv-loop : tie.InvT-loop
+Inv-loop heads₀ tails₀ lens₀ cursors₀ next₀ prev₀ home₀ element₀ free calls first queue nodes spare₀ sum₀ x₀ left₀ heads tails lens cursors next prev home element spare sum x left =
+    Ready (state heads tails lens cursors next prev home element) spare × ((0 < nodes) × (nodes ≤ 4096)) × ((length heads ≡ length heads₀) × (length tails ≡ length tails₀) × (length lens ≡ length lens₀) × (length cursors ≡ length cursors₀) × (length next ≡ length next₀) × (length prev ≡ length prev₀) × (length home ≡ length home₀) × (length element ≡ length element₀))
+
+abbrev μ-loop : tie.MeasureT-loop
+μ-loop heads₀ tails₀ lens₀ cursors₀ next₀ prev₀ home₀ element₀ free calls first queue nodes spare₀ sum₀ x₀ left₀ heads tails lens cursors next prev home element spare sum x left =
+    left
+
+loop-holds : tie.Need-loop-holds Inv-loop μ-loop
+loop-holds c = (c .before .before .before .before .before .before .before .before .pre, ready-size _ _ (c .before .before .before .before .before .before .before .before .pre), search needs)
+
+sub-left : tie.Need-sub-left Inv-loop μ-loop
+sub-left c = search needs
+
+following-requires : tie.Need-following-requires Inv-loop μ-loop
+following-requires c κs = search needs
+
+slice-read-picked : tie.Need-slice-read-picked Inv-loop μ-loop
+slice-read-picked c = search needs
+
+picked-requires : tie.Need-picked-requires Inv-loop μ-loop
+picked-requires c κs = search needs
+
+held-requires : tie.Need-held-requires Inv-loop μ-loop
+held-requires c κs = search needs
+
+same-length : tie.Need-same-length Inv-loop μ-loop
+same-length c = search needs
+
+same-length-2 : tie.Need-same-length-2 Inv-loop μ-loop
+same-length-2 c = search needs
+
+same-length-3 : tie.Need-same-length-3 Inv-loop μ-loop
+same-length-3 c = search needs
+
+same-length-4 : tie.Need-same-length-4 Inv-loop μ-loop
+same-length-4 c = search needs
+
+same-length-5 : tie.Need-same-length-5 Inv-loop μ-loop
+same-length-5 c = search needs
+
+same-length-6 : tie.Need-same-length-6 Inv-loop μ-loop
+same-length-6 c = search needs
+
+same-length-7 : tie.Need-same-length-7 Inv-loop μ-loop
+same-length-7 c = search needs
+
+same-length-8 : tie.Need-same-length-8 Inv-loop μ-loop
+same-length-8 c = search needs
+
+returns : tie.Need-returns Inv-loop μ-loop
+returns c = search needs
+
+release-requires : tie.Need-release-requires Inv-loop μ-loop
+release-requires c κs =
+    let e = c .before .before .before .before .before .before .before .before in
+    let h = e .before in
+    held-asks _ _ _ _ (h .before .before .before .before .before .before .loop .inv .0) (h .held .ensures) (e .if1 .left)
+
+push-requires : tie.Need-push-requires Inv-loop μ-loop
+push-requires c κs =
+    let r = c .before .before .before .before .before .before .before .before .before .before .before .before .before .before .before .before .before .before .before .before .before .before .before .before in
+    let e = r .before .before .before .before .before .before .before .before .before in
+    let h = e .before in
+    let l = h .before .before .before .before .before .before .loop .inv .0 in
+    left-asks _ _ _ _ _ (held-asks _ _ _ _ l (h .held .ensures) (e .if1 .left)) l (r .release .ensures)
+
+wrapping-add-u64-requires : tie.Need-wrapping-add-u64-requires Inv-loop μ-loop
+wrapping-add-u64-requires c κs = search needs
+
+loop-less : tie.Need-loop-less Inv-loop μ-loop
+loop-less c =
+    let r = c .before .before .before .before .before .before .before .before .before .before .before .before .before .before .before .before .before .before .before .before .before .before .before .before .before .before .before .before .before .before .before .before .before .before .before .before .before .before .before .before in
+    let t = r .before .before .before .before .before .before .before .before .before .before .before .before .before .before .before in
+    omega (arith, t .loop-test .taken)
+
+loop-again : tie.Need-loop-again Inv-loop μ-loop
+loop-again c =
+    let p = c .before .before .before .before .before .before .before .before .before .before .before .before .before .before .before in
+    let r = p .before .before .before .before .before .before .before .before .before .before .before .before .before .before .before .before .before .before .before .before .before .before .before .before .before in
+    let l = r .before .before .before .before .before .before .before .before .before .before .before .before .before .before .before .before .loop .inv in
+    (turned-ready _ _ _ _ _ _ _ _ (l .0) (r .release .ensures) (p .push .ensures), l .1, (c .before .before .before .before .before .before .before .before .before .before .before .before .before .before .heads2 .given ∙ (p .before .before .before .before .before .before .before .before .before .before .before .before .before .before .before .before .before .before .before .before .before .before .before .before .heads .given ∙ l .2 .0), c .before .before .before .before .before .before .before .before .before .before .before .before .tails2 .given ∙ (p .before .before .before .before .before .before .before .before .before .before .before .before .before .before .before .before .before .before .before .before .before .before .tails .given ∙ l .2 .1), c .before .before .before .before .before .before .before .before .before .before .lens2 .given ∙ (p .before .before .before .before .before .before .before .before .before .before .before .before .before .before .before .before .before .before .before .before .lens .given ∙ l .2 .2), p .before .before .before .before .before .before .before .before .before .before .before .before .before .before .before .before .before .before .cursors .given ∙ l .2 .3, c .before .before .before .before .before .before .before .before .next2 .given ∙ (p .before .before .before .before .before .before .before .before .before .before .before .before .before .before .before .before .next .given ∙ l .2 .4), c .before .before .before .before .before .before .prev2 .given ∙ (p .before .before .before .before .before .before .before .before .before .before .before .before .before .before .prev .given ∙ l .2 .5), c .before .before .before .before .home2 .given ∙ (p .before .before .before .before .before .before .before .before .before .before .before .before .home .given ∙ l .2 .6), c .before .before .element2 .given ∙ (p .before .before .before .before .before .before .before .before .before .before .element .given ∙ l .2 .7)))
+
+digest-after-requires : tie.Need-digest-after-requires Inv-loop μ-loop
+digest-after-requires c κs = search needs
+
+same-length-9 : tie.Need-same-length-9 Inv-loop μ-loop
+same-length-9 c = search needs
+
+same-length-10 : tie.Need-same-length-10 Inv-loop μ-loop
+same-length-10 c = search needs
+
+same-length-11 : tie.Need-same-length-11 Inv-loop μ-loop
+same-length-11 c = search needs
+
+same-length-12 : tie.Need-same-length-12 Inv-loop μ-loop
+same-length-12 c = search needs
+
+same-length-13 : tie.Need-same-length-13 Inv-loop μ-loop
+same-length-13 c = search needs
+
+same-length-14 : tie.Need-same-length-14 Inv-loop μ-loop
+same-length-14 c = search needs
+
+same-length-15 : tie.Need-same-length-15 Inv-loop μ-loop
+same-length-15 c = search needs
+
+same-length-16 : tie.Need-same-length-16 Inv-loop μ-loop
+same-length-16 c = search needs
+
+returns-2 : tie.Need-returns-2 Inv-loop μ-loop
+returns-2 c = search needs
+
+pub turn-over-spec : {M : Type 1} → statement M
+turn-over-spec =
+    tie.close
+    (tie.spec
+    Inv-loop
+    μ-loop
+    loop-holds
+    sub-left
+    following-requires
+    slice-read-picked
+    picked-requires
+    held-requires
+    same-length
+    same-length-2
+    same-length-3
+    same-length-4
+    same-length-5
+    same-length-6
+    same-length-7
+    same-length-8
+    returns
+    release-requires
+    push-requires
+    wrapping-add-u64-requires
+    loop-less
+    loop-again
+    digest-after-requires
+    same-length-9
+    same-length-10
+    same-length-11
+    same-length-12
+    same-length-13
+    same-length-14
+    same-length-15
+    same-length-16
+    returns-2)

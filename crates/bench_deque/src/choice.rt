@@ -1,0 +1,46 @@
+// The numbers that drive the workloads: the generator, and the node that a number chooses.
+ghost use Prim.Native.Nat.{_≤_, _<_};
+ghost use mathlib.Core.Path.{_≡_};
+ghost use mathlib.Core.Bool.{true};
+ghost use lib.ListN.{length, getD};
+ghost use Rattle.bench_deque.specs.Ready.{Held};
+
+const HALF: u64 = 0x1_0000_0000;
+
+// The generator's next number.
+pub fn following(x: u64) -> u64 {
+    let a = x ^ (x << 13);
+    let b = a ^ (a >> 7);
+    b ^ (b << 17)
+}
+
+// The node that the number x chooses out of so many: the upper half of x times the count, without its lower half.
+pub fn chosen(x: u64, nodes: u64) -> usize
+    requires { ⌜ (0 < nodes) × (nodes ≤ 4096) ⌝ }
+    ensures { λ r. ⌜ r < nodes ⌝ }
+{
+    ((x / HALF) * nodes / HALF) as usize
+}
+
+// The front for a queue, else the node that the number x chooses out of so many.
+pub fn picked(queue: bool, front: usize, x: u64, nodes: u64) -> usize
+    requires { ⌜ (0 < nodes) × (nodes ≤ 4096) ⌝ }
+{
+    if queue {
+        return front;
+    }
+    chosen(x, nodes)
+}
+
+// Whether s is a node of the first deque.
+pub fn held(home: &[usize], s: usize) -> bool
+    ensures { λ r. ⌜ Held (now (home .entry)) s r ⌝ }
+{
+    if home.len() <= s {
+        return false;
+    }
+    if home[s] == 0 {
+        return true;
+    }
+    false
+}
