@@ -1,4 +1,4 @@
--- The upper half of a number of 64 bits times a count, without its lower half, is below the count. Assumes nothing.
+-- The upper half of a number of 64 bits times a count, without its lower half, is below the count.
 use Prim.Native.Nat.{ℕ, _*_, _/_, _^_, _≤_, _<_}
 use native.Mathlib.Nat.{lt-of-le-of-lt, mul-le-mul-left, mul-lt-mul-of-pos-left, mul-comm, div-lt-iff-lt-mul}
 use native.Mathlib.Omega.{arith}

@@ -10,14 +10,13 @@ use Rattle.links.specs.Chain.{none, In, first, rest}
 use Rattle.links.specs.Lists.{homeOf}
 use Rattle.deque_sound.specs.State.{State, state, nodes}
 use Rattle.deque_sound.specs.Sound.{Judged}
-use Rattle.deque_plain.specs.Step.{frontOf}
 use Rattle.deque_sound.specs.Ready.{DequeReady, PushReady, NodeReady}
 use Rattle.deque_plain.specs.Work.{Steps}
 use Rattle.deque_work.specs.Work.{Pushes, Drops, Moves}
-use Rattle.deque_plain.proofs.Keeping.{stepped-shows, front-in}
+use Rattle.deque_plain.proofs.Keeping.{stepped-shows}
 use Rattle.deque_sound.proofs.Sounding.{sound-shows}
 use Rattle.deque_plain.specs.declared.answer.Looked.{Looked}
-use Rattle.bench_deque.specs.Ready.{Ready, Full, Held, Tested}
+use Rattle.bench_deque.specs.Ready.{Ready, Full, Held, Tested, TestedFull}
 
 -- ---- a node of the first deque
 pub not-held : (home : List ℕ) (s : ℕ) → Held home s false
@@ -26,9 +25,6 @@ not-held home s =
       slot = λ t. let z : _≡_ {A = ℕ} 0 1 = cc in absurd (omega (arith, z));
       first = λ t. let z : _≡_ {A = ℕ} 0 1 = cc in absurd (omega (arith, z));
     }
-
-pub is-held : (home : List ℕ) (s : ℕ) → s < length home → getD home s 0 ≡ 0 → Held home s true
-is-held home s l h = record { slot = λ t. l; first = λ t. h }
 
 module _ (a : State) (free : ℕ) where
   pub not-tested : Tested a free false
@@ -41,12 +37,6 @@ module _ (a : State) (free : ℕ) where
             let s = sound-shows a free (j .sound t) in
             record { v = _; shows = s; one = sym (s .rep .heads-len) ∙ o };
       }
-
-  pub push-asks : Ready a free → free < nodes a → PushReady a free 0
-  push-asks y h = record { v = y .v; shows = y .shows; slot = rw (y .shows .rep .next-len) at h; deque = omega (arith, y .one) }
-
-  pub pushed-ready : (b : State) (e r : ℕ) → Ready a free → Pushes a b free 0 e r → Ready b r
-  pushed-ready b e r y p = record { v = _; shows = p .does (y .v) (y .shows); one = y .one }
 
   pub deque-asks : Ready a free → DequeReady a free 0
   deque-asks y = record { v = y .v; shows = y .shows; deque = omega (arith, y .one) }
@@ -67,10 +57,7 @@ module _ (a : State) (free : ℕ) where
   pub moved-full : (b : State) (s : ℕ) → Full a free → Moves a b free 0 s → Full b free
   moved-full b s y m = record { v = _; shows = m .does (y .v) (y .shows); one = y .one; none-free = y .none-free }
 
-  -- there are nodes to choose from, and what is chosen is a node of the deque
-  pub ready-size : Ready a free → (0 < nodes a) × (nodes a ≤ 4096)
-  ready-size y = (omega (arith, y .shows .lent .nodes .some), omega (arith, y .shows .lent .nodes .small))
-
+  -- what is chosen is a node of the deque
   pub chosen-node : (s n : ℕ) → Full a free → nodes a ≡ n → s < n → NodeReady a free 0 s
   chosen-node s n y i h = node-asks s y (rw i h)
 
@@ -103,3 +90,23 @@ module _ (a : State) (free : ℕ) where
   pub tested-ready : (good : Bool) → Tested a free good → not good ≡ false → Ready a free
   tested-ready true t i = t .ready refl
   tested-ready false t i = let z : _≡_ {A = ℕ} 0 1 = cc in absurd (omega (arith, z))
+
+  pub not-full : TestedFull a free false
+  not-full = record { full = λ t. let z : _≡_ {A = ℕ} 0 1 = cc in absurd (omega (arith, z)) }
+
+  pub full-tested : (good : Bool) → Tested a free good → nodes a ≤ free → TestedFull a free good
+  full-tested good t h = record { full = λ i. full-asks (t .ready i) h }
+
+  pub tested-full : (good : Bool) → TestedFull a free good → not good ≡ false → Full a free
+  tested-full true t i = t .full refl
+  tested-full false t i = let z : _≡_ {A = ℕ} 0 1 = cc in absurd (omega (arith, z))
+
+  -- ---- where no node is free, a node leaves and is taken again
+  pub full-ready : Full a free → Ready a free
+  full-ready y = record { v = y .v; shows = y .shows; one = y .one }
+
+  pub full-size : (n : ℕ) → Full a free → nodes a ≡ n → (0 < n) × (n ≤ 4096)
+  full-size n y e = (omega (arith, e, y .shows .lent .nodes .some), omega (arith, e, y .shows .lent .nodes .small))
+
+  pub turned-full : (b c : State) (s e x r : ℕ) → Full a free → Drops a b free 0 s e → Pushes b c s 0 x r → Full c r
+  turned-full b c s e x r y d p = record { v = _; shows = p .does _ (d .does (y .v) (y .shows)); one = y .one; none-free = y .none-free }

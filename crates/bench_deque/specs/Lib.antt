@@ -1,2 +1,2 @@
--- What the contracts of `bench_deque` cite. Assumes nothing.
+-- What the contracts of `bench_deque` cite.
 pub mod Ready

@@ -24,6 +24,10 @@ pub record Full (a : State) (free : ℕ) : Type 0 where
 pub record Tested (a : State) (free : ℕ) (good : Bool) : Type 0 where
   pub ready : good ≡ true → Ready a free
 
+-- and no node is free
+pub record TestedFull (a : State) (free : ℕ) (good : Bool) : Type 0 where
+  pub full : good ≡ true → Full a free
+
 -- where it says so, s is a node of the first deque
 pub record Held (home : List ℕ) (s : ℕ) (good : Bool) : Type 0 where
   pub slot : good ≡ true → s < length home

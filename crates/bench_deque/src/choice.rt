@@ -22,16 +22,6 @@ pub fn chosen(x: u64, nodes: u64) -> usize
     ((x / HALF) * nodes / HALF) as usize
 }
 
-// The front for a queue, else the node that the number x chooses out of so many.
-pub fn picked(queue: bool, front: usize, x: u64, nodes: u64) -> usize
-    requires { ⌜ (0 < nodes) × (nodes ≤ 4096) ⌝ }
-{
-    if queue {
-        return front;
-    }
-    chosen(x, nodes)
-}
-
 // Whether s is a node of the first deque.
 pub fn held(home: &[usize], s: usize) -> bool
     ensures { λ r. ⌜ Held (now (home .entry)) s r ⌝ }

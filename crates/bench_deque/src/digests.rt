@@ -1,4 +1,4 @@
-// The digests of what the workloads leave.
+// The digest of what the workloads leave.
 
 // The digest of the first elements as next leads from the front, so many as are asked for and there are.
 pub fn digest(heads: &[usize], next: &[usize], element: &[u64], shown: usize) -> u64 {
@@ -18,18 +18,4 @@ pub fn digest(heads: &[usize], next: &[usize], element: &[u64], shown: usize) ->
         }
     }
     h
-}
-
-// The digest of what is left. For a queue one element is left over that no digest shows, and the sum is added.
-pub fn digest_after(
-    heads: &[usize],
-    next: &[usize],
-    element: &[u64],
-    sum: u64,
-    queue: bool,
-) -> u64 {
-    if queue {
-        return std::num::wrapping_add_u64(sum, digest(heads, next, element, next.len() / 2));
-    }
-    digest(heads, next, element, next.len())
 }

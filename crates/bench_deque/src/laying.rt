@@ -97,3 +97,11 @@ pub fn first_free(n: usize, count: usize) -> usize {
     }
     NONE
 }
+
+// The first node in the deque, where so many are, or none.
+pub fn first_node(count: usize) -> usize {
+    if count == 0 {
+        return NONE;
+    }
+    0
+}

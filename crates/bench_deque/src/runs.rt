@@ -7,15 +7,13 @@ ghost use Rattle.bench_deque.specs.Ready.{Ready, Full};
 use crate::choice::chosen;
 use crate::choice::following;
 use crate::choice::held;
-use crate::choice::picked;
 use crate::digests::digest;
-use crate::digests::digest_after;
 use deque::answer::Looked;
 use deque_work::unchecked;
 
-// So many nodes unlinked, each with a push after it. Of a queue the node is the front, else a number chooses it.
-// Answers the digest, and for a queue the sum of what was unlinked besides.
-pub fn turn_over(
+// So many times the front is popped, with a push after it: the sum of what was popped, and the digest of what is left.
+// The last push is one too many, and the digest leaves it out.
+pub fn queue(
     heads: &mut [usize],
     tails: &mut [usize],
     lens: &mut [usize],
@@ -27,11 +25,9 @@ pub fn turn_over(
     free: usize,
     calls: u64,
     first: u64,
-    queue: bool,
 ) -> u64
     requires { ⌜ Ready (state (now heads) (now tails) (now lens) (now cursors) (now next) (now prev) (now home) (now element)) free ⌝ }
 {
-    let nodes = next.len() as u64;
     let mut spare = free;
     let mut sum: u64 = 0;
     let mut x = first;
@@ -39,7 +35,7 @@ pub fn turn_over(
     while left > 0 {
         left -= 1;
         x = following(x);
-        let s = picked(queue, heads[0], x, nodes);
+        let s = heads[0];
         if !held(home, s) {
             return 0;
         }
@@ -71,10 +67,64 @@ pub fn turn_over(
         );
         sum = std::num::wrapping_add_u64(sum, e);
     }
-    digest_after(heads, next, element, sum, queue)
+    std::num::wrapping_add_u64(sum, digest(heads, next, element, next.len() / 2))
 }
 
-// So many moves to the back, if no node is free: the digest.
+// So many nodes unlinked at random, each with a push after it, where no node is free: the digest.
+pub fn replace(
+    heads: &mut [usize],
+    tails: &mut [usize],
+    lens: &mut [usize],
+    cursors: &mut [usize],
+    next: &mut [usize],
+    prev: &mut [usize],
+    home: &mut [usize],
+    element: &mut [u64],
+    free: usize,
+    calls: u64,
+    first: u64,
+) -> u64
+    requires { ⌜ Full (state (now heads) (now tails) (now lens) (now cursors) (now next) (now prev) (now home) (now element)) free ⌝ }
+{
+    let nodes = next.len() as u64;
+    let mut spare = free;
+    let mut x = first;
+    let mut left = calls;
+    while left > 0 {
+        left -= 1;
+        x = following(x);
+        let s = chosen(x, nodes);
+        unchecked::release(
+            heads,
+            tails,
+            lens,
+            cursors,
+            next,
+            prev,
+            home,
+            element,
+            spare,
+            0,
+            s,
+        );
+        spare = unchecked::push(
+            heads,
+            tails,
+            lens,
+            cursors,
+            next,
+            prev,
+            home,
+            element,
+            s,
+            0,
+            x,
+        );
+    }
+    digest(heads, next, element, next.len())
+}
+
+// So many moves to the back at random, where no node is free: the digest.
 pub fn rotate(
     heads: &mut [usize],
     tails: &mut [usize],
@@ -88,11 +138,8 @@ pub fn rotate(
     calls: u64,
     first: u64,
 ) -> u64
-    requires { ⌜ Ready (state (now heads) (now tails) (now lens) (now cursors) (now next) (now prev) (now home) (now element)) free ⌝ }
+    requires { ⌜ Full (state (now heads) (now tails) (now lens) (now cursors) (now next) (now prev) (now home) (now element)) free ⌝ }
 {
-    if free < next.len() {
-        return 0;
-    }
     let nodes = next.len() as u64;
     let mut x = first;
     let mut left = calls;

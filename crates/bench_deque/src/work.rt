@@ -1,17 +1,19 @@
 // The workloads: records are made, tested once, filled, and worked on.
 ghost use Prim.Native.Nat.{_≤_};
 ghost use Rattle.deque_sound.specs.State.{state};
-ghost use Rattle.bench_deque.specs.Ready.{Tested};
+ghost use Rattle.bench_deque.specs.Ready.{Tested, TestedFull};
 use crate::laying::at_most_all;
 use crate::laying::first_free;
+use crate::laying::first_node;
 use crate::laying::laid_element;
 use crate::laying::laid_home;
 use crate::laying::laid_next;
 use crate::laying::laid_prev;
 use crate::laying::node_before;
 use crate::laying::number_after;
+use crate::runs::queue;
+use crate::runs::replace;
 use crate::runs::rotate;
-use crate::runs::turn_over;
 use crate::runs::walk;
 use deque::NONE;
 use deque::answer::Counted;
@@ -35,9 +37,9 @@ pub const NO_WORKLOAD: u64 = 5;
 pub extern "C" fn run_workload(workload: u64, nodes: u64, calls: u64, x: u64) -> u64 {
     let n = at_most_all(nodes as usize);
     match workload {
-        QUEUE => run_turns(n, queue_count(n, calls), calls, x, true),
-        MOVE => run_moves(n, calls, x),
-        UNLINK => run_turns(n, n, calls, x, false),
+        QUEUE => run_queue(n, queue_count(n, calls), calls, x),
+        MOVE => run_full(n, calls, x, true),
+        UNLINK => run_full(n, calls, x, false),
         WALK => run_looks(n, calls, x, true),
         CHECKED => run_looks(n, calls, x, false),
         _ => 0,
@@ -52,11 +54,11 @@ fn queue_count(n: usize, calls: u64) -> usize {
     n / 2 + 1
 }
 
-// The queue and the unlinking: the digest of what is left, and for a queue the sum of what was popped besides.
-fn run_turns(n: usize, count: usize, calls: u64, x: u64, queue: bool) -> u64
+// The queue.
+fn run_queue(n: usize, count: usize, calls: u64, x: u64) -> u64
     requires { ⌜ n ≤ 4096 ⌝ }
 {
-    let mut heads = [0usize; 1];
+    let mut heads = [first_node(count); 1];
     let mut tails = [node_before(count); 1];
     let mut lens = [count; 1];
     let mut cursors = [NONE; 1];
@@ -78,7 +80,7 @@ fn run_turns(n: usize, count: usize, calls: u64, x: u64, queue: bool) -> u64
     ) {
         return 0;
     }
-    turn_over(
+    queue(
         &mut heads,
         &mut tails,
         &mut lens,
@@ -90,24 +92,23 @@ fn run_turns(n: usize, count: usize, calls: u64, x: u64, queue: bool) -> u64
         free,
         calls,
         number_after(count, x),
-        queue,
     )
 }
 
-// The moves: the digest of what they left.
-fn run_moves(n: usize, calls: u64, x: u64) -> u64
+// The moves, or else the unlinking, on a deque that has every node.
+fn run_full(n: usize, calls: u64, x: u64, moves: bool) -> u64
     requires { ⌜ n ≤ 4096 ⌝ }
 {
-    let mut heads = [0usize; 1];
+    let mut heads = [first_node(n); 1];
     let mut tails = [node_before(n); 1];
-    let lens = [n; 1];
+    let mut lens = [n; 1];
     let mut cursors = [NONE; 1];
     let mut next = laid_next(n, n);
     let mut prev = laid_prev(n);
-    let home = laid_home(n);
-    let element = laid_element(n, x);
+    let mut home = laid_home(n);
+    let mut element = laid_element(n, x);
     let free = first_free(n, n);
-    if !test(
+    if !test_full(
         &heads,
         &tails,
         &lens,
@@ -120,18 +121,34 @@ fn run_moves(n: usize, calls: u64, x: u64) -> u64
     ) {
         return 0;
     }
-    rotate(
+    let first = number_after(n, x);
+    if moves {
+        return rotate(
+            &mut heads,
+            &mut tails,
+            &lens,
+            &mut cursors,
+            &mut next[..n],
+            &mut prev[..n],
+            &home[..n],
+            &element[..n],
+            free,
+            calls,
+            first,
+        );
+    }
+    replace(
         &mut heads,
         &mut tails,
-        &lens,
+        &mut lens,
         &mut cursors,
         &mut next[..n],
         &mut prev[..n],
-        &home[..n],
-        &element[..n],
+        &mut home[..n],
+        &mut element[..n],
         free,
         calls,
-        number_after(n, x),
+        first,
     )
 }
 
@@ -139,7 +156,7 @@ fn run_moves(n: usize, calls: u64, x: u64) -> u64
 fn run_looks(n: usize, calls: u64, x: u64, steps: bool) -> u64
     requires { ⌜ n ≤ 4096 ⌝ }
 {
-    let heads = [0usize; 1];
+    let heads = [first_node(n); 1];
     let tails = [node_before(n); 1];
     let lens = [n; 1];
     let mut cursors = [NONE; 1];
@@ -207,6 +224,26 @@ fn test(
         return false;
     }
     deque_sound::sound::sound(heads, tails, lens, cursors, next, prev, home, element, free)
+}
+
+// Whether there is one deque, its records are sound, and no node is free.
+fn test_full(
+    heads: &[usize],
+    tails: &[usize],
+    lens: &[usize],
+    cursors: &[usize],
+    next: &[usize],
+    prev: &[usize],
+    home: &[usize],
+    element: &[u64],
+    free: usize,
+) -> bool
+    ensures { λ r. ⌜ TestedFull (state (now (heads .entry)) (now (tails .entry)) (now (lens .entry)) (now (cursors .entry)) (now (next .entry)) (now (prev .entry)) (now (home .entry)) (now (element .entry))) free r ⌝ }
+{
+    if free < next.len() {
+        return false;
+    }
+    test(heads, tails, lens, cursors, next, prev, home, element, free)
 }
 
 // So many checked lengths: their sum.

@@ -1,4 +1,4 @@
--- `chosen` meets its contract. Assumes nothing.
+-- `chosen` meets its contract.
 use Rattle.bench_deque.proofs.Choosing.{choice-fits, choice-below}
 use Rattle.bench_deque.proofs.choice.chosen.Statement.{statement}
 use Rattle.bench_deque.proofs.choice.chosen.Tie as tie

@@ -1,9 +1,9 @@
--- `rotate` keeps the records. What has to hold from turn to turn is that the records are those of one deque; the measure is the number of calls that are left. Assumes nothing.
+-- `rotate` keeps the records. What has to hold from turn to turn is that the records are those of one deque; the measure is the number of calls that are left.
 use mathlib.Core.Path.{_≡_}
 use lib.ListN.{length}
 use Rattle.deque_sound.specs.State.{state}
 use Rattle.bench_deque.specs.Ready.{Full}
-use Rattle.bench_deque.proofs.Standing.{ready-size, full-asks, chosen-node, moved-full}
+use Rattle.bench_deque.proofs.Standing.{full-size, chosen-node, moved-full}
 use borrow.Author.Needs.{needs}
 use Rattle.bench_deque.proofs.runs.rotate.Statement.{statement}
 use Rattle.bench_deque.proofs.runs.rotate.Tie as tie
@@ -14,11 +14,8 @@ Inv-loop heads₀ tails₀ lens cursors₀ next₀ prev₀ home element free cal
 abbrev μ-loop : tie.MeasureT-loop
 μ-loop heads₀ tails₀ lens cursors₀ next₀ prev₀ home element free calls first nodes x₀ left₀ heads tails cursors next prev x left = left
 
-returns : tie.Need-returns Inv-loop μ-loop
-returns c = search needs
-
 loop-holds : tie.Need-loop-holds Inv-loop μ-loop
-loop-holds c = search (needs, full-asks)
+loop-holds c = search needs
 
 sub-left : tie.Need-sub-left Inv-loop μ-loop
 sub-left c = search needs
@@ -27,7 +24,7 @@ following-requires : tie.Need-following-requires Inv-loop μ-loop
 following-requires c κs = search needs
 
 chosen-requires : tie.Need-chosen-requires Inv-loop μ-loop
-chosen-requires c κs = ready-size _ _ (c .before .before .before .before .before .before .before .before .before .before .before .before .pre)
+chosen-requires c κs = full-size _ _ _ (c .before .before .loop .inv .0) (c .before .before .loop .inv .1 .0)
 
 shift-requires : tie.Need-shift-requires Inv-loop μ-loop
 shift-requires c κs =
@@ -59,8 +56,8 @@ same-length-4 c = search needs
 same-length-5 : tie.Need-same-length-5 Inv-loop μ-loop
 same-length-5 c = search needs
 
-returns-2 : tie.Need-returns-2 Inv-loop μ-loop
-returns-2 c = search needs
+returns : tie.Need-returns Inv-loop μ-loop
+returns c = search needs
 
 pub rotate-spec : {M : Type 1} → statement M
 rotate-spec =
@@ -68,7 +65,6 @@ rotate-spec =
     (tie.spec
     Inv-loop
     μ-loop
-    returns
     loop-holds
     sub-left
     following-requires
@@ -82,4 +78,4 @@ rotate-spec =
     same-length-3
     same-length-4
     same-length-5
-    returns-2)
+    returns)

@@ -1,4 +1,4 @@
--- `step` keeps the records those of one deque. Assumes nothing.
+-- `step` keeps the records those of one deque.
 use borrow.Author.Needs.{needs}
 use Rattle.bench_deque.proofs.Standing.{deque-asks, stepped-ready}
 use Rattle.bench_deque.proofs.runs.step.Statement.{statement}

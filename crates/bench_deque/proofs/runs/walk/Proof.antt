@@ -1,4 +1,4 @@
--- `walk` keeps the records. What has to hold from turn to turn is that the records are those of one deque; the measure is the number of calls that are left. Assumes nothing.
+-- `walk` keeps the records. What has to hold from turn to turn is that the records are those of one deque; the measure is the number of calls that are left.
 use mathlib.Core.Path.{_≡_}
 use lib.ListN.{length}
 use Rattle.deque_sound.specs.State.{state}

@@ -1,4 +1,4 @@
--- `check` is safe and ends. Nothing has to hold from turn to turn; the measure is the number of calls that are left. Assumes nothing.
+-- `check` is safe and ends. Nothing has to hold from turn to turn; the measure is the number of calls that are left.
 use borrow.Author.Needs.{needs}
 use Rattle.bench_deque.proofs.work.check.Statement.{statement}
 use Rattle.bench_deque.proofs.work.check.Tie as tie

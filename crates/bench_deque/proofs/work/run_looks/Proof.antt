@@ -1,4 +1,4 @@
--- `run_looks` meets its contract.
+-- `run_looks` lends parts that the records have, and works only on records that the test takes.
 use borrow.Author.Needs.{needs}
 use native.Mathlib.Omega.{arith}
 use mathlib.Core.Path.{sym}
@@ -6,6 +6,9 @@ use lib.Seq.{length-take-le}
 use Rattle.bench_deque.proofs.Standing.{tested-ready}
 use Rattle.bench_deque.proofs.work.run_looks.Statement.{statement}
 use Rattle.bench_deque.proofs.work.run_looks.Tie as tie
+
+first-node-requires : tie.Need-first-node-requires
+first-node-requires c κs = search needs
 
 node-before-requires : tie.Need-node-before-requires
 node-before-requires c κs = search needs
@@ -157,6 +160,7 @@ pub run-looks-spec : {M : Type 1} → statement M
 run-looks-spec =
     tie.close
     (tie.spec
+    first-node-requires
     node-before-requires
     laid-next-requires
     laid-prev-requires

@@ -1,4 +1,4 @@
--- `test` answers whether the records are those of one deque. Assumes nothing.
+-- `test` answers whether the records are those of one deque.
 use borrow.Author.Needs.{needs}
 use Rattle.bench_deque.proofs.Standing.{not-tested, tested}
 use Rattle.bench_deque.proofs.work.test.Statement.{statement}

@@ -1,11 +1,14 @@
--- `run_moves` meets its contract.
+-- `run_queue` lends parts that the records have, and works only on records that the test takes.
 use borrow.Author.Needs.{needs}
 use native.Mathlib.Omega.{arith}
 use mathlib.Core.Path.{sym}
 use lib.Seq.{length-take-le}
 use Rattle.bench_deque.proofs.Standing.{tested-ready}
-use Rattle.bench_deque.proofs.work.run_moves.Statement.{statement}
-use Rattle.bench_deque.proofs.work.run_moves.Tie as tie
+use Rattle.bench_deque.proofs.work.run_queue.Statement.{statement}
+use Rattle.bench_deque.proofs.work.run_queue.Tie as tie
+
+first-node-requires : tie.Need-first-node-requires
+first-node-requires c κs = search needs
 
 node-before-requires : tie.Need-node-before-requires
 node-before-requires c κs = search needs
@@ -67,57 +70,58 @@ test-requires c κs = search needs
 returns : tie.Need-returns
 returns c = search needs
 
-slice-aggregate-rotate : tie.Need-slice-aggregate-rotate
-slice-aggregate-rotate c = search needs
+slice-aggregate-queue : tie.Need-slice-aggregate-queue
+slice-aggregate-queue c = search needs
 
-slice-aggregate-rotate-2 : tie.Need-slice-aggregate-rotate-2
-slice-aggregate-rotate-2 c = search needs
+slice-aggregate-queue-2 : tie.Need-slice-aggregate-queue-2
+slice-aggregate-queue-2 c = search needs
 
-slice-aggregate-rotate-3 : tie.Need-slice-aggregate-rotate-3
-slice-aggregate-rotate-3 c = search needs
+slice-aggregate-queue-3 : tie.Need-slice-aggregate-queue-3
+slice-aggregate-queue-3 c = search needs
 
-slice-aggregate-rotate-4 : tie.Need-slice-aggregate-rotate-4
-slice-aggregate-rotate-4 c = search needs
+slice-aggregate-queue-4 : tie.Need-slice-aggregate-queue-4
+slice-aggregate-queue-4 c = search needs
 
 array-borrow-prefix-next : tie.Need-array-borrow-prefix-next
 array-borrow-prefix-next c = search needs
 
-slice-aggregate-rotate-5 : tie.Need-slice-aggregate-rotate-5
-slice-aggregate-rotate-5 c = sym (length-take-le _ _ (omega arith))
+slice-aggregate-queue-5 : tie.Need-slice-aggregate-queue-5
+slice-aggregate-queue-5 c = sym (length-take-le _ _ (omega arith))
 
 array-borrow-prefix-prev : tie.Need-array-borrow-prefix-prev
 array-borrow-prefix-prev c = search needs
 
-slice-aggregate-rotate-6 : tie.Need-slice-aggregate-rotate-6
-slice-aggregate-rotate-6 c = sym (length-take-le _ _ (omega arith))
+slice-aggregate-queue-6 : tie.Need-slice-aggregate-queue-6
+slice-aggregate-queue-6 c = sym (length-take-le _ _ (omega arith))
 
-array-share-prefix-home-2 : tie.Need-array-share-prefix-home-2
-array-share-prefix-home-2 c = search needs
+array-borrow-prefix-home : tie.Need-array-borrow-prefix-home
+array-borrow-prefix-home c = search needs
 
-slice-aggregate-rotate-7 : tie.Need-slice-aggregate-rotate-7
-slice-aggregate-rotate-7 c = sym (length-take-le _ _ (omega arith))
+slice-aggregate-queue-7 : tie.Need-slice-aggregate-queue-7
+slice-aggregate-queue-7 c = sym (length-take-le _ _ (omega arith))
 
-array-share-prefix-element-2 : tie.Need-array-share-prefix-element-2
-array-share-prefix-element-2 c = search needs
+array-borrow-prefix-element : tie.Need-array-borrow-prefix-element
+array-borrow-prefix-element c = search needs
 
-slice-aggregate-rotate-8 : tie.Need-slice-aggregate-rotate-8
-slice-aggregate-rotate-8 c = sym (length-take-le _ _ (omega arith))
+slice-aggregate-queue-8 : tie.Need-slice-aggregate-queue-8
+slice-aggregate-queue-8 c = sym (length-take-le _ _ (omega arith))
 
 number-after-requires : tie.Need-number-after-requires
 number-after-requires c κs = search needs
 
-rotate-requires : tie.Need-rotate-requires
-rotate-requires c κs =
+queue-requires : tie.Need-queue-requires
+queue-requires c κs =
     let e = c .before .before .before .before .before .before .before .before .before in
     tested-ready _ _ _ (e .before .test .ensures) (e .if1 .left)
 
 returns-2 : tie.Need-returns-2
 returns-2 c = search needs
 
-pub run-moves-spec : {M : Type 1} → statement M
-run-moves-spec =
+pub run-queue-spec : {M : Type 1} → statement M
+run-queue-spec =
     tie.close
     (tie.spec
+    first-node-requires
     node-before-requires
     laid-next-requires
     laid-prev-requires
@@ -138,18 +142,18 @@ run-moves-spec =
     slice-aggregate-test-8
     test-requires
     returns
-    slice-aggregate-rotate
-    slice-aggregate-rotate-2
-    slice-aggregate-rotate-3
-    slice-aggregate-rotate-4
+    slice-aggregate-queue
+    slice-aggregate-queue-2
+    slice-aggregate-queue-3
+    slice-aggregate-queue-4
     array-borrow-prefix-next
-    slice-aggregate-rotate-5
+    slice-aggregate-queue-5
     array-borrow-prefix-prev
-    slice-aggregate-rotate-6
-    array-share-prefix-home-2
-    slice-aggregate-rotate-7
-    array-share-prefix-element-2
-    slice-aggregate-rotate-8
+    slice-aggregate-queue-6
+    array-borrow-prefix-home
+    slice-aggregate-queue-7
+    array-borrow-prefix-element
+    slice-aggregate-queue-8
     number-after-requires
-    rotate-requires
+    queue-requires
     returns-2)

@@ -1,25 +1,24 @@
--- `turn_over` meets its contract.
-use Prim.Native.Nat.{_≤_, _<_}
+-- `queue` keeps the records those of one deque. The measure is the number of calls that are left.
 use native.Mathlib.Omega.{arith}
 use mathlib.Core.Path.{_≡_, _∙_}
 use lib.ListN.{length}
 use borrow.Author.Needs.{needs}
 use Rattle.deque_sound.specs.State.{state}
 use Rattle.bench_deque.specs.Ready.{Ready}
-use Rattle.bench_deque.proofs.Standing.{ready-size, held-asks, left-asks, turned-ready}
-use Rattle.bench_deque.proofs.runs.turn_over.Statement.{statement}
-use Rattle.bench_deque.proofs.runs.turn_over.Tie as tie
+use Rattle.bench_deque.proofs.Standing.{held-asks, left-asks, turned-ready}
+use Rattle.bench_deque.proofs.runs.queue.Statement.{statement}
+use Rattle.bench_deque.proofs.runs.queue.Tie as tie
 
 abbrev Inv-loop : tie.InvT-loop
-Inv-loop heads₀ tails₀ lens₀ cursors₀ next₀ prev₀ home₀ element₀ free calls first queue nodes spare₀ sum₀ x₀ left₀ heads tails lens cursors next prev home element spare sum x left =
-    Ready (state heads tails lens cursors next prev home element) spare × ((0 < nodes) × (nodes ≤ 4096)) × ((length heads ≡ length heads₀) × (length tails ≡ length tails₀) × (length lens ≡ length lens₀) × (length cursors ≡ length cursors₀) × (length next ≡ length next₀) × (length prev ≡ length prev₀) × (length home ≡ length home₀) × (length element ≡ length element₀))
+Inv-loop heads₀ tails₀ lens₀ cursors₀ next₀ prev₀ home₀ element₀ free calls first spare₀ sum₀ x₀ left₀ heads tails lens cursors next prev home element spare sum x left =
+    Ready (state heads tails lens cursors next prev home element) spare × ((length heads ≡ length heads₀) × (length tails ≡ length tails₀) × (length lens ≡ length lens₀) × (length cursors ≡ length cursors₀) × (length next ≡ length next₀) × (length prev ≡ length prev₀) × (length home ≡ length home₀) × (length element ≡ length element₀))
 
 abbrev μ-loop : tie.MeasureT-loop
-μ-loop heads₀ tails₀ lens₀ cursors₀ next₀ prev₀ home₀ element₀ free calls first queue nodes spare₀ sum₀ x₀ left₀ heads tails lens cursors next prev home element spare sum x left =
+μ-loop heads₀ tails₀ lens₀ cursors₀ next₀ prev₀ home₀ element₀ free calls first spare₀ sum₀ x₀ left₀ heads tails lens cursors next prev home element spare sum x left =
     left
 
 loop-holds : tie.Need-loop-holds Inv-loop μ-loop
-loop-holds c = (c .before .before .before .before .before .before .before .before .pre, ready-size _ _ (c .before .before .before .before .before .before .before .before .pre), search needs)
+loop-holds c = (c .before .before .before .before .before .before .before .before .pre, search needs)
 
 sub-left : tie.Need-sub-left Inv-loop μ-loop
 sub-left c = search needs
@@ -27,11 +26,8 @@ sub-left c = search needs
 following-requires : tie.Need-following-requires Inv-loop μ-loop
 following-requires c κs = search needs
 
-slice-read-picked : tie.Need-slice-read-picked Inv-loop μ-loop
-slice-read-picked c = search needs
-
-picked-requires : tie.Need-picked-requires Inv-loop μ-loop
-picked-requires c κs = search needs
+slice-read-s : tie.Need-slice-read-s Inv-loop μ-loop
+slice-read-s c = search needs
 
 held-requires : tie.Need-held-requires Inv-loop μ-loop
 held-requires c κs = search needs
@@ -67,14 +63,14 @@ release-requires : tie.Need-release-requires Inv-loop μ-loop
 release-requires c κs =
     let e = c .before .before .before .before .before .before .before .before in
     let h = e .before in
-    held-asks _ _ _ _ (h .before .before .before .before .before .before .loop .inv .0) (h .held .ensures) (e .if1 .left)
+    held-asks _ _ _ _ (h .before .before .before .before .before .loop .inv .0) (h .held .ensures) (e .if1 .left)
 
 push-requires : tie.Need-push-requires Inv-loop μ-loop
 push-requires c κs =
     let r = c .before .before .before .before .before .before .before .before .before .before .before .before .before .before .before .before .before .before .before .before .before .before .before .before in
     let e = r .before .before .before .before .before .before .before .before .before in
     let h = e .before in
-    let l = h .before .before .before .before .before .before .loop .inv .0 in
+    let l = h .before .before .before .before .before .loop .inv .0 in
     left-asks _ _ _ _ _ (held-asks _ _ _ _ l (h .held .ensures) (e .if1 .left)) l (r .release .ensures)
 
 wrapping-add-u64-requires : tie.Need-wrapping-add-u64-requires Inv-loop μ-loop
@@ -83,18 +79,21 @@ wrapping-add-u64-requires c κs = search needs
 loop-less : tie.Need-loop-less Inv-loop μ-loop
 loop-less c =
     let r = c .before .before .before .before .before .before .before .before .before .before .before .before .before .before .before .before .before .before .before .before .before .before .before .before .before .before .before .before .before .before .before .before .before .before .before .before .before .before .before .before in
-    let t = r .before .before .before .before .before .before .before .before .before .before .before .before .before .before .before in
+    let t = r .before .before .before .before .before .before .before .before .before .before .before .before .before .before in
     omega (arith, t .loop-test .taken)
 
 loop-again : tie.Need-loop-again Inv-loop μ-loop
 loop-again c =
     let p = c .before .before .before .before .before .before .before .before .before .before .before .before .before .before .before in
     let r = p .before .before .before .before .before .before .before .before .before .before .before .before .before .before .before .before .before .before .before .before .before .before .before .before .before in
-    let l = r .before .before .before .before .before .before .before .before .before .before .before .before .before .before .before .before .loop .inv in
-    (turned-ready _ _ _ _ _ _ _ _ (l .0) (r .release .ensures) (p .push .ensures), l .1, (c .before .before .before .before .before .before .before .before .before .before .before .before .before .before .heads2 .given ∙ (p .before .before .before .before .before .before .before .before .before .before .before .before .before .before .before .before .before .before .before .before .before .before .before .before .heads .given ∙ l .2 .0), c .before .before .before .before .before .before .before .before .before .before .before .before .tails2 .given ∙ (p .before .before .before .before .before .before .before .before .before .before .before .before .before .before .before .before .before .before .before .before .before .before .tails .given ∙ l .2 .1), c .before .before .before .before .before .before .before .before .before .before .lens2 .given ∙ (p .before .before .before .before .before .before .before .before .before .before .before .before .before .before .before .before .before .before .before .before .lens .given ∙ l .2 .2), p .before .before .before .before .before .before .before .before .before .before .before .before .before .before .before .before .before .before .cursors .given ∙ l .2 .3, c .before .before .before .before .before .before .before .before .next2 .given ∙ (p .before .before .before .before .before .before .before .before .before .before .before .before .before .before .before .before .next .given ∙ l .2 .4), c .before .before .before .before .before .before .prev2 .given ∙ (p .before .before .before .before .before .before .before .before .before .before .before .before .before .before .prev .given ∙ l .2 .5), c .before .before .before .before .home2 .given ∙ (p .before .before .before .before .before .before .before .before .before .before .before .before .home .given ∙ l .2 .6), c .before .before .element2 .given ∙ (p .before .before .before .before .before .before .before .before .before .before .element .given ∙ l .2 .7)))
+    let l = r .before .before .before .before .before .before .before .before .before .before .before .before .before .before .before .loop .inv in
+    (turned-ready _ _ _ _ _ _ _ _ (l .0) (r .release .ensures) (p .push .ensures), (c .before .before .before .before .before .before .before .before .before .before .before .before .before .before .heads2 .given ∙ (p .before .before .before .before .before .before .before .before .before .before .before .before .before .before .before .before .before .before .before .before .before .before .before .before .heads .given ∙ l .1 .0), c .before .before .before .before .before .before .before .before .before .before .before .before .tails2 .given ∙ (p .before .before .before .before .before .before .before .before .before .before .before .before .before .before .before .before .before .before .before .before .before .before .tails .given ∙ l .1 .1), c .before .before .before .before .before .before .before .before .before .before .lens2 .given ∙ (p .before .before .before .before .before .before .before .before .before .before .before .before .before .before .before .before .before .before .before .before .lens .given ∙ l .1 .2), p .before .before .before .before .before .before .before .before .before .before .before .before .before .before .before .before .before .before .cursors .given ∙ l .1 .3, c .before .before .before .before .before .before .before .before .next2 .given ∙ (p .before .before .before .before .before .before .before .before .before .before .before .before .before .before .before .before .next .given ∙ l .1 .4), c .before .before .before .before .before .before .prev2 .given ∙ (p .before .before .before .before .before .before .before .before .before .before .before .before .before .before .prev .given ∙ l .1 .5), c .before .before .before .before .home2 .given ∙ (p .before .before .before .before .before .before .before .before .before .before .before .before .home .given ∙ l .1 .6), c .before .before .element2 .given ∙ (p .before .before .before .before .before .before .before .before .before .before .element .given ∙ l .1 .7)))
 
-digest-after-requires : tie.Need-digest-after-requires Inv-loop μ-loop
-digest-after-requires c κs = search needs
+digest-requires : tie.Need-digest-requires Inv-loop μ-loop
+digest-requires c κs = search needs
+
+wrapping-add-u64-requires-2 : tie.Need-wrapping-add-u64-requires-2 Inv-loop μ-loop
+wrapping-add-u64-requires-2 c κs = search needs
 
 same-length-9 : tie.Need-same-length-9 Inv-loop μ-loop
 same-length-9 c = search needs
@@ -123,8 +122,8 @@ same-length-16 c = search needs
 returns-2 : tie.Need-returns-2 Inv-loop μ-loop
 returns-2 c = search needs
 
-pub turn-over-spec : {M : Type 1} → statement M
-turn-over-spec =
+pub queue-spec : {M : Type 1} → statement M
+queue-spec =
     tie.close
     (tie.spec
     Inv-loop
@@ -132,8 +131,7 @@ turn-over-spec =
     loop-holds
     sub-left
     following-requires
-    slice-read-picked
-    picked-requires
+    slice-read-s
     held-requires
     same-length
     same-length-2
@@ -149,7 +147,8 @@ turn-over-spec =
     wrapping-add-u64-requires
     loop-less
     loop-again
-    digest-after-requires
+    digest-requires
+    wrapping-add-u64-requires-2
     same-length-9
     same-length-10
     same-length-11
