@@ -1,4 +1,5 @@
-"""What the printers of proofs share: tuples and lists as text, the sources of a crate, a walk's context by name, and the filling of a template."""
+"""What the printers of proofs share: tuples and lists as text, the sources of a crate, a walk's context by name, the filling of a template, and
+lines of at most 160 columns."""
 import os
 import re
 import sys
@@ -43,16 +44,32 @@ def sources(crate):
                 yield ([] if name == 'lib.rt' else [name[:-3]]), file.read()
 
 
-def declared(crate, name):
-    """The crate and the module path in which a crate's type is declared: its own, or one that it names by `pub use`."""
-    passed_on = None
+def declared(crate, module, name):
+    """The crate and the module path in which a type is declared: in that module of the crate, or where its `pub use` names it."""
     for path, text in sources(crate):
+        if path != module:
+            continue
         if re.search(r'^pub (struct|enum) %s\b' % name, text, re.M):
             return crate, '.'.join(path + [name])
-        passed_on = passed_on or re.search(r'^pub use (\w+)(?:::\w+)*::%s;' % name, text, re.M)
-    if not passed_on:
-        sys.exit('no type %s in crate %s' % (name, crate))
-    return declared(passed_on.group(1), name)
+        passed_on = re.search(r'^pub use ((?:\w+::)+)%s;' % name, text, re.M)
+        if passed_on:
+            home = passed_on.group(1).split('::')[:-1]
+            return declared(crate if home[0] == 'crate' else home[0], home[1:], name)
+    sys.exit('no type %s in %s' % (name, '::'.join([crate] + module)))
+
+
+def spec(module):
+    """The text of a file of specs, named as another crate names it."""
+    crate, path = re.fullmatch(r'Rattle·(\w+)\.specs\.(.*)', module).groups()
+    with open(os.path.join(CRATES, crate, 'specs', *path.split('.')) + '.antt') as file:
+        return file.read()
+
+
+def brought(text):
+    """What the `use` lines of a file bring: (module, name), as another crate names it."""
+    for m in re.finditer(r'^(?:ghost )?use (\S+?)\.\{(.*?)\};?$', text, re.M):
+        for name in re.split(r',\s*', m.group(2)):
+            yield m.group(1).replace('·specs.specs.', '.specs.'), name
 
 
 class Function:
@@ -68,24 +85,52 @@ class Function:
         self.crate, self.name = crate, name
         self.params = [tuple(x.strip() for x in p.split(':', 1)) for p in m.group(1).split(',') if p.strip()]
         self.answer, self.result, self.clause, self.body = m.group(2), m.group(3), ' '.join(m.group(4).split()), m.group(5)
-        self.module = '.'.join(path + [name])
+        self.path, self.module = path, '.'.join(path + [name])
         self.key = '·'.join([crate] + path + [name]).replace('_', '-')
+        self.brought = list(brought(self.text))
+        for module, abbreviation in list(self.brought):
+            if module.endswith('.Lending'):
+                self.write_out(module, abbreviation)
+
+    def write_out(self, module, name):
+        """The records before and after are written out in the clause: a slice that is lent as & is at exit what it was at entry."""
+        text = spec(module)
+        given, body = re.search(r'^%s ([^=\n]*?) =\s+(.*)$' % name, text, re.M).groups()
+        given = given.split()
+        shared = {p for p, written in self.params if written.startswith('&[')}
+        form = re.compile(r'\(%s((?: \w+){%d}) ((?:\([^()]*(?:\([^()]*\))?[^()]*\)|\w+))\)' % (name, len(given) - 1) if given[-1] == 'c' else r'\(%s((?: \w+){%d})\)' % (name, len(given)))
+
+        def written(m):
+            values = m.group(1).split() + ([m.group(2)] if given[-1] == 'c' else [])
+            of = dict(zip(given, values))
+            out = re.sub(r'(?<![\w.])(%s)(?![\w])' % '|'.join(given), lambda k: of[k.group(1)], body)
+            return '(%s)' % re.sub(r'\((\w+) \.exit\)', lambda k: '(%s .entry)' % k.group(1) if k.group(1) in shared else k.group(0), out)
+        self.clause, count = form.subn(written, self.clause)
+        if count:
+            self.brought += [x for x in brought(text) if x[1] in body.split()]
 
     def home(self, name):
         """The crate that the function's file takes a name from."""
-        used = re.search(r'^use (\w+)(?:::\w+)*::%s;' % name, self.text, re.M)
-        return self.crate if not used or used.group(1) == 'crate' else used.group(1)
+        return self.place(name)[0]
+
+    def place(self, name):
+        """The crate and the module that it takes it from."""
+        used = re.search(r'^use ((?:\w+::)+)%s;' % name, self.text, re.M)
+        if not used:
+            return self.crate, self.path
+        home = used.group(1).split('::')[:-1]
+        return self.crate if home[0] == 'crate' else home[0], home[1:]
 
     def declared(self, name):
         """The crate and the module path of a type that the file uses or declares."""
-        return declared(self.home(name), name)
+        crate, module = self.place(name)
+        return declared(crate, module, name)
 
     def cited(self):
         """What the clause cites: (module, name), as another crate names it."""
-        for m in re.finditer(r'ghost use (\S+?)\.\{(.*?)\};', self.text):
-            for name in re.split(r',\s*', m.group(2)):
-                if re.search(r'(?<![\w′])%s(?![\w′])' % re.escape(name), self.clause):
-                    yield m.group(1).replace('·specs.specs.', '.specs.'), name
+        for module, name in self.brought:
+            if re.search(r'(?<![\w′])%s(?![\w′])' % re.escape(name), self.clause):
+                yield module, name
 
     def stated(self, entry, exit):
         """The clause with each parameter's value at entry and at exit in its place."""
@@ -186,6 +231,66 @@ def fill(template, form):
         yield re.sub('«(.*?)»', lambda k: str(eval(k.group(1), names)), m.group(3) if m else line)
 
 
+def names(text):
+    return set(re.findall(r'[^\s(){},;.`]+', text))
+
+
+def used(lines):
+    """The lines, with no name in a `use` line that the others do not use."""
+    body = '\n'.join(line for line in lines if not re.match(r'\s*--|use ', line))
+    had = names(body)
+    for line in lines:
+        m = re.match(r'use (\S+?)\.\{(.*)\}$', line)
+        if m:
+            keep = [x for x in re.split(r',\s*', m.group(2)) if x.split(' as ')[-1] in had or '_' in x and names(x.replace('_', ' ')) <= had]
+            if keep:
+                yield 'use %s.{%s}' % (m.group(1), ', '.join(keep))
+            continue
+        m = re.match(r'use \S+ as (\S+)$', line)
+        if not m or m.group(1) in had:
+            yield line
+
+
+def rows(line, width, begins, ends, mark, parts):
+    """The parts of a line on as many lines as they take."""
+    row = []
+    for part in parts:
+        if row and len(begins + mark.join(row + [part]) + ends) > width:
+            yield begins + mark.join(row) + ends
+            row = []
+        row.append(part)
+    yield begins + mark.join(row) + ends
+
+
+def cut(line, width):
+    """A line of antt on several, each cut where the fewest brackets are open, the last such place."""
+    pad = ' ' * (len(line) - len(line.lstrip()) + 4)
+    while len(line) > width:
+        low, best, depth = len(line) - len(line.lstrip()) + 20, None, 0
+        for i, c in enumerate(line[:width]):
+            depth += (c in '([{') - (c in ')]}')
+            if c == ' ' and i > max(low, width // 3) and line[i + 1] not in '=:' and line[i - 1] != 'λ' and (not best or depth <= best[0]):
+                best = depth, i
+        if not best:
+            break
+        yield line[:best[1]]
+        line = pad + line[best[1] + 1:].lstrip()
+    yield line
+
+
+def broken(lines, width=160):
+    """The lines, none of them wider; comments at most 120 columns."""
+    for line in lines:
+        comment, use = re.match(r'(\s*-- )(.*)', line), re.match(r'(use \S+?\.\{)(.*)(\})$', line)
+        if comment:
+            yield from rows(line, 120, comment.group(1), '', ' ', comment.group(2).split(' '))
+        elif use:
+            yield from rows(line, width, use.group(1), use.group(3), ', ', re.split(r',\s*', use.group(2)))
+        else:
+            yield from cut(line, width)
+
+
 def printed(template, form):
     with open(os.path.join(HERE, template)) as file:
-        sys.stdout.write('\n'.join(fill(file.read(), form)))
+        lines = '\n'.join(fill(file.read(), form)).split('\n')
+    sys.stdout.write('\n'.join(broken(list(used(lines)))))

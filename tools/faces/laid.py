@@ -62,7 +62,7 @@ class Laid(Thin):
         yield 'lay', 'Rattle.nodes.proofs.laying.lay', 'nodes·laying·lay'
 
     def cites(self):
-        return {'Rattle.nodes.specs.Laid': {'Laid'}}
+        return {'Rattle.face_rules.specs.nodes.Laid': {'Laid'}}
 
     def rest_last(self):
         return '‵ (Rest-last ws)'

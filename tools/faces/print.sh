@@ -1,28 +1,33 @@
 #!/bin/sh
-# print.sh [--check]: writes the proof of each thin function of the crates listed here to its place: by thin.py those over lent nodes, by laid.py the one
-# that lays them out, by told.py those that answer in numbers.
+# print.sh [--check]: writes the proof of each thin function of face and exports to its place, as `rt fmt` lays it out: by thin.py those over lent nodes,
+# by laid.py the one that lays them out, by told.py the C functions, which answer in numbers.
 # With --check it writes nothing, and fails where a proof is not what is printed.
 set -eu
-faces='face_making face_asking face_advancing face_arming'
-exports='exports_making exports_asking exports_advancing exports_arming'
 here=$(cd "$(dirname "$0")" && pwd)
-crates=$(dirname "$(dirname "$here")")/crates
-printed=$(mktemp)
-trap 'rm -f "$printed"' EXIT
-differ=0
-for crate in $faces $exports; do
-    case $crate in exports_*) printer=told.py ;; face_making) printer=laid.py ;; *) printer=thin.py ;; esac
-    for source in "$crates/$crate"/src/*.rt; do
+top=$(dirname "$(dirname "$here")")
+new=$(mktemp -d)
+trap 'rm -rf "$new"' EXIT
+for crate in face exports; do
+    for source in "$top/crates/$crate"/src/*.rt; do
+        case $crate/$(basename "$source") in exports/words.rt) continue ;; exports/*) printer=told.py ;; face/making.rt) printer=laid.py ;; *) printer=thin.py ;; esac
         for name in $(sed -n 's/^pub .*fn \([a-z_]*\)($/\1/p' "$source"); do
-            proof=$crate/proofs/$(basename "$source" .rt)/$name/Proof.antt
-            python3 -B "$here/$printer" "$crate" "$name" >"$printed"
-            if [ "${1:-}" = --check ]; then
-                cmp -s "$printed" "$crates/$proof" || { echo "print.sh: crates/$proof is not what $printer prints"; differ=1; }
-            else
-                mkdir -p "$(dirname "$crates/$proof")"
-                cp "$printed" "$crates/$proof"
-            fi
+            proof=crates/$crate/proofs/$(basename "$source" .rt)/$name
+            mkdir -p "$new/$proof"
+            python3 -B "$here/$printer" "$crate" "$name" >"$new/$proof/Proof.antt"
         done
     done
 done
-exit $differ
+(cd "$new" && : >crates.txt && rt fmt >/dev/null)
+cd "$new"
+find crates -name Proof.antt | sort | {
+    differ=0
+    while read -r proof; do
+        if [ "${1:-}" != --check ]; then
+            cp "$proof" "$top/$proof"
+        elif ! cmp -s "$proof" "$top/$proof"; then
+            echo "print.sh: $proof is not what is printed"
+            differ=1
+        fi
+    done
+    exit $differ
+}

@@ -158,7 +158,7 @@ class Thin:
 
     def cites(self):
         """What the proof cites beside what the clauses do."""
-        return {'Rattle.nodes.specs.Columns': {'Columns', 'columns', 'Loads'} | ({'Stores'} if self.mut_nodes else set())}
+        return {'Rattle.face_rules.specs.nodes.Columns': {'Columns', 'columns', 'Loads'} | ({'Stores'} if self.mut_nodes else set())}
 
     def imports(self):
         cited = self.cites()

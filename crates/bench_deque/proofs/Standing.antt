@@ -1,21 +1,21 @@
 -- The records stay those of one deque: what each call of the workloads asks, and what it leaves.
 use Prim.Native.Nat.{ℕ, _≤_, _<_}
 use native.Mathlib.Omega.{arith}
-use mathlib.Core.Path.{_≡_, refl, sym, ap, subst, _∙_}
+use mathlib.Core.Path.{_≡_, refl, sym, subst, _∙_}
 use mathlib.Core.Logic.{inl, ⊎-elim}
 use mathlib.Core.Bool.{Bool, true, false, not}
 use mathlib.Core.List.{List, [], _∷_}
-use lib.ListN.{length, getD}
-use Rattle.links.specs.Chain.{none, In, first, rest}
-use Rattle.links.specs.Lists.{homeOf}
-use Rattle.deque_sound.specs.State.{State, state, nodes}
-use Rattle.deque_sound.specs.Sound.{Judged}
-use Rattle.deque_sound.specs.Ready.{DequeReady, PushReady, NodeReady}
-use Rattle.deque_plain.specs.Work.{Steps}
-use Rattle.deque_work.specs.Work.{Pushes, Drops, Moves}
-use Rattle.deque_plain.proofs.Keeping.{stepped-shows}
-use Rattle.deque_sound.proofs.Sounding.{sound-shows}
-use Rattle.deque_plain.specs.declared.answer.Looked.{Looked}
+use lib.ListN.{length}
+use Rattle.deque_rules.specs.Chain.{none, In, first}
+use Rattle.deque_rules.specs.Lists.{homeOf}
+use Rattle.deque_rules.specs.alone.State.{State, nodes}
+use Rattle.deque_rules.specs.alone.Sound.{Judged}
+use Rattle.deque_rules.specs.alone.Ready.{DequeReady, PushReady, NodeReady}
+use Rattle.deque_rules.specs.alone.Work.{Steps}
+use Rattle.deque_rules.specs.alone.Work.{Pushes, Drops, Moves}
+use Rattle.deque_rules.proofs.alone.Keeping.{stepped-shows}
+use Rattle.deque_rules.proofs.alone.Sounding.{sound-shows}
+use Rattle.deque_rules.specs.declared.alone.Looked.{Looked}
 use Rattle.bench_deque.specs.Ready.{Ready, Full, Held, Tested, TestedFull}
 
 -- ---- a node of the first deque
@@ -51,7 +51,8 @@ module _ (a : State) (free : ℕ) where
   node-asks s y h =
       let r = y .shows .rep in
       let l : s < y .v .slots = rw (r .next-len) at h in
-      let no : homeOf (a .links) s ≡ none → ⊥ = λ k. ⊎-elim (λ (i : In s (y .v .free)). subst (λ (xs : List ℕ). In s xs) (y .none-free) i) (λ (i : In s []). i) (r .covered s l k) in
+      let no : homeOf (a .links) s ≡ none → ⊥ = λ k. ⊎-elim (λ (i : In s (y .v .free)). subst (λ (xs : List ℕ). In s xs) (y .none-free) i) (λ (i : In s []). i)
+      (r .covered s l k) in
       record { v = y .v; shows = y .shows; slot = l; deque = omega (arith, y .one); homed = omega (arith, r .homed s l no .0, y .one) }
 
   pub moved-full : (b : State) (s : ℕ) → Full a free → Moves a b free 0 s → Full b free
@@ -77,11 +78,23 @@ module _ (a : State) (free : ℕ) where
 
   -- ---- a node leaves, and is taken again
   pub held-asks : (s : ℕ) (good : Bool) → Ready a free → Held (a .links .home) s good → not good ≡ false → NodeReady a free 0 s
-  held-asks s true y h t = record { v = y .v; shows = y .shows; slot = rw (y .shows .rep .home-len) at (h .slot refl); deque = omega (arith, y .one); homed = h .first refl }
+  held-asks s true y h t = record {
+    v = y .v;
+    shows = y .shows;
+    slot = rw (y .shows .rep .home-len) at (h .slot refl);
+    deque = omega (arith, y .one);
+    homed = h
+        .first refl;
+  }
   held-asks s false y h t = let z : _≡_ {A = ℕ} 0 1 = cc in absurd (omega (arith, z))
 
   pub left-asks : (b : State) (s r : ℕ) → NodeReady a free 0 s → Ready a free → Drops a b free 0 s r → PushReady b s 0
-  left-asks b s r n y d = record { v = _; shows = d .does (y .v) (y .shows); slot = omega (arith, n .slot, n .shows .rep .next-len, y .shows .rep .next-len); deque = omega (arith, y .one) }
+  left-asks b s r n y d = record {
+    v = _;
+    shows = d .does (y .v) (y .shows);
+    slot = omega (arith, n .slot, n .shows .rep .next-len, y .shows .rep .next-len);
+    deque = omega (arith, y .one);
+  }
 
   pub turned-ready : (b c : State) (s e x r : ℕ) → Ready a free → Drops a b free 0 s e → Pushes b c s 0 x r → Ready c r
   turned-ready b c s e x r y d p = record { v = _; shows = p .does _ (d .does (y .v) (y .shows)); one = y .one }

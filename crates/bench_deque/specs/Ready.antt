@@ -4,8 +4,8 @@ use mathlib.Core.Path.{_≡_}
 use mathlib.Core.Bool.{Bool, true}
 use mathlib.Core.List.{List, []}
 use lib.ListN.{length, getD}
-use Rattle.links.specs.Lists.{Lists}
-use Rattle.deque_sound.specs.State.{State, Shows}
+use Rattle.deque_rules.specs.Lists.{Lists}
+use Rattle.deque_rules.specs.alone.State.{State, Shows}
 
 -- the records are sound, and there is one deque
 pub record Ready (a : State) (free : ℕ) : Type 0 where

@@ -1,7 +1,7 @@
 // The records of one deque whose first nodes hold the generator's numbers in order, the other nodes free.
 ghost use Prim.Native.Nat.{_≤_};
 use crate::choice::following;
-use deque::NONE;
+use deque_alone::NONE;
 
 // So many nodes, or all where there are not so many.
 pub fn at_most_all(n: usize) -> usize

@@ -1,15 +1,12 @@
 // For proved code only, unchecked: runs of calls on one deque whose records are sound.
-ghost use Prim.Native.Nat.{_≤_, _<_};
-ghost use mathlib.Core.Path.{_≡_};
-ghost use lib.ListN.{length};
-ghost use Rattle.deque_sound.specs.State.{state};
+ghost use Rattle.deque_rules.specs.alone.State.{state};
 ghost use Rattle.bench_deque.specs.Ready.{Ready, Full};
 use crate::choice::chosen;
 use crate::choice::following;
 use crate::choice::held;
 use crate::digests::digest;
-use deque::answer::Looked;
-use deque_work::unchecked;
+use deque_alone::unchecked;
+use deque_rules::alone::Looked;
 
 // So many times the front is popped, with a push after it: the sum of what was popped, and the digest of what is left.
 // The last push is one too many, and the digest leaves it out.

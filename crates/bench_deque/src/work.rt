@@ -1,6 +1,6 @@
 // The workloads: records are made, tested once, filled, and worked on.
 ghost use Prim.Native.Nat.{_≤_};
-ghost use Rattle.deque_sound.specs.State.{state};
+ghost use Rattle.deque_rules.specs.alone.State.{state};
 ghost use Rattle.bench_deque.specs.Ready.{Tested, TestedFull};
 use crate::laying::at_most_all;
 use crate::laying::first_free;
@@ -15,9 +15,8 @@ use crate::runs::queue;
 use crate::runs::replace;
 use crate::runs::rotate;
 use crate::runs::walk;
-use deque::NONE;
-use deque::answer::Counted;
-use deque::calls;
+use deque_alone::NONE;
+use deque_rules::alone::Counted;
 
 pub const QUEUE: u64 = 0;
 
@@ -223,7 +222,7 @@ fn test(
     if heads.len() != 1 {
         return false;
     }
-    deque_sound::sound::sound(heads, tails, lens, cursors, next, prev, home, element, free)
+    deque_alone::sound::sound(heads, tails, lens, cursors, next, prev, home, element, free)
 }
 
 // Whether there is one deque, its records are sound, and no node is free.
@@ -283,7 +282,7 @@ fn length(
     element: &[u64],
     free: usize,
 ) -> u64 {
-    match calls::length_of(
+    match deque_alone::length_of(
         heads,
         tails,
         lens,

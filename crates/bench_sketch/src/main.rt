@@ -3,8 +3,8 @@
 mod requests;
 mod work;
 
-use requests::answer;
-use requests::say;
+use crate::requests::answer;
+use crate::requests::say;
 
 fn main() {
     let mut table = [0u64; 65536];

@@ -1,8 +1,8 @@
 // The workloads, on the sketch's public calls.
-use sketch::Ensured;
-use sketch::Estimated;
-use sketch::Increased;
-use sketch::Sketch;
+use sketch_rules::Ensured;
+use sketch_rules::Estimated;
+use sketch_rules::Increased;
+use sketch_rules::Sketch;
 
 // A sketch after a run of increases, and the generator's last number.
 struct Made {

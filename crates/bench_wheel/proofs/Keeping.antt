@@ -1,10 +1,10 @@
 -- The records stay those of a sound wheel: what each turn of a workload asks, and what it leaves.
-use Prim.Native.Nat.{ℕ, _≤_, _<_}
+use Prim.Native.Nat.{ℕ, _<_}
 use native.Mathlib.Omega.{arith}
-use mathlib.Core.Path.{_≡_, sym, ap, subst}
+use mathlib.Core.Path.{_≡_, sym, subst}
 use mathlib.Core.Bool.{Bool, true, false, not}
-use mathlib.Core.Logic.{_⊎_, ⊎-elim}
-use mathlib.Core.Option.{Option, some}
+use mathlib.Core.Logic.{⊎-elim}
+use mathlib.Core.Option.{some}
 use mathlib.Core.List.{List}
 use lib.ListN.{length}
 use borrow.Author.Tests.{not-false}
@@ -12,21 +12,19 @@ use Rattle.rules.specs.Geometry.{wheel01}
 use Rattle.rules.specs.Wheel.{Wheel, setEntry, schedule, deschedule, start, pull}
 use Rattle.rules.specs.Calls.{act}
 use Rattle.rules.specs.Sound.{Sound}
-use Rattle.records.specs.declared.Clock.{Clock}
-use Rattle.records_timers.specs.declared.timers.Armed.{Armed}
-use Rattle.records.specs.Records.{Nodes, Entries, Records, entries, records}
-use Rattle.records.specs.Shows.{Shows}
-use Rattle.records_timers.specs.Timers.{ArmReady, SlotReady, Arms, Disarms}
-use Rattle.records.specs.Settings.{EntryReady, Sets}
-use Rattle.records.specs.Moments.{Starts}
-use Rattle.records.proofs.Serving.{slots-are, buckets-are, entry-ready, is-armed}
-use Rattle.popping.specs.declared.pop.Pulled.{Pulled}
-use Rattle.popping.specs.Pop.{TurnReady}
-use Rattle.advance.specs.Pull.{Pulls}
-use Rattle.wheel_sound.specs.Decides.{Decides}
-use Rattle.wheel_sound.specs.Sound.{SoundWith}
-use Rattle.wheel_sound.specs.Shown.{shown}
-use Rattle.wheel_sound.proofs.Showing.{sound-shows, shown-sound}
+use Rattle.wheel_rules.specs.declared.records.Clock.{Clock}
+use Rattle.wheel_rules.specs.declared.timers.Armed.{Armed}
+use Rattle.wheel_rules.specs.records.Records.{Nodes, Entries, Records, entries, records}
+use Rattle.wheel_rules.specs.timers.Timers.{ArmReady, SlotReady, Arms, Disarms}
+use Rattle.wheel_rules.specs.records.Settings.{EntryReady, Sets}
+use Rattle.wheel_rules.proofs.records.Serving.{slots-are, buckets-are, entry-ready, is-armed}
+use Rattle.wheel_rules.specs.declared.popping.Pulled.{Pulled}
+use Rattle.wheel_rules.specs.popping.Pop.{TurnReady}
+use Rattle.wheel_rules.specs.pull.Pull.{Pulls}
+use Rattle.wheel_rules.specs.sound.Decides.{Decides}
+use Rattle.wheel_rules.specs.sound.Sound.{SoundWith}
+use Rattle.wheel_rules.specs.sound.Shown.{shown}
+use Rattle.wheel_rules.proofs.sound.Showing.{sound-shows, shown-sound}
 use Rattle.bench_wheel.specs.Kept.{Works, MayArm, MayCancel, Fit, Arming, Opens}
 use Rattle.bench_wheel.specs.declared.turning.Turn.{Turn}
 use Rattle.bench_wheel.specs.declared.turning.Turn.the-variants.{Arm, Cancel, Open, Pull, Count, Stop}

@@ -5,7 +5,7 @@ use mathlib.Core.Bool.{Bool, true, cond}
 use mathlib.Core.Option.{Option, some}
 use borrow.Author.Tests.{eq-eqb}
 use Rattle.rules.specs.Geometry.{Geometry}
-use Rattle.rules.specs.Wheel.{Entry, Wheel, setEntry, schedule, deschedule, start, pull}
+use Rattle.rules.specs.Wheel.{Wheel, setEntry, schedule, deschedule, start, pull}
 use Rattle.rules.specs.Calls.{act}
 use Rattle.rules.specs.Sound.{Sound}
 use Rattle.rules.proofs.SoundCalls.{arms, drops, pulled-sound, pulled-at}

@@ -6,10 +6,10 @@ use mathlib.Core.Logic.{_⊎_}
 use mathlib.Core.List.{List}
 use lib.ListN.{length, getD}
 use Rattle.rules.specs.Geometry.{wheel01}
-use Rattle.records.specs.declared.Clock.{Clock}
-use Rattle.records.specs.Records.{Records}
-use Rattle.records.specs.Moments.{Starts}
-use Rattle.records_timers.specs.Timers.{Ready}
+use Rattle.wheel_rules.specs.declared.records.Clock.{Clock}
+use Rattle.wheel_rules.specs.records.Records.{Records}
+use Rattle.wheel_rules.specs.records.Moments.{Starts}
+use Rattle.wheel_rules.specs.timers.Timers.{Ready}
 use Rattle.bench_wheel.specs.declared.turning.Turn.{Turn}
 use Rattle.bench_wheel.specs.declared.turning.Turn.the-variants.{Arm, Cancel, Open, Pull, Count, Stop}
 

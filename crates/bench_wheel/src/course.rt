@@ -4,9 +4,9 @@ use crate::generator::below;
 use crate::generator::delay;
 use crate::generator::following;
 use crate::generator::stride;
-use links::NONE;
-use popping::pop::Pulled;
-use records::Clock;
+use deque::NONE;
+use wheel_rules::popping::Pulled;
+use wheel_rules::records::Clock;
 
 // How far a workload has come.
 pub struct Course {

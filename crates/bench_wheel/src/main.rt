@@ -7,9 +7,9 @@ mod running;
 mod turning;
 mod work;
 
+use crate::requests::answer;
+use crate::requests::say;
 use lines::Source;
-use requests::answer;
-use requests::say;
 
 fn main() {
     let mut block = [0u8; 4096];

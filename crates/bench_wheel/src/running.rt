@@ -1,6 +1,6 @@
 // The turns of a workload: records are tested once and worked on.
 ghost use Prim.Native.Nat.{_<_};
-ghost use Rattle.wheel_refuse.specs.Lent.{lent};
+ghost use Rattle.wheel_rules.specs.refusals.Lent.{lent};
 ghost use Rattle.bench_wheel.specs.Kept.{Works};
 use crate::course::begun;
 use crate::course::note;
@@ -10,8 +10,8 @@ use crate::generator::Workload;
 use crate::turning::Turn;
 use crate::turning::take;
 use crate::turning::turn_of;
-use records::Clock;
-use wheel_sound::is_sound;
+use wheel_refusals::sound::is_sound;
+use wheel_rules::records::Clock;
 
 // The buckets of the wheel.
 const BUCKETS: usize = 165;

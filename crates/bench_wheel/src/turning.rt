@@ -1,7 +1,7 @@
 // For proved code only, unchecked: one turn of a workload, on records that show a sound wheel.
 ghost use mathlib.Core.Path.{_≡_};
 ghost use lib.ListN.{length};
-ghost use Rattle.wheel_refuse.specs.Lent.{lent};
+ghost use Rattle.wheel_rules.specs.refusals.Lent.{lent};
 ghost use Rattle.bench_wheel.specs.Kept.{Works, Arming, IsArmed, Fit, Opens};
 use crate::course::Course;
 use crate::course::Wish;
@@ -10,14 +10,14 @@ use crate::course::after_event;
 use crate::course::expired;
 use crate::course::slot_place;
 use crate::generator::Workload;
-use advance::pull::pull;
-use links::NONE;
-use records::Clock;
-use records::moments::start;
-use records::settings::set_entry;
-use records_timers::timers::arm;
-use records_timers::timers::disarm;
-use wheel::Counted;
+use deque::NONE;
+use wheel_advance::pull::pull;
+use wheel_rules::calls::Counted;
+use wheel_rules::records::Clock;
+use wheel_timers::moments::start;
+use wheel_timers::settings::set_entry;
+use wheel_timers::timers::arm;
+use wheel_timers::timers::disarm;
 
 // The serial that is never given: there is none after it.
 const LAST: u64 = 18446744073709551615;

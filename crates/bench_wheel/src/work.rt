@@ -2,9 +2,9 @@
 ghost use Prim.Native.Nat.{_<_, _≤_};
 use crate::generator::Workload;
 use crate::running::run;
-use links::NONE;
-use records::Clock;
-use wheel::Timed;
+use deque::NONE;
+use wheel_rules::calls::Timed;
+use wheel_rules::records::Clock;
 
 // The buckets of the wheel.
 const BUCKETS: usize = 165;

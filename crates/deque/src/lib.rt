@@ -1,10 +1,15 @@
-// Linked deques of 64-bit elements that share nodes, in parallel slices that the caller lends: 1 to 256 deques (heads, tails, lens, cursors) over 1 to 4,096
-// nodes (next, prev, home, element), and the first free node, which is handed on by value. Every call answers for every input.
-// No function of its own: the calls stand in deque_making, deque_asking, deque_linking and deque_freeing, and are passed on here with what they answer.
-pub mod answer; // what the calls answer
-pub mod calls; // the public calls
+// Linked deques and the chain of free slots, in parallel slices: head and tail of each deque; next slot, previous slot
+// and deque of
+// each slot. For proved code only, unchecked: a caller shows that the records stand for lists, or tests it once with
+// `sound`.
+// Each function promises what it writes, and what that means for whatever lists the records stand for (crate
+// deque_rules).
+pub mod change; // push, remove, move to the back, turn until a member is last
+pub mod free; // take a free slot, give one back
+pub mod layout; // all deques empty, all slots free
+pub mod read; // the front of a deque, the slot after a slot
+pub mod sound; // the test of links and free chain, which asks nothing
+pub mod walk; // how many slots a deque and the free chain have, for tests
 
-// No node, and the cursor that stands at none.
+// No slot: one past the last that may be lent.
 pub const NONE: usize = 4096;
-// The cursor that stands past the end.
-pub const PAST_END: usize = 4097;

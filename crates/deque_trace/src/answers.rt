@@ -1,11 +1,11 @@
 // What a call answers, and the line that says so.
-use deque::answer::Counted;
-use deque::answer::Done;
-use deque::answer::Dropped;
-use deque::answer::Looked;
-use deque::answer::Made;
-use deque::answer::Popped;
-use deque::answer::Pushed;
+use deque_rules::alone::Counted;
+use deque_rules::alone::Done;
+use deque_rules::alone::Dropped;
+use deque_rules::alone::Looked;
+use deque_rules::alone::Made;
+use deque_rules::alone::Popped;
+use deque_rules::alone::Pushed;
 
 // The answers' words, and the answers that are other lines.
 const SLOT: usize = 0;

@@ -8,15 +8,15 @@ mod work;
 
 ghost use mathlib.Core.Path.{_≡_};
 ghost use lib.ListN.{length};
-use answers::say;
+use crate::answers::say;
+use crate::parse::Call;
+use crate::parse::SILENT;
+use crate::parse::call_of;
+use crate::state::State;
+use crate::state::after;
+use crate::state::planned;
+use crate::work::perform;
 use lines::Source;
-use parse::Call;
-use parse::SILENT;
-use parse::call_of;
-use state::State;
-use state::after;
-use state::planned;
-use work::perform;
 
 fn main() {
     let mut heads = [0usize; 256];
@@ -65,7 +65,7 @@ fn run(
     let mut state = State {
         deques: 0,
         nodes: 0,
-        free: deque::NONE,
+        free: deque_alone::NONE,
     };
     let mut waiting: usize = 0;
     let mut turns = u64::MAX;

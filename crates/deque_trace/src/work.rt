@@ -45,7 +45,6 @@ use crate::words::POP;
 use crate::words::PUSH;
 use crate::words::RESET;
 use crate::words::UNLINK;
-use deque::calls;
 
 // A call on the lent records. A list and a dump go to out, after the bytes that wait there.
 pub fn perform(
@@ -68,7 +67,7 @@ pub fn perform(
         return pushed(
             free,
             at,
-            calls::push_back(
+            deque_alone::push_back(
                 heads,
                 tails,
                 lens,
@@ -87,7 +86,7 @@ pub fn perform(
         return popped(
             free,
             at,
-            calls::pop_front(
+            deque_alone::pop_front(
                 heads,
                 tails,
                 lens,
@@ -105,7 +104,7 @@ pub fn perform(
         return dropped(
             free,
             at,
-            calls::unlink_and_drop(
+            deque_alone::unlink_and_drop(
                 heads,
                 tails,
                 lens,
@@ -157,14 +156,14 @@ fn arrange(
         return made(
             free,
             at,
-            calls::make(heads, tails, lens, cursors, next, prev, home, element),
+            deque_alone::make(heads, tails, lens, cursors, next, prev, home, element),
         );
     }
     if asks == MOVE {
         return done(
             free,
             at,
-            calls::move_to_back(
+            deque_alone::move_to_back(
                 heads,
                 tails,
                 lens,
@@ -245,7 +244,7 @@ fn ask(
         NEXT => looked(
             free,
             at,
-            calls::next_by_cursor(
+            deque_alone::next_by_cursor(
                 heads,
                 tails,
                 lens,
@@ -261,7 +260,7 @@ fn ask(
         RESET => done(
             free,
             at,
-            calls::reset_cursor(
+            deque_alone::reset_cursor(
                 heads,
                 tails,
                 lens,
@@ -312,7 +311,7 @@ fn look(
         FRONT => looked(
             free,
             at,
-            calls::look_front(
+            deque_alone::look_front(
                 heads,
                 tails,
                 lens,
@@ -328,7 +327,7 @@ fn look(
         BACK => looked(
             free,
             at,
-            calls::look_back(
+            deque_alone::look_back(
                 heads,
                 tails,
                 lens,
@@ -344,7 +343,7 @@ fn look(
         LENGTH => counted(
             free,
             at,
-            calls::length_of(
+            deque_alone::length_of(
                 heads,
                 tails,
                 lens,

@@ -1,4 +1,4 @@
--- The loop of `collect`: what it has reached, and what it answers where it stops. Assumes nothing.
+-- The loop of `collect`: what it has reached, and what it answers where it stops.
 use Prim.Native.Nat.{ℕ, _+_, _-_, _≤_, _<_}
 use mathlib.Core.Path.{_≡_, refl, sym, ap, subst, _∙_}
 use mathlib.Core.Bool.{Bool, true, false, cond}
@@ -13,7 +13,8 @@ use Rattle.lines.specs.declared.collecting.Collected.{Collected}
 use Rattle.lines.proofs.Scans.{before-stop, before-on, before-end}
 use Rattle.lines.proofs.Waiting.{held}
 
--- At index i of the block the buffer `line` holds n bytes; it was `line₀` and held `kept` at `from`. What is held and what is still to come are what
+-- At index i of the block the buffer `line` holds n bytes; it was `line₀` and held `kept` at `from`. What is held and
+-- what is still to come are what
 -- was held and what belongs to this line.
 pub record Reached (block : List ℕ) (from : ℕ) (line₀ : List ℕ) (kept : ℕ) (line : List ℕ) (i n : ℕ) : Type 0 where
   pub on : from ≤ i
@@ -83,7 +84,8 @@ turns-none t false e = refl
 never : (t : Bool) → t ≡ false → t ≡ true → ⊥
 never t p q = let z : _≡_ {A = ℕ} 0 1 = cc in omega arith
 
-module _ (block line : List ℕ) (s : Source) (part line′ : List ℕ) (r : Collected) (e : part ≡ take (s .upto) block) (k : Collects part (s .from) line 0 line′ r) where
+module _ (block line : List ℕ) (s : Source) (part line′ : List ℕ) (r : Collected) (e : part ≡ take (s .upto) block)
+    (k : Collects part (s .from) line 0 line′ r) where
   -- the line ends in the block: it is the next line
   pub line-found : r .ended ≡ true → NextLine block line s block line′ (record { from = r .next; upto = s .upto; held = r .kept; more = true })
   line-found h =

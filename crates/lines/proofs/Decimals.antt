@@ -1,4 +1,4 @@
--- One digit more of a number: what `readOn` is at index i of a text. Assumes nothing.
+-- One digit more of a number: what `readOn` is at index i of a text.
 use Prim.Native.Nat.{ℕ, _+_, _*_, _^_, _≤_, _<_}
 use mathlib.Core.Path.{_≡_, sym, ap, subst}
 use mathlib.Core.List.{List}
@@ -17,13 +17,21 @@ module _ (n : ℕ) (l : List ℕ) (i : ℕ) (h : i < length l) (d : ℕ) (e : d 
   unfolding readOn
   read-over k o =
       rw (dropped l i h)
-      (simp (le-ltb 9 (digitOf (getD l i 0)) (subst (λ (x : ℕ). x ≤ 9) e k), le-ltb (n * 10 + digitOf (getD l i 0)) (2 ^ 64) (subst (λ (x : ℕ). 2 ^ 64 ≤ n * 10 + x) e o)))
+      (simp (
+        le-ltb 9 (digitOf (getD l i 0)) (subst (λ (x : ℕ). x ≤ 9) e k),
+        le-ltb (n * 10 + digitOf (getD l i 0)) (2 ^ 64)
+            (subst (λ (x : ℕ). 2 ^ 64 ≤ n * 10 + x) e o),
+      ))
 
   pub read-more : d ≤ 9 → n * 10 + d < 2 ^ 64 → readOn n (drop i l) ≡ readOn (n * 10 + d) (drop (i + 1) l)
   unfolding readOn
   read-more k o =
       rw (dropped l i h)
-      (simp (le-ltb 9 (digitOf (getD l i 0)) (subst (λ (x : ℕ). x ≤ 9) e k), lt-ltb (n * 10 + digitOf (getD l i 0)) (2 ^ 64) (subst (λ (x : ℕ). n * 10 + x < 2 ^ 64) e o))
+      (simp (
+        le-ltb 9 (digitOf (getD l i 0)) (subst (λ (x : ℕ). x ≤ 9) e k),
+        lt-ltb (n * 10 + digitOf (getD l i 0)) (2 ^ 64)
+            (subst (λ (x : ℕ). n * 10 + x < 2 ^ 64) e o),
+      )
       (ap (λ (x : ℕ). readOn (n * 10 + x) (drop (i + 1) l)) (sym e)))
 
 pub read-end : (n : ℕ) (l : List ℕ) (i : ℕ) → length l ≤ i → readOn n (drop i l) ≡ Is n

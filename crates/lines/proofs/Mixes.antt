@@ -1,4 +1,4 @@
--- One number more of a digest. Assumes nothing.
+-- One number more of a digest.
 use Prim.Native.Nat.{ℕ, _+_, _≤_, _<_}
 use mathlib.Core.Path.{_≡_, ap}
 use mathlib.Core.List.{List}

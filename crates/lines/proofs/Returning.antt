@@ -1,4 +1,4 @@
--- What `append_decimal` writes is what `read_number` reads: the digits of a number below 2^64 are that number. Assumes nothing.
+-- What `append_decimal` writes is what `read_number` reads: the digits of a number below 2^64 are that number.
 use Prim.Native.Nat.{ℕ, zero, suc, _+_, _*_, _/_, _%_, _^_, _≤_, _<_}
 use mathlib.Core.Path.{_≡_, refl, ap, _∙_}
 use mathlib.Core.Bool.{Bool, true, false}
@@ -62,11 +62,20 @@ digits-long (suc k) n = length-append (digits 10 k (n / 10)) (glyph (n % 10) ∷
 digits-first : (k n : ℕ) → 48 ≤ getD (digits 10 (suc k) n) 0 0
 digits-first zero n = omega (arith, glyph-is (n % 10) (omega arith))
 digits-first (suc k) n =
-    omega (arith, digits-first k (n / 10), List·getD-append (digits 10 (suc k) (n / 10)) (glyph (n % 10) ∷ []) 0 0 (omega (arith, digits-long (suc k) (n / 10))))
+    omega (
+      arith,
+      digits-first k (n / 10),
+      List·getD-append (digits 10 (suc k) (n / 10)) (glyph (n % 10) ∷ []) 0 0
+          (omega (arith, digits-long (suc k) (n / 10))),
+    )
 
 -- the decimal digits of a number, read as a part of a line, are the number
 pub decimal-back : (k n : ℕ) → 0 < k → n < 10 ^ k → n < 2 ^ 64 → numberOf (digits 10 k n) ≡ Is n
 decimal-back zero n p h w = absurd (omega arith)
 decimal-back (suc k) n p h w =
-    simp (ne-eqb (length (digits 10 (suc k) n)) 0 (λ e. omega (arith, digits-long (suc k) n)), ne-eqb (getD (digits 10 (suc k) n) 0 0) 45 (λ e. omega (arith, digits-first k n)))
+    simp (
+      ne-eqb (length (digits 10 (suc k) n)) 0 (λ e. omega (arith, digits-long (suc k) n)),
+      ne-eqb (getD (digits 10 (suc k) n) 0 0) 45
+          (λ e. omega (arith, digits-first k n)),
+    )
     (read-digits (suc k) n h w)

@@ -1,4 +1,5 @@
--- One byte more of a scan: what `before`, `skipped`, `countOf` and `alike` are at index i of a list, from what they are at i + 1. Assumes nothing.
+-- One byte more of a scan: what `before`, `skipped`, `countOf` and `alike` are at index i of a list, from what they are
+-- at i + 1.
 use Prim.Native.Nat.{ℕ, zero, suc, _+_, _-_, _≤_, _<_}
 use mathlib.Core.Path.{_≡_, refl, ap, _∙_}
 use mathlib.Core.Bool.{Bool, true, false, cond}
@@ -33,16 +34,6 @@ before-on b l i h n = ap (before b) (dropped l i h) ∙ before-later b (getD l i
 pub before-end : (b : ℕ) (l : List ℕ) (i : ℕ) → length l ≤ i → before b (drop i l) ≡ []
 unfolding before
 before-end b l i h = ap (before b) (drop-of-length-le l h)
-
--- its length is at most that of what it is the beginning of
-pub before-length : (b : ℕ) (l : List ℕ) → length (before b l) ≤ length l
-unfolding before
-before-length b [] = omega arith
-before-length b (x ∷ l) = cases (eqb x b) (before-length b l)
-  where
-    cases : (t : Bool) → length (before b l) ≤ length l → length (cond t [] (x ∷ before b l)) ≤ suc (length l)
-    cases true h = omega arith
-    cases false h = omega arith
 
 -- it is the beginning of it
 pub before-take : (b : ℕ) (l : List ℕ) → take (length (before b l)) l ≡ before b l
@@ -119,7 +110,8 @@ alike-differ : (x y : ℕ) (t w : List ℕ) → (x ≡ y → ⊥) → alike (x �
 unfolding alike
 alike-differ x y t w n = simp (ne-eqb x y n)
 
-pub alike-on : (t w : List ℕ) (i : ℕ) → i < length t → i < length w → getD t i 0 ≡ getD w i 0 → alike (drop i t) (drop i w) ≡ alike (drop (i + 1) t) (drop (i + 1) w)
+pub alike-on : (t w : List ℕ) (i : ℕ) → i < length t → i < length w → getD t i 0 ≡ getD w i 0 → alike (drop i t) (drop i w) ≡ alike (drop (i + 1) t)
+    (drop (i + 1) w)
 alike-on t w i h k e = rw (dropped t i h, dropped w i k) (alike-first (getD t i 0) (getD w i 0) (drop (i + 1) t) (drop (i + 1) w) e)
 
 pub alike-not : (t w : List ℕ) (i : ℕ) → i < length t → i < length w → (getD t i 0 ≡ getD w i 0 → ⊥) → alike (drop i t) (drop i w) ≡ false

@@ -1,4 +1,4 @@
--- Bytes held in a buffer: one more of them, and the places of an answer. Assumes nothing.
+-- Bytes held in a buffer: one more of them, and the places of an answer.
 use Prim.Native.Nat.{ℕ, _+_, _≤_, _<_}
 use mathlib.Core.Path.{_≡_, refl}
 use mathlib.Core.Bool.{Bool, true, false, cond}

@@ -1,4 +1,4 @@
--- A buffer in which answers wait: what `append` and `append_decimal` promise. Assumes nothing.
+-- A buffer in which answers wait: what `append` and `append_decimal` promise.
 use Prim.Native.Nat.{ℕ, _+_, _≤_, _<_}
 use mathlib.Core.Path.{_≡_}
 use mathlib.Core.Bool.{cond}
@@ -10,7 +10,8 @@ use lib.Seq.{paste}
 use Rattle.lines.specs.Parts.{space}
 use Rattle.io.specs.Digits.{digits, Fewest}
 
--- where n bytes go in a buffer of `most`: after the `at` that wait, or at the start, where there is no room and those are written out first
+-- where n bytes go in a buffer of `most`: after the `at` that wait, or at the start, where there is no room and those
+-- are written out first
 abbrev pub placeOf : ℕ → ℕ → ℕ → ℕ
 placeOf at n most = cond (leb (at + n) most) at 0
 

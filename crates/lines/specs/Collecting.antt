@@ -1,4 +1,4 @@
--- Lines as they come out of blocks: what the functions of `collecting` promise. Assumes nothing.
+-- Lines as they come out of blocks: what the functions of `collecting` promise.
 use Prim.Native.Nat.{ℕ, _+_, _-_, _≤_, _<_}
 use mathlib.Core.Path.{_≡_}
 use mathlib.Core.Bool.{Bool, true, false, cond}
@@ -49,7 +49,8 @@ unread = record { from = 0; upto = 0; held = 0; more = true }
 abbrev pub lineThere : List ℕ → Source → Bool
 lineThere block s = ltb (length (thisLine (take (s .upto) block) (s .from))) (length (drop (s .from) (take (s .upto) block)))
 
--- The next line, as far as it stands in the block already: then it is taken from there, and nothing is read. No contract can say what a read brings.
+-- The next line, as far as it stands in the block already: then it is taken from there, and nothing is read. No
+-- contract can say what a read brings.
 pub record NextLine (block line : List ℕ) (s : Source) (block′ line′ : List ℕ) (r : Source) : Type 0 where
   pub taken : lineThere block s ≡ true → Collects (take (s .upto) block) (s .from) line 0 line′ (record { next = r .from; kept = r .held; ended = r .more })
   pub unmoved : lineThere block s ≡ true → (block′ ≡ block) × (r .upto ≡ s .upto)
@@ -67,6 +68,7 @@ abbrev pub pickKind : Bool → Kind → Kind → Kind
 pickKind true a b = a
 pickKind false a b = b
 
--- A line longer than 256 bytes is a bad line, whatever it holds. An empty line and a comment answer nothing. Any other is a call.
+-- A line longer than 256 bytes is a bad line, whatever it holds. An empty line and a comment answer nothing. Any other
+-- is a call.
 abbrev pub kindOf : List ℕ → Kind
 kindOf l = pickKind (ltb 256 (length l)) Long (pickKind (eqb (length l) 0) Silent (pickKind (isComment l) Silent Call))

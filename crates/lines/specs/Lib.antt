@@ -1,4 +1,4 @@
--- What the contracts of `lines` cite. Assumes nothing.
+-- What the contracts of `lines` cite.
 pub mod Answers
 pub mod Collecting
 pub mod Digests

@@ -1,4 +1,4 @@
--- A line of a trace and its parts: a word and fields, separated by single spaces. Assumes nothing.
+-- A line of a trace and its parts: a word and fields, separated by single spaces.
 use Prim.Native.Nat.{ℕ, zero, suc, _+_}
 use mathlib.Core.Bool.{Bool, true, false, cond}
 use mathlib.Core.List.{List, [], _∷_}
@@ -23,7 +23,8 @@ unfoldable pub skipped : ℕ → List ℕ → List ℕ
 skipped zero l = l
 skipped (suc k) l = skipped k (after space l)
 
--- part k of a line, the first is part 0. An empty part is what two spaces side by side, or one at an end of the line, enclose
+-- part k of a line, the first is part 0. An empty part is what two spaces side by side, or one at an end of the line,
+-- enclose
 abbrev pub partOf : ℕ → List ℕ → List ℕ
 partOf k l = before space (skipped k l)
 

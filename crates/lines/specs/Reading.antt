@@ -1,4 +1,4 @@
--- A part of a line as a number: decimal digits, at most 2^64 - 1, or `-` for none. Assumes nothing.
+-- A part of a line as a number: decimal digits, at most 2^64 - 1, or `-` for none.
 use Prim.Native.Nat.{ℕ, _+_, _-_, _*_, _^_}
 use mathlib.Core.Bool.{Bool, true, false, cond}
 use mathlib.Core.List.{List, [], _∷_}
@@ -15,7 +15,8 @@ abbrev pub pickNumber : Bool → Number → Number → Number
 pickNumber true a b = a
 pickNumber false a b = b
 
--- the number whose first digits make n and whose other digits are the bytes: something else where a byte is no digit or the number is above 2^64 - 1
+-- the number whose first digits make n and whose other digits are the bytes: something else where a byte is no digit or
+-- the number is above 2^64 - 1
 unfoldable pub readOn : ℕ → List ℕ → Number
 readOn n [] = Is n
 readOn n (b ∷ l) = pickNumber (ltb 9 (digitOf b)) Other (pickNumber (ltb (n * 10 + digitOf b) (2 ^ 64)) (readOn (n * 10 + digitOf b) l) Other)

@@ -1,5 +1,4 @@
 // Answers: bytes and numbers that wait in a buffer until they are written to standard output.
-// Assumes nothing.
 ghost use mathlib.Core.Path.{_≡_};
 ghost use Prim.Native.Nat.{_+_, _≤_};
 ghost use lib.ListN.{length};

@@ -1,4 +1,4 @@
-// From blocks of standard input to lines. Assumes nothing.
+// From blocks of standard input to lines.
 ghost use mathlib.Core.Path.{_≡_};
 ghost use Rattle.io.specs.Counts.{Counts};
 ghost use Rattle.lines.specs.Collecting.{Collects, Keeps, NextLine, TurnsLeft, unread, kindOf};

@@ -1,4 +1,4 @@
-// The digest of a run of numbers: FNV-1a on 64-bit words. Assumes nothing.
+// The digest of a run of numbers: FNV-1a on 64-bit words.
 ghost use mathlib.Core.Path.{_≡_};
 ghost use Rattle.lines.specs.Digests.{begun, mixed, mixedAll};
 

@@ -1,4 +1,4 @@
-// A line's parts: what stands between its spaces. Assumes nothing.
+// A line's parts: what stands between its spaces.
 ghost use mathlib.Core.Path.{_≡_};
 ghost use Prim.Native.Nat.{_+_, _≤_};
 ghost use lib.ListN.{length, take, drop};

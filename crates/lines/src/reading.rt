@@ -1,4 +1,4 @@
-// A part of a line as a number. Assumes nothing.
+// A part of a line as a number.
 ghost use mathlib.Core.Path.{_≡_};
 ghost use Rattle.lines.specs.Reading.{numberOf, digitOf, readOn, dashOf};
 ghost use Rattle.lines.specs.Parts.{partOf};

@@ -1,4 +1,5 @@
--- What a walk that calls `block_end` has of it: its contract, what its triple binds outside, that the caller has what it asks, and the fact that it leaves.
+-- What a walk that calls `block_end` has of it: its contract, what its triple binds outside, that the caller has what
+-- it asks, and the fact that it leaves.
 -- Assumes `Given`.
 use mathlib.Core.Path.{_≡_, refl}
 use Prim.Native.Nat.{ℕ, _<_, _≤_, _^_}
@@ -21,7 +22,7 @@ use denote.Triple.Clauses.{ensured, lasts}
 use denote.Triple.Spec.{tripleOf}
 use denote.Triple.Statement.{Contract}
 use denote.Triple.Walked.{says}
-use Rattle.nodes.specs.Blocks.{endOf}
+use Rattle.face_rules.specs.nodes.Blocks.{endOf}
 use Rattle.nodes.proofs.block_end as ends
 
 module _ {M : Type 1} (𝓤 : URA M) (H : Heap 𝓤) (A : Atoms 𝓤) (mem : Memory → SProp 𝓤) (run : Routine → Fun 𝓤) where
@@ -34,6 +35,8 @@ module _ {M : Type 1} (𝓤 : URA M) (H : Heap 𝓤) (A : Atoms 𝓤) (mem : Mem
   abbrev pub to-end : ℕ → ℕ → End .Ghost
   to-end i n = ((tt, tt, tt, (i, (n, tt)), (vint w64 i ∷ [], (vint w64 n ∷ [], tt))), tt)
 
-pub goes-end : {M : Type 1} (𝓤 : URA M) (H : Heap 𝓤) (A : Atoms 𝓤) (W : Given 𝓤 H A) (mem : Memory → SProp 𝓤) (run : Routine → Fun 𝓤) (i n : ℕ) → i < 2 ^ 64 → n < 2 ^ 64 → i ≤ n → ent 𝓤 (emp 𝓤) (End 𝓤 H A mem run .pre (to-end 𝓤 H A mem run i n))
+pub goes-end : {M : Type 1} (𝓤 : URA M) (H : Heap 𝓤) (A : Atoms 𝓤) (W : Given 𝓤 H A) (mem : Memory → SProp 𝓤) (run : Routine → Fun 𝓤) (i n : ℕ) → i < 2 ^ 64 →
+    n < 2 ^ 64 → i ≤ n → ent 𝓤 (emp 𝓤) (End 𝓤 H A mem run .pre (to-end 𝓤 H A mem run i n))
 goes-end 𝓤 H A W mem run i n few-i few-n l =
-    qed W [] ∵ says ! l $ nothing ! $ nothing ! $ owned ! usize (Is usize) (uint-makes 𝓤 H A W w64) n _ (refl, few-n) $ fjoin ! $ owned ! usize (Is usize) (uint-makes 𝓤 H A W w64) i _ (refl, few-i) $ fjoin ! $ move ! (1 ∷ 0 ∷ []) $ done !
+    qed W [] ∵ says ! l $ nothing ! $ nothing ! $ owned ! usize (Is usize) (uint-makes 𝓤 H A W w64) n _ (refl, few-n) $ fjoin ! $ owned ! usize (Is usize)
+    (uint-makes 𝓤 H A W w64) i _ (refl, few-i) $ fjoin ! $ move ! (1 ∷ 0 ∷ []) $ done !

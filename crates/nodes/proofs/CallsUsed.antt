@@ -1,4 +1,5 @@
--- What a walk that calls `used` has of it: its contract, what its triple binds outside, that the caller has what it asks, and the fact that it leaves.
+-- What a walk that calls `used` has of it: its contract, what its triple binds outside, that the caller has what it
+-- asks, and the fact that it leaves.
 -- Assumes `Given`.
 use mathlib.Core.Path.{_≡_, refl}
 use Prim.Native.Nat.{ℕ, _<_, _^_}
@@ -20,7 +21,7 @@ use denote.Steps.{owned, nothing}
 use denote.Triple.Clauses.{ensured, lasts}
 use denote.Triple.Spec.{tripleOf}
 use denote.Triple.Statement.{Contract}
-use Rattle.nodes.specs.Columns.{usedOf}
+use Rattle.face_rules.specs.nodes.Columns.{usedOf}
 use Rattle.nodes.proofs.used as used
 
 module _ {M : Type 1} (𝓤 : URA M) (H : Heap 𝓤) (A : Atoms 𝓤) (mem : Memory → SProp 𝓤) (run : Routine → Fun 𝓤) where
@@ -33,5 +34,7 @@ module _ {M : Type 1} (𝓤 : URA M) (H : Heap 𝓤) (A : Atoms 𝓤) (mem : Mem
   abbrev pub to-used : ℕ → Used .Ghost
   to-used n = ((tt, tt, tt, (n, tt), (vint w64 n ∷ [], tt)), tt)
 
-pub goes-used : {M : Type 1} (𝓤 : URA M) (H : Heap 𝓤) (A : Atoms 𝓤) (W : Given 𝓤 H A) (mem : Memory → SProp 𝓤) (run : Routine → Fun 𝓤) (n : ℕ) → n < 2 ^ 64 → ent 𝓤 (emp 𝓤) (Used 𝓤 H A mem run .pre (to-used 𝓤 H A mem run n))
-goes-used 𝓤 H A W mem run n few = qed W [] ∵ nothing ! $ nothing ! $ nothing ! $ owned ! usize (Is usize) (uint-makes 𝓤 H A W w64) n _ (refl, few) $ fjoin ! $ move ! (1 ∷ 0 ∷ []) $ join ! $ done !
+pub goes-used : {M : Type 1} (𝓤 : URA M) (H : Heap 𝓤) (A : Atoms 𝓤) (W : Given 𝓤 H A) (mem : Memory → SProp 𝓤) (run : Routine → Fun 𝓤) (n : ℕ) → n < 2 ^ 64 →
+    ent 𝓤 (emp 𝓤) (Used 𝓤 H A mem run .pre (to-used 𝓤 H A mem run n))
+goes-used 𝓤 H A W mem run n few = qed W [] ∵ nothing ! $ nothing ! $ nothing ! $ owned ! usize (Is usize) (uint-makes 𝓤 H A W w64) n _ (refl, few) $ fjoin ! $
+    move ! (1 ∷ 0 ∷ []) $ join ! $ done !

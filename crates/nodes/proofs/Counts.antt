@@ -1,5 +1,7 @@
--- A loop that goes forward: `while i < n { …; i = j }`, j past i and at most n, where At i is what stands at the loop's test.
---     strides      a turn from At i, i below n, ends in At j for some such j; a turn from At n leaves the loop. So the loop runs from At start
+-- A loop that goes forward: `while i < n { …; i = j }`, j past i and at most n, where At i is what stands at the loop's
+-- test.
+--     strides      a turn from At i, i below n, ends in At j for some such j; a turn from At n leaves the loop. So the
+--     loop runs from At start
 --     counts       the same where each turn goes one further: `while i < n { …; i += 1 }`
 --     yes-less, not-less      the test's value
 -- Assumes the logic's `Laws` and a `Tables`.
@@ -34,7 +36,8 @@ not-less n = fails (ltb n n) (λ a. lt-irrefl n (ltb→lt n n a))
 pub one-more : (i : ℕ) → i + 1 ≡ suc i
 one-more i = omega arith
 
-module _ {M : Type 1} (𝓤 : URA M) (H : Heap 𝓤) (L : Laws 𝓤 H) (𝓣 : Tables 𝓤 H) (E : Env 𝓤 H) (turn : Body) (Left : Out → SProp 𝓤) (start n : ℕ) (At : ℕ → SProp 𝓤) where
+module _ {M : Type 1} (𝓤 : URA M) (H : Heap 𝓤) (L : Laws 𝓤 H) (𝓣 : Tables 𝓤 H) (E : Env 𝓤 H) (turn : Body) (Left : Out → SProp 𝓤) (start n : ℕ)
+    (At : ℕ → SProp 𝓤) where
   abbrev Turn : SProp 𝓤 → SProp 𝓤
   Turn X = Wp 𝓤 H (𝓣 .C) (𝓣 .Λ) E turn (afterTurn 𝓤 H X Left)
 
@@ -56,7 +59,8 @@ module _ {M : Type 1} (𝓤 : URA M) (H : Heap 𝓤) (L : Laws 𝓤 H) (𝓣 : T
   below : (t u j : ℕ) → u < t → Left-at u j → ent 𝓤 (At j) (Below t)
   below t u j l e = via 𝓤 (Inv u) (inv u j e) (via 𝓤 (guard 𝓤 (u < t) (Inv u)) (guardI 𝓤 (u < t) (Inv u) l) (exI 𝓤 (λ (v : ℕ). guard 𝓤 (v < t) (Inv v)) u))
 
-  module _ (more : (i : ℕ) (X : SProp 𝓤) → start ≤ i → i < n → ((j : ℕ) → i < j → j ≤ n → ent 𝓤 (At j) X) → ent 𝓤 (At i) (Turn X)) (last : (X : SProp 𝓤) → ent 𝓤 (At n) (Turn X)) where
+  module _ (more : (i : ℕ) (X : SProp 𝓤) → start ≤ i → i < n → ((j : ℕ) → i < j → j ≤ n → ent 𝓤 (At j) X) → ent 𝓤 (At i) (Turn X))
+      (last : (X : SProp 𝓤) → ent 𝓤 (At n) (Turn X)) where
     turn-at : (t i : ℕ) → Left-at t i → ent 𝓤 (At i) (Turn (Below t))
     turn-at zero i e = subst (λ (k : ℕ). ent 𝓤 (At k) (Turn (Below zero))) (sym (e .rest) ∙ add-zero i) (last (Below zero))
     turn-at (suc t) i e =
@@ -66,7 +70,9 @@ module _ {M : Type 1} (𝓤 : URA M) (H : Heap 𝓤) (L : Laws 𝓤 H) (𝓣 : T
     pub strides : start ≤ n → ent 𝓤 (At start) (Wp 𝓤 H (𝓣 .C) (𝓣 .Λ) E (loop turn) Left)
     strides l =
         via 𝓤 (Inv (n - start)) (inv (n - start) start (record { past = omega arith; rest = omega (arith, l) }))
-        (loop-rule 𝓤 H L 𝓣 _<_ (Nat·lt-wfRel .wf) E turn Left Inv (λ t. exE 𝓤 (λ (i : ℕ). guard 𝓤 (Left-at t i) (At i)) (λ i. guardE 𝓤 (Left-at t i) (At i) (turn-at t i))) (n - start))
+        (loop-rule 𝓤 H L 𝓣 _<_ (Nat·lt-wfRel .wf) E turn Left Inv
+        (λ t. exE 𝓤 (λ (i : ℕ). guard 𝓤 (Left-at t i) (At i)) (λ i. guardE 𝓤 (Left-at t i) (At i) (turn-at t i))) (n - start))
 
-  pub counts : ((i : ℕ) (X : SProp 𝓤) → start ≤ i → i < n → ent 𝓤 (At (suc i)) X → ent 𝓤 (At i) (Turn X)) → ((X : SProp 𝓤) → ent 𝓤 (At n) (Turn X)) → start ≤ n → ent 𝓤 (At start) (Wp 𝓤 H (𝓣 .C) (𝓣 .Λ) E (loop turn) Left)
+  pub counts : ((i : ℕ) (X : SProp 𝓤) → start ≤ i → i < n → ent 𝓤 (At (suc i)) X → ent 𝓤 (At i) (Turn X)) → ((X : SProp 𝓤) → ent 𝓤 (At n) (Turn X)) → start ≤ n
+      → ent 𝓤 (At start) (Wp 𝓤 H (𝓣 .C) (𝓣 .Λ) E (loop turn) Left)
   counts more = strides (λ i X s l k. more i X s l (k (suc i) (omega arith) l))

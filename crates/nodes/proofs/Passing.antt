@@ -1,5 +1,5 @@
--- What a function has at exit of a parameter that it passes on for good to a callee: what the callee's contract says of it there, which is what the function's own contract says of it.
--- Assumes nothing.
+-- What a function has at exit of a parameter that it passes on for good to a callee: what the callee's contract says of
+-- it there, which is what the function's own contract says of it.
 use Prim.Native.Nat.{ℕ}
 use denote.Exit.{Kept, left}
 use denote.Signature.{Slot}

@@ -1,9 +1,10 @@
-// One field of a block of nodes, read into its column: a function for each field, so that a column is written as one stream. For load alone, unchecked.
+// One field of a block of nodes, read into its column: a function for each field, so that a column is written as one
+// stream. For load alone, unchecked.
 // Nothing is assumed of what the nodes hold.
-use crate::Node;
 ghost use mathlib.Core.Path.{_≡_};
-ghost use Rattle.nodes.specs.Shown.{nexts, prevs, buckets, entryNumbers, generations, serials};
-ghost use Rattle.nodes.specs.Blocks.{Reaches, written};
+ghost use Rattle.face_rules.specs.nodes.Shown.{nexts, prevs, buckets, entryNumbers, generations, serials};
+ghost use Rattle.face_rules.specs.nodes.Blocks.{Reaches, written};
+use face_rules::nodes::Node;
 
 pub fn read_next(nodes: &[Node], next: &mut [usize], from: usize, to: usize)
     requires { ⌜ Reaches (now nodes) (now next) from to ⌝ }

@@ -1,11 +1,12 @@
-// The lent nodes as enabling lays them out, written in place: nothing is read of them. For proved code only, unchecked: more of them than a wheel may have are written too.
+// The lent nodes as enabling lays them out, written in place: nothing is read of them. For proved code only, unchecked:
+// more of them than a wheel may have are written too.
 ghost use mathlib.Core.Path.{_≡_};
 ghost use Prim.Native.Nat.{_<_};
 ghost use Rattle.rules.specs.Geometry.{wheel01, buckets};
-ghost use Rattle.nodes.specs.Laid.{turnsOf, laidNode, Laid};
-use crate::Node;
-use links::NONE;
-use wheel_refuse::BUCKETS;
+ghost use Rattle.face_rules.specs.nodes.Laid.{turnsOf, laidNode, Laid};
+use deque::NONE;
+use face_rules::nodes::Node;
+use wheel_refusals::BUCKETS;
 
 // How many of n nodes are written: all of them or none.
 fn turns(n: usize, on: bool) -> usize

@@ -1,6 +1,14 @@
-// The node records as 01 lends them: one array of structs, read into six columns, a field in each, and stored back from them: load and store, unchecked.
+// The node records as 01 lends them: one array of structs, read into six columns, a field in each, and stored back from
+// them: load and store, unchecked.
 // Nothing is assumed of what the nodes hold.
+ghost use mathlib.Core.Path.{_≡_};
+ghost use Prim.Native.Nat.{_≤_};
+ghost use Rattle.face_rules.specs.nodes.Blocks.{endOf};
+ghost use Rattle.face_rules.specs.nodes.Columns.{columns, usedOf, Holds, Loads, Stores};
+ghost use Rattle.face_rules.specs.nodes.Lending.{columnsBefore, columnsAfter};
+
 mod fields;
+pub mod laying; // the nodes as enabling lays them out, written in place
 
 use crate::fields::read_bucket;
 use crate::fields::read_entry;
@@ -8,26 +16,11 @@ use crate::fields::read_generation;
 use crate::fields::read_next;
 use crate::fields::read_prev;
 use crate::fields::read_serial;
-ghost use mathlib.Core.Path.{_≡_};
-ghost use Prim.Native.Nat.{_≤_};
-ghost use Rattle.nodes.specs.Blocks.{endOf};
-ghost use Rattle.nodes.specs.Columns.{columns, usedOf, Holds, Loads, Stores};
+pub use face_rules::nodes::Node;
 
-pub mod laying; // the nodes as enabling lays them out, written in place
-
-// The length of a column: 72 more than are used, so that equal places of two columns do not fall into the same set of the cache.
+// The length of a column: 72 more than are used, so that equal places of two columns do not fall into the same set of
+// the cache.
 pub const ROOM: usize = 4168;
-
-// One slot: its links, its bucket (or none), and the timer armed there: entry, generation and serial.
-#[repr(C)]
-pub struct Node {
-    pub next: usize,
-    pub prev: usize,
-    pub bucket: usize,
-    pub entry: usize,
-    pub generation: u32,
-    pub serial: u64,
-}
 
 // How many of n lent nodes go into the columns: all of them, or none where they are more than fit.
 fn used(n: usize) -> usize
@@ -44,7 +37,8 @@ fn block_end(i: usize, n: usize) -> usize
     if n - i <= 256 { n } else { i + 256 }
 }
 
-// The lent nodes, read into columns: block by block, and inside a block a column at a time, so that a block stays in the nearest cache while its six fields are read.
+// The lent nodes, read into columns: block by block, and inside a block a column at a time, so that a block stays in
+// the nearest cache while its six fields are read.
 // For proved code only, unchecked: it hands over columns that are long enough.
 pub fn load(
     nodes: &[Node],
@@ -56,7 +50,7 @@ pub fn load(
     serial: &mut [u64],
 )
     requires { ⌜ Holds 4096 (columns (now next) (now prev) (now bucket) (now entry) (now generation) (now serial)) ⌝ }
-    ensures { λ _. ⌜ Loads (now (nodes .entry)) (columns (now (next .exit)) (now (prev .exit)) (now (bucket .exit)) (now (entry .exit)) (now (generation .exit)) (now (serial .exit))) ⌝ }
+    ensures { λ _. ⌜ Loads (now (nodes .entry)) (columnsAfter next prev bucket entry generation serial) ⌝ }
 {
     let n = used(nodes.len());
     let mut i = 0;
@@ -83,7 +77,7 @@ pub fn store(
     serial: &[u64],
 )
     requires { ⌜ Holds 4096 (columns (now next) (now prev) (now bucket) (now entry) (now generation) (now serial)) ⌝ }
-    ensures { λ _. ⌜ Stores (now (nodes .entry)) (columns (now (next .entry)) (now (prev .entry)) (now (bucket .entry)) (now (entry .entry)) (now (generation .entry)) (now (serial .entry))) (now (nodes .exit)) ⌝ }
+    ensures { λ _. ⌜ Stores (now (nodes .entry)) (columnsBefore next prev bucket entry generation serial) (now (nodes .exit)) ⌝ }
 {
     let n = used(nodes.len());
     let mut i = 0;

@@ -1,8 +1,8 @@
 -- Lists with no number twice: how long they are, and that one of n numbers below n has them all.
 use Prim.Native.Nat.{ℕ, zero, suc, _+_, _≤_, _<_}
 use native.Mathlib.Omega.{arith}
-use mathlib.Core.Path.{_≡_, refl, sym, ap, subst, _∙_}
-use mathlib.Core.Logic.{_⊎_, inl, inr, ⊎-elim}
+use mathlib.Core.Path.{_≡_, refl, ap}
+use mathlib.Core.Logic.{inl, inr, ⊎-elim}
 use mathlib.Core.List.{List, [], _∷_, _++_}
 use lib.ListN.{length, getD, length-append}
 use Rattle.numbers.specs.Lists.{In, Once, remove, upFrom}
@@ -74,7 +74,8 @@ flat-back [] xs = simp length-append (omega arith)
 flat-back (q ∷ qs) xs = simp length-append (omega (arith, flat-back qs xs))
 
 -- lists that are apart by a number of each member, its home, have no number twice
-pub once-flat : (home : ℕ → ℕ) (o : ℕ) (qs : List (List ℕ)) → ((i : ℕ) → i < length qs → Once (getD qs i [])) → ((i x : ℕ) → i < length qs → In x (getD qs i []) → home x ≡ o + i) → Once (flat qs)
+pub once-flat : (home : ℕ → ℕ) (o : ℕ) (qs : List (List ℕ)) → ((i : ℕ) → i < length qs → Once (getD qs i [])) →
+    ((i x : ℕ) → i < length qs → In x (getD qs i []) → home x ≡ o + i) → Once (flat qs)
 once-flat home o [] p h = tt
 once-flat home o (q ∷ qs) p h =
     once-app q (flat qs) (p 0 (omega arith))

@@ -1,13 +1,13 @@
--- Powers of two up to a limit: which numbers they are, and the one that fits a number. Assumes nothing.
-use mathlib.Core.Path.{_≡_, refl, sym, ap, _∙_, subst}
-use mathlib.Core.Logic.{_⊎_, inl, inr, ⊎-elim}
+-- Powers of two up to a limit: which numbers they are, and the one that fits a number.
+use mathlib.Core.Path.{_≡_, refl, sym, ap, _∙_}
+use mathlib.Core.Logic.{_⊎_, inl, inr}
 use mathlib.Core.Bool.{Bool, true, false, cond, _||_, true≢false}
 use Prim.Native.Nat.{ℕ, zero, suc, _+_, _-_, _*_, _/_, _%_, _^_, _≤_, _<_, min}
 use native.Mathlib.Nat.{le-refl, le-step, le-of-suc-le-suc, eq-or-lt-of-le, mod-self, pow-suc}
 use native.Mathlib.Omega.{arith}
 use lib.Arith.{le-zero, lt-one}
 use lib.Dec.{eqb, ltb, leb}
-use lib.Pow.{pow-pos, pow-mono, pow-lt}
+use lib.Pow.{pow-pos, pow-mono}
 use lib.Bits.{bitAnd, and-step, and-self, and-comm, and-mask}
 use borrow.Author.Tests.{eqb-true, eq-eqb, ne-eqb, ltb-true, ltb-false, leb-true, leb-false, le-leb, lt-leb}
 use Rattle.numbers.specs.Powers.{isPowerTo, powerFor}

@@ -1,7 +1,8 @@
--- Products of numbers of two digits, cut to their low two digits. Assumes nothing.
+-- Products of numbers of two digits, cut to their low two digits.
 use mathlib.Core.Path.{_≡_, refl, sym, ap, _∙_}
 use Prim.Native.Nat.{ℕ, _+_, _*_, _/_, _%_, _^_, _<_}
-use native.Mathlib.Nat.{add-assoc, add-comm, add-left-comm, mul-assoc, mul-comm, mul-left-comm, mul-add, add-mul, div-add-mod', mul-add-mod-self-right, le-of-lt, lt-of-le-of-lt, mul-le-mul-left}
+use native.Mathlib.Nat.{add-assoc, add-comm, add-left-comm, mul-assoc, mul-comm, mul-left-comm, mul-add, add-mul, div-add-mod', mul-add-mod-self-right}
+use native.Mathlib.Nat.{le-of-lt, lt-of-le-of-lt, mul-le-mul-left}
 use lib.Pow.{split, shl-lt, mod-mod-pow}
 
 -- the three parts of a product to the base P, the middle one split at P once more

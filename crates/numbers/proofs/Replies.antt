@@ -1,16 +1,6 @@
--- Laws on tests, refusals and answers. Assumes nothing.
+-- Laws on tests, refusals and answers.
 use mathlib.Core.Path.{_≡_, refl, ap, _∙_}
-use mathlib.Core.Bool.{Bool, true, false, cond, not, _&&_}
-use Prim.Native.Nat.{ℕ}
-use mathlib.Core.List.{List}
-use Rattle.numbers.specs.Answers.{Row, refusal}
-
--- a row decides where it applies, and leaves the rest to the others where it does not
-pub row-holds : (t : Bool) (n : ℕ) (rs : List Row) → t ≡ true → cond t n (refusal rs) ≡ n
-row-holds t n rs e = ap (λ (b : Bool). cond b n (refusal rs)) e
-
-pub row-fails : (t : Bool) (n : ℕ) (rs : List Row) → t ≡ false → cond t n (refusal rs) ≡ refusal rs
-row-fails t n rs e = ap (λ (b : Bool). cond b n (refusal rs)) e
+use mathlib.Core.Bool.{Bool, true, false, _&&_}
 
 -- ---- tests joined by &&
 

@@ -1,7 +1,7 @@
 -- Rows of refusals give one number.
 use Prim.Native.Nat.{ℕ}
 use mathlib.Core.Path.{_≡_, sym, _∙_}
-use mathlib.Core.Logic.{_⊎_, inl, inr}
+use mathlib.Core.Logic.{inl, inr}
 use Rattle.numbers.specs.Rows.{unless, answered}
 
 abbrev pub Single : (ℕ → Type 0) → Type 0

@@ -1,4 +1,4 @@
--- Refusals and answers, in the form that the sketch's promises have. Assumes nothing.
+-- Refusals and answers, in the form that the sketch's promises have.
 use Prim.Native.Nat.{ℕ}
 use mathlib.Core.Bool.{Bool, cond}
 use mathlib.Core.List.{List, [], _∷_}

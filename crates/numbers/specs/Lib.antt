@@ -3,3 +3,4 @@ pub mod Powers
 pub mod Answers
 pub mod Rows
 pub mod Lists
+pub mod Lending

@@ -1,4 +1,4 @@
--- Powers of two up to a limit. Assumes nothing.
+-- Powers of two up to a limit.
 use Prim.Native.Nat.{ℕ, zero, suc, _^_}
 use mathlib.Core.Bool.{Bool, cond, _||_}
 use lib.Dec.{eqb, leb}

@@ -1,5 +1,5 @@
--- Advances as parts of a run: where they open, what keeps them open, what closes them. Assumes nothing.
-use Prim.Native.Nat.{ℕ, zero, suc, _+_, _≤_, _<_}
+-- Advances as parts of a run: where they open, what keeps them open, what closes them.
+use Prim.Native.Nat.{ℕ, zero, suc}
 use native.Mathlib.Omega.{arith}
 use mathlib.Core.Path.{_≡_, refl, sym, ap, subst, _∙_}
 use mathlib.Core.Logic.{_⊎_, inl, inr, ⊎-elim}
@@ -7,12 +7,12 @@ use mathlib.Core.Bool.{Bool, true, false}
 use mathlib.Core.Option.{Option, none, some}
 use mathlib.Core.List.{List, [], _∷_, _++_}
 use Rattle.rules.specs.Geometry.{Geometry}
-use Rattle.rules.specs.Visits.{visits}
 use Rattle.rules.specs.Lists.{Lists, enter}
-use Rattle.rules.specs.Wheel.{Entry, Advance, closed, poised, within, Wheel, Call, create, enable, setEntry, schedule, reschedule, deschedule, start, pull, abandon, armedCount, nextDue, Answer, ok, end}
+use Rattle.rules.specs.Wheel.{Entry, Advance, closed, poised, within, Wheel, Call, create, enable, setEntry, schedule, reschedule, deschedule, start}
+use Rattle.rules.specs.Wheel.{pull, abandon, armedCount, nextDue, Answer, ok, end}
 use Rattle.rules.specs.Refusals.{isOpen, rows, refusal}
 use Rattle.rules.specs.Pull.{Found, emptied, Pulled, stopped, swept, pulled}
-use Rattle.rules.specs.Calls.{withClock, armed, rearmed, origin, act, judged, step}
+use Rattle.rules.specs.Calls.{armed, rearmed, origin, act, judged, step}
 use Rattle.rules.specs.Runs.{Run, answer, next, after}
 use Rattle.rules.specs.Demand3.{StaysOpen, Advancing}
 use Rattle.numbers.proofs.Cases.{not-both}
@@ -134,9 +134,11 @@ module _ (g : Geometry) (w : Wheel) (shut : isOpen (w .advance) ≡ false) where
   only-start (enable m j) = inl (still-shut (refusal g w (enable m j)) (act g w (enable m j)) (λ z. refl))
   only-start (setEntry i o m) = inl (still-shut (refusal g w (setEntry i o m)) (act g w (setEntry i o m)) (λ z. shut))
   only-start (schedule i m) =
-      inl (still-shut (refusal g w (schedule i m)) (act g w (schedule i m)) (λ z. ap isOpen (armed-advance g w i m (w .entry i .deadline) (w .lists .free)) ∙ shut))
+      inl (still-shut (refusal g w (schedule i m)) (act g w (schedule i m))
+      (λ z. ap isOpen (armed-advance g w i m (w .entry i .deadline) (w .lists .free)) ∙ shut))
   only-start (reschedule y m j) =
-      inl (still-shut (refusal g w (reschedule y m j)) (act g w (reschedule y m j)) (λ z. ap isOpen (rearmed-advance g w y (w .entry (w .lists .node y .entry) .deadline)) ∙ shut))
+      inl (still-shut (refusal g w (reschedule y m j)) (act g w (reschedule y m j))
+      (λ z. ap isOpen (rearmed-advance g w y (w .entry (w .lists .node y .entry) .deadline)) ∙ shut))
   only-start (deschedule y m j) = inl (still-shut (refusal g w (deschedule y m j)) (act g w (deschedule y m j)) (λ z. shut))
   only-start (start q) = ⊎-elim (λ k. inl k) (λ k. inr (q, refl, k)) (starts q (refusal g w (start q)))
   only-start pull =
@@ -154,7 +156,8 @@ start-taken g R q a = go (refusal g (R .wheel) (start q)) refl a
   where
     go : (k : ℕ) → refusal g (R .wheel) (start q) ≡ k → judged k (act g (R .wheel) (start q)) (R .wheel) .0 ≡ ok
         → let u : Wheel = judged k (act g (R .wheel) (start q)) (R .wheel) .1 in
-        (isOpen (R .wheel .advance) ≡ false) × (R .wheel .enabled ≡ true) × (isOpen (u .advance) ≡ true) × (u .reading ≡ q) × (origin (u .advance) (u .reading) ≡ R .wheel .reading) × (u .enabled ≡ true)
+        (isOpen (R .wheel .advance) ≡ false) × (R .wheel .enabled ≡ true) × (isOpen (u .advance) ≡ true) × (u .reading ≡ q) ×
+        (origin (u .advance) (u .reading) ≡ R .wheel .reading) × (u .enabled ≡ true)
     go zero z a =
         let i = ready (R .wheel .enabled) (isOpen (R .wheel .advance)) [] z in
         (i .1, i .0, refl, refl, refl, i .0)
@@ -173,7 +176,8 @@ pub stays-last : (g : Geometry) (R : Run) (ps : List Call) → StaysOpen g R ps 
 stays-last g R [] s = s
 stays-last g R (c ∷ ps) s = stays-last g (next g R c) ps (s .1)
 
-pub stays-app : (g : Geometry) (R : Run) (ps : List Call) (c : Call) (qs : List Call) → StaysOpen g R ps → StaysOpen g (next g (after g R ps) c) qs → StaysOpen g R (ps ++ (c ∷ qs))
+pub stays-app : (g : Geometry) (R : Run) (ps : List Call) (c : Call) (qs : List Call) → StaysOpen g R ps → StaysOpen g (next g (after g R ps) c) qs → StaysOpen
+    g R (ps ++ (c ∷ qs))
 stays-app g R [] c qs s t = (s, t)
 stays-app g R (d ∷ ps) c qs s t = (s .0, stays-app g (next g R d) ps c qs (s .1) t)
 
@@ -216,7 +220,13 @@ opened-by g R [] h = inl h
 opened-by g R (c ∷ cs) h =
     ⊎-elim
     (λ (s : StaysOpen g (next g R c) cs). go (isOpen (R .wheel .advance)) refl s)
-    (λ (k : Opened g (next g R c) cs). inr (record { bs = c ∷ k .bs; q = k .q; ps = k .ps; is = ap (λ (l : List Call). c ∷ l) (k .is); advancing = k .advancing }))
+    (λ (k : Opened g (next g R c) cs). inr (record {
+      bs = c ∷ k .bs;
+      q = k .q;
+      ps = k .ps;
+      is = ap (λ (l : List Call). c ∷ l) (k .is);
+      advancing = k .advancing;
+    }))
     (opened-by g (next g R c) cs h)
   where
     go : (b : Bool) → isOpen (R .wheel .advance) ≡ b → StaysOpen g (next g R c) cs → StaysOpen g R (c ∷ cs) ⊎ Opened g R (c ∷ cs)

@@ -1,18 +1,18 @@
--- A timer that is armed, or armed again, on a sound wheel, with a timely deadline, waits. Assumes nothing.
-use Prim.Native.Nat.{ℕ, zero, suc, _+_, _-_, _≤_, _<_}
+-- A timer that is armed, or armed again, on a sound wheel, with a timely deadline, waits.
+use Prim.Native.Nat.{ℕ, zero, suc}
 use native.Mathlib.Omega.{arith}
 use mathlib.Core.Path.{_≡_, refl, sym, ap, subst, _∙_}
-use mathlib.Core.Logic.{_⊎_, inl, inr, ⊎-elim}
-use mathlib.Core.Bool.{Bool, true, false}
+use mathlib.Core.Bool.{true, false}
 use mathlib.Core.Option.{Option, none, some}
 use mathlib.Core.List.{List, [], _∷_}
-use Rattle.rules.specs.Geometry.{Geometry, tick, buckets}
+use Rattle.rules.specs.Geometry.{Geometry, buckets}
 use Rattle.rules.specs.Place.{bucketOf, effective}
-use Rattle.rules.specs.Lists.{Node, Lists, newNode, placedIn, update, hit, link, unlink, claim}
-use Rattle.rules.specs.Wheel.{Advance, closed, poised, within, Wheel, Call, create, enable, setEntry, schedule, reschedule, deschedule, start, pull, abandon, armedCount, nextDue, Answer, handle, ok}
+use Rattle.rules.specs.Lists.{Node, Lists, newNode, placedIn, update, link, unlink, claim}
+use Rattle.rules.specs.Wheel.{Advance, closed, poised, within, Wheel, Call, create, enable, setEntry, schedule, reschedule, deschedule, start, pull}
+use Rattle.rules.specs.Wheel.{abandon, armedCount, nextDue, handle, ok}
 use Rattle.rules.specs.Refusals.{isOpen, rows, refusal}
 use Rattle.rules.specs.Calls.{armed, rearmed, act, judged, step}
-use Rattle.rules.specs.Sound.{SoundLists, Sound, SoundIfEnabled}
+use Rattle.rules.specs.Sound.{Sound, SoundIfEnabled}
 use Rattle.rules.specs.Runs.{Run, next}
 use Rattle.rules.specs.Demand3.{Arms, Timely}
 use Rattle.numbers.proofs.Cases.{not-both}
@@ -38,7 +38,8 @@ stage-new g x t b r L (within p c bs) i u = absurd (not-both (sym i))
 module _ (g : Geometry) (R : Run) (on : R .wheel .enabled ≡ true) (s : Sound g (R .wheel)) (shut : isOpen (R .wheel .advance) ≡ false) where
   -- ---- armed
   module _ (e h d : ℕ) (dated : R .wheel .entry e .deadline ≡ some d) (timely : Timely g (R .wheel) d) where
-    first : (x : ℕ) (fs : List ℕ) → R .wheel .lists .free ≡ x ∷ fs → Armed g x e (R .wheel .next) d (led R (schedule e h) (armed g (R .wheel) e h (some d) (x ∷ fs)))
+    first : (x : ℕ) (fs : List ℕ) → R .wheel .lists .free ≡ x ∷ fs → Armed g x e (R .wheel .next) d
+        (led R (schedule e h) (armed g (R .wheel) e h (some d) (x ∷ fs)))
     first x fs f =
         let w : Wheel = R .wheel in
         let b : ℕ = bucketOf g (w .reading) d in
@@ -48,7 +49,8 @@ module _ (g : Geometry) (R : Run) (on : R .wheel .enabled ≡ true) (s : Sound g
           waiting = record {
             b = b;
             timer = record {
-              at = link-own x (w .lists .node x) (claim fs (w .lists)) b v (free-nowhere (buckets g) (w .nodes) (w .entries) (w .next) x (w .lists) (s .lists) fs f);
+              at = link-own x (w .lists .node x) (claim fs (w .lists)) b v
+                  (free-nowhere (buckets g) (w .nodes) (w .entries) (w .next) x (w .lists) (s .lists) fs f);
               only = bearers-else (w .next) (λ (y : ℕ). y ≡ x) x (w .lists) (link b x v (claim fs (w .lists)))
                   (record {
                     standing = λ c y i k. absurd (omega (arith, s .lists .below y (s .lists .member c y i), k));
@@ -56,8 +58,10 @@ module _ (g : Geometry) (R : Run) (on : R .wheel .enabled ≡ true) (s : Sound g
                   })
                   (claim-link x (w .lists) fs f b v) (λ i. refl);
             };
-            stage = stage-new g x (effective (update (R .placed) (w .next) (w .reading) (w .next)) d) b (w .reading) (link b x v (claim fs (w .lists))) (w .advance) shut
-                (subst (λ (r : ℕ). Due g (w .reading) (effective r d) b) (sym (update-is (R .placed) (w .next) (w .next) (w .reading) refl)) (effective-placed g (w .reading) d timely));
+            stage = stage-new g x (effective (update (R .placed) (w .next) (w .reading) (w .next)) d) b (w .reading) (link b x v (claim fs (w .lists)))
+                (w .advance) shut
+                (subst (λ (r : ℕ). Due g (w .reading) (effective r d) b) (sym (update-is (R .placed) (w .next) (w .next) (w .reading) refl))
+                (effective-placed g (w .reading) d timely));
             dated = dated;
             issued = omega arith;
             on = on;
@@ -102,7 +106,8 @@ module _ (g : Geometry) (R : Run) (on : R .wheel .enabled ≡ true) (s : Sound g
                 (unlink-link x L b v) (λ i. refl);
           };
           stage = stage-new g x (effective (update (R .placed) n (w .reading) n) d) b (w .reading) (link b x v (unlink x L)) (w .advance) shut
-              (subst (λ (r : ℕ). Due g (w .reading) (effective r d) b) (sym (update-is (R .placed) n n (w .reading) refl)) (effective-placed g (w .reading) d timely));
+              (subst (λ (r : ℕ). Due g (w .reading) (effective r d) b) (sym (update-is (R .placed) n n (w .reading) refl))
+              (effective-placed g (w .reading) d timely));
           dated = dated;
           issued = omega (arith, s .lists .below x l, is);
           on = on;

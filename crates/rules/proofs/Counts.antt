@@ -1,25 +1,24 @@
--- Armed count and next due. Assumes nothing.
+-- Armed count and next due.
 use Prim.Native.Nat.{ℕ, zero, suc, _+_, _-_, _≤_, _<_, min}
 use native.Mathlib.Omega.{arith}
 use mathlib.Core.Path.{_≡_, refl, sym, ap, subst, _∙_}
-use mathlib.Core.Logic.{_⊎_, inl, inr, ⊎-elim}
+use mathlib.Core.Logic.{⊎-elim}
 use mathlib.Core.Bool.{Bool, true, false, cond}
 use mathlib.Core.Option.{Option, none, some}
 use mathlib.Core.List.{List, [], _∷_}
-use lib.Dec.{ltb, eqb}
 use lib.ListN.{length}
 use borrow.Author.Tests.{lt-ltb, le-ltb}
 use Rattle.rules.specs.Geometry.{Geometry, buckets}
-use Rattle.rules.specs.Lists.{Node, Lists, hit, count}
-use Rattle.rules.specs.Wheel.{Wheel, Call, armedCount, nextDue, Answer, number, due}
-use Rattle.rules.specs.Refusals.{refusal}
-use Rattle.rules.specs.Calls.{armedBelow, sooner, keyOf, leastKey, step}
+use Rattle.rules.specs.Lists.{Lists, count}
+use Rattle.rules.specs.Wheel.{Wheel}
+use Rattle.rules.specs.Calls.{armedBelow, sooner, keyOf, leastKey}
 use Rattle.rules.specs.Sound.{spare, SoundLists, Sound}
-use Rattle.numbers.proofs.Cases.{below?, same?, not-both}
+use Rattle.numbers.proofs.Cases.{below?, same?}
 use Rattle.rules.proofs.Counting.{hit-is, hit-not}
 use Rattle.rules.proofs.SoundLists.{spare-some}
 
--- ---- armed count: every slot after the sentinels is armed or free, so the armed and the free ones together are all of them
+-- ---- armed count: every slot after the sentinels is armed or free, so the armed and the free ones together are all of
+-- them
 -- how often the slots below k stand in a list, together
 abbrev sumBelow : List ℕ → ℕ → ℕ
 sumBelow xs zero = 0
@@ -72,7 +71,8 @@ module _ (D nodes entries next : ℕ) (L : Lists) (s : SoundLists D nodes entrie
       one-kind i true e = simp (le-ltb k D i, lt-ltb k nodes (omega arith), e)
       one-kind i false e = simp (le-ltb k D i, lt-ltb k nodes (omega arith), e)
 
--- "an invented armed count: it equals the number of armed slots". All armed slots are among those counted, and with the free slots they are all slots after the sentinels.
+-- "an invented armed count: it equals the number of armed slots". All armed slots are among those counted, and with the
+-- free slots they are all slots after the sentinels.
 pub record ArmedCount (g : Geometry) (w : Wheel) (k : ℕ) : Type 0 where
   pub is : k ≡ armedBelow (w .lists .node) (w .nodes)
   pub all : (y : ℕ) → w .lists .node y .armed ≡ true → y < w .nodes
@@ -119,7 +119,11 @@ more f k (some d) (some b) e h =
     ⊎-elim
     (λ (i : d < b).
     let z : min d b ≡ d = omega arith in
-    rw z ((k, omega arith, e), λ y c j u. ⊎-elim (λ (l : y < k). omega (arith, h .1 y c l u)) (λ (l : k ≤ y). same (subst (λ (z : ℕ). f z ≡ some d) (omega arith) e) u) (below? y k)))
+    rw z (
+      (k, omega arith, e),
+      λ y c j u. ⊎-elim (λ (l : y < k). omega (arith, h .1 y c l u))
+          (λ (l : k ≤ y). same (subst (λ (z : ℕ). f z ≡ some d) (omega arith) e) u) (below? y k),
+    ))
     (λ (i : b ≤ d).
     let z : min d b ≡ b = omega arith in
     rw z (
@@ -135,7 +139,8 @@ least : (g : Geometry) (w : Wheel) (k : ℕ) → LeastOf (keyOf g w) k (leastKey
 least g w zero = λ y h. absurd (omega arith)
 least g w (suc k) = more (keyOf g w) k (keyOf g w k) (leastKey g w k) refl (least g w k)
 
--- "Next due: the smallest deadline among armed timers, or none": y's key is the deadline that its entry holds, if it is armed
+-- "Next due: the smallest deadline among armed timers, or none": y's key is the deadline that its entry holds, if it is
+-- armed
 pub key-armed : (g : Geometry) (w : Wheel) (y : ℕ) → w .lists .node y .armed ≡ true → keyOf g w y ≡ w .entry (w .lists .node y .entry) .deadline
 key-armed g w y h = simp h
 

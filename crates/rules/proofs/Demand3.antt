@@ -1,29 +1,32 @@
--- Demand 3, proved: over every geometry, every run and every list of calls. The statement is specs/Demand3.antt. Assumes nothing.
-use Prim.Native.Nat.{ℕ, zero, suc, _+_, _≤_, _<_}
+-- Demand 3, proved: over every geometry, every run and every list of calls. The statement is specs/Demand3.antt.
+use Prim.Native.Nat.{ℕ, _+_, _≤_, _<_}
 use native.Mathlib.Omega.{arith}
 use mathlib.Core.Path.{_≡_, refl, sym, ap, subst, _∙_}
 use mathlib.Core.Logic.{_⊎_, inl, inr, ⊎-elim}
-use mathlib.Core.Bool.{Bool, true, false}
+use mathlib.Core.Bool.{true, false}
 use mathlib.Core.List.{List, [], _∷_, _++_, append-assoc}
-use Rattle.rules.specs.Geometry.{Geometry, tick}
+use Rattle.rules.specs.Geometry.{Geometry}
 use Rattle.rules.specs.Place.{effective}
-use Rattle.rules.specs.Wheel.{Advance, closed, poised, within, Wheel, Call, create, start, pull, abandon, Answer, ok, end, expired}
+use Rattle.rules.specs.Wheel.{Advance, closed, poised, within, Wheel, Call, create, start, pull, ok, end, expired}
 use Rattle.rules.specs.Refusals.{isOpen, refusal}
 use Rattle.rules.specs.Calls.{origin, step}
 use Rattle.rules.specs.Runs.{Run, answer, next, answers, after}
-use Rattle.rules.specs.Demand3.{Arms, Timely, Changes, Unchanged, handsOut, handed, NotYet, InOneBucket, Later, StaysOpen, Advancing, ReadToItsEnd, Abandoned, Full, Among, NoneBefore, AbandonedOneHad, Demand3}
+use Rattle.rules.specs.Demand3.{Arms, Timely, Changes, Unchanged, handsOut, handed, NotYet, InOneBucket, Later, StaysOpen, Advancing, Full, NoneBefore}
+use Rattle.rules.specs.Demand3.{AbandonedOneHad, Demand3}
 use Rattle.numbers.proofs.Cases.{below?, not-both}
 use Rattle.rules.proofs.Counting.{hit-is}
 use Rattle.rules.proofs.Effective.{effective-deadline}
 use Rattle.rules.proofs.Timers.{stage-in, Ends, Waiting, Past}
-use Rattle.rules.proofs.WaitingCalls.{Waits, Goes, Either, each-call}
+use Rattle.rules.proofs.WaitingCalls.{Waits, Goes, each-call}
 use Rattle.rules.proofs.PastCalls.{each-call-past}
 use Rattle.rules.proofs.SoundCalls.{sound-created}
 use Rattle.rules.proofs.Arming.{Armed, arms-waiting}
-use Rattle.rules.proofs.Advances.{Stays, Closes, while-open, start-taken, after-app, stays-last, stays-app, stays-prefix, stays-first, advancing-clock, Opened, opened-by, Closed, closed-by}
+use Rattle.rules.proofs.Advances.{Stays, while-open, start-taken, after-app, stays-last, stays-app, stays-prefix, stays-first, advancing-clock, Opened}
+use Rattle.rules.proofs.Advances.{opened-by, Closed, closed-by}
 
 -- ---- lists of calls
-handed-app : (g : Geometry) (n : ℕ) (R : Run) (cs ds : List Call) → handed n (answers g R (cs ++ ds)) ≡ handed n (answers g R cs) + handed n (answers g (after g R cs) ds)
+handed-app : (g : Geometry) (n : ℕ) (R : Run) (cs ds : List Call) → handed n (answers g R (cs ++ ds)) ≡ handed n (answers g R cs) + handed n
+    (answers g (after g R cs) ds)
 handed-app g n R [] ds = omega arith
 handed-app g n R (c ∷ cs) ds = omega (arith, handed-app g n (next g R c) cs ds)
 
@@ -89,7 +92,12 @@ module _ (g : Geometry) (x n e d h : ℕ) where
     one-bucket cs u z =
         let w : Wheel = after g R cs .wheel in
         ⊎-elim
-        (λ j. (j .1 .b, stage-in g x (effective (after g R cs .placed n) d) (j .1 .b) (w .reading) (w .lists) (w .advance) (j .1 .stage), j .1 .timer .at .stands))
+        (λ j. (
+          j .1 .b,
+          stage-in g x (effective (after g R cs .placed n) d) (j .1 .b) (w .reading) (w .lists) (w .advance) (j .1 .stage),
+          j .1 .timer .at
+              .stands,
+        ))
         (λ j. absurd (omega (arith, j .0, z)))
         (led-by R cs k u)
 
@@ -144,8 +152,10 @@ module _ (g : Geometry) (x n e d h : ℕ) where
       where
         later : after g R (cs ++ (start q ∷ ps)) ≡ after g (after g R cs) (start q ∷ ps)
             → (after g (after g R cs) (start q ∷ ps) .wheel .reading ≡ q) ×
-            (origin (after g (after g R cs) (start q ∷ ps) .wheel .advance) (after g (after g R cs) (start q ∷ ps) .wheel .reading) ≡ after g R cs .wheel .reading)
-            → Later g (origin (after g R (cs ++ (start q ∷ ps)) .wheel .advance) (after g R (cs ++ (start q ∷ ps)) .wheel .reading)) (after g R (cs ++ (start q ∷ ps)) .wheel .reading)
+            (origin (after g (after g R cs) (start q ∷ ps) .wheel .advance) (after g (after g R cs) (start q ∷ ps) .wheel .reading) ≡ after g R cs .wheel
+            .reading)
+            → Later g (origin (after g R (cs ++ (start q ∷ ps)) .wheel .advance) (after g R (cs ++ (start q ∷ ps)) .wheel .reading))
+            (after g R (cs ++ (start q ∷ ps)) .wheel .reading)
         later i r =
             subst (λ (T : Run). Later g (origin (T .wheel .advance) (T .wheel .reading)) (T .wheel .reading)) (sym i)
             (subst (λ (m : ℕ). Later g m (after g (after g R cs) (start q ∷ ps) .wheel .reading)) (sym (r .1))
@@ -169,7 +179,8 @@ module _ (g : Geometry) (x n e d h : ℕ) where
             ap (λ (z : List Call). cs ++ (start q ∷ z)) (l .is) ∙ sym (append-assoc cs (start q ∷ l .bs) (l .c ∷ l .rest)) in
             let v = unchanged-app g x n e d R (cs ++ (start q ∷ l .bs)) (l .c ∷ l .rest) (subst (Unchanged g x n e d R) m u) in
             let i : after g R (cs ++ (start q ∷ l .bs)) ≡ after g S (l .bs) = after-app g R cs (start q ∷ l .bs) in
-            let y = what-it-says (cs ++ (start q ∷ l .bs)) (l .c) (v .0) (v .1 .0) (subst (λ (T : Run). 0 < handsOut n (answer g T (l .c))) (sym i) (l .hands)) in
+            let y = what-it-says (cs ++ (start q ∷ l .bs)) (l .c) (v .0) (v .1 .0) (subst (λ (T : Run). 0 < handsOut n (answer g T (l .c))) (sym i) (l .hands))
+            in
             let b : Advancing g (after g R cs) q (l .bs) =
             record { taken = a .taken; stays = stays-prefix g S (l .bs) (l .c ∷ l .rest) (subst (StaysOpen g S) (l .is) (a .stays)) } in
             omega (arith, y .1, ap (λ (T : Run). T .wheel .reading) i, advancing-clock g (after g R cs) q (l .bs) b .0)
@@ -200,7 +211,8 @@ module _ (g : Geometry) (x n e d h : ℕ) where
         created : (m : ℕ) → c ≡ create m → ⊥
         created m i = not-ok (ap (answer g S) i)
 
-    -- it was handed out among the calls cs, after which no advance is open: by an advance that goes to the deadline or later, enters a later tick, and was abandoned or read to its end
+    -- it was handed out among the calls cs, after which no advance is open: by an advance that goes to the deadline or
+    -- later, enters a later tick, and was abandoned or read to its end
     earlier : (cs : List Call) → Unchanged g x n e d R cs → 0 < handed n (answers g R cs) → isOpen (after g R cs .wheel .advance) ≡ false
         → NoneBefore g d R cs → AbandonedOneHad g n R cs
     earlier cs u o end-shut none =
@@ -217,7 +229,8 @@ module _ (g : Geometry) (x n e d h : ℕ) where
         (ap (λ (T : Run). isOpen (T .wheel .advance)) (sym (after-app g R (l .bs) (l .c ∷ l .rest)) ∙ ap (after g R) (sym (l .is))) ∙ end-shut)))
         (opened-by g R (l .bs) (finds-open S (l .c) y))
       where
-        found : (l : Located g n R cs) → Said (after g R (l .bs)) (l .c) → (a : Opened g R (l .bs)) → Closed g (next g (after g R (l .bs)) (l .c)) (l .rest) → AbandonedOneHad g n R cs
+        found : (l : Located g n R cs) → Said (after g R (l .bs)) (l .c) → (a : Opened g R (l .bs)) → Closed g (next g (after g R (l .bs)) (l .c)) (l .rest) →
+            AbandonedOneHad g n R cs
         found l y a k =
             let S : Run = after g R (l .bs) in
             let A : Run = after g R (a .bs) in
@@ -245,7 +258,8 @@ module _ (g : Geometry) (x n e d h : ℕ) where
             let v = unchanged-app g x n e d R (a .bs) ((start (a .q) ∷ ps) ++ (k .c ∷ k .rest)) (subst (Unchanged g x n e d R) is u) in
             let z = unchanged-app g x n e d A (start (a .q) ∷ ps) (k .c ∷ k .rest) (v .1) in
             let on : T .wheel .enabled ≡ true =
-            subst (λ (U : Run). U .wheel .enabled ≡ true) (after-app g R (a .bs) (start (a .q) ∷ ps)) (enabled-after (a .bs ++ (start (a .q) ∷ ps)) (whole a ps (k .c ∷ k .rest) is)) in
+            subst (λ (U : Run). U .wheel .enabled ≡ true) (after-app g R (a .bs) (start (a .q) ∷ ps))
+            (enabled-after (a .bs ++ (start (a .q) ∷ ps)) (whole a ps (k .c ∷ k .rest) is)) in
             let shut-T : isOpen (next g T (k .c) .wheel .advance) ≡ false = subst (λ (U : Run). isOpen (next g U (k .c) .wheel .advance) ≡ false) j (k .shut) in
             ⊎-elim
             (λ (m : Stays (T .wheel) (step g (T .wheel) (k .c) .1)). absurd (not-both (sym shut-T ∙ m .busy)))
@@ -253,8 +267,19 @@ module _ (g : Geometry) (x n e d h : ℕ) where
             ⊎-elim
             -- read to its end: then it would have been such an advance
             (λ b.
-            absurd (none (record { bs = a .bs; q = a .q; ps = ps; rest = k .rest; is = is ∙ ap (λ (c : Call). a .bs ++ ((start (a .q) ∷ ps) ++ (c ∷ k .rest))) (b .0) })
-            ((adv, subst (λ (c : Call). answer g T c ≡ end) (b .0) (b .1)), omega (arith, y .1, ap (λ (U : Run). U .wheel .reading) i, r .0), later i r (y .2))))
+            absurd (none (record {
+              bs = a .bs;
+              q = a .q;
+              ps = ps;
+              rest = k .rest;
+              is = is ∙ ap (λ (c : Call). a .bs ++ ((start (a .q) ∷ ps) ++ (c ∷ k .rest)))
+                  (b .0);
+            }) (
+              (adv, subst (λ (c : Call). answer g T c ≡ end) (b .0) (b .1)),
+              omega (arith, y .1, ap (λ (U : Run). U .wheel .reading) i, r .0),
+              later i r
+                  (y .2),
+            )))
             (λ b.
             ⊎-elim
             (λ f. (
@@ -272,7 +297,8 @@ module _ (g : Geometry) (x n e d h : ℕ) where
             (m .1))
             (while-open g (T .wheel) on (stays-last g (next g A (start (a .q))) ps (adv .stays)) (k .c))
           where
-            whole : (a : Opened g R (l .bs)) (ps rest : List Call) → cs ≡ a .bs ++ ((start (a .q) ∷ ps) ++ rest) → Unchanged g x n e d R (a .bs ++ (start (a .q) ∷ ps))
+            whole : (a : Opened g R (l .bs)) (ps rest : List Call) → cs ≡ a .bs ++ ((start (a .q) ∷ ps) ++ rest) → Unchanged g x n e d R
+                (a .bs ++ (start (a .q) ∷ ps))
             whole a ps rest is =
                 unchanged-app g x n e d R (a .bs ++ (start (a .q) ∷ ps)) rest
                 (subst (Unchanged g x n e d R) (is ∙ sym (append-assoc (a .bs) (start (a .q) ∷ ps) rest)) u) .0
@@ -283,7 +309,8 @@ module _ (g : Geometry) (x n e d h : ℕ) where
 
             later : after g R (l .bs) ≡ after g (after g R (a .bs)) (start (a .q) ∷ a .ps)
                 → (after g (after g R (a .bs)) (start (a .q) ∷ a .ps) .wheel .reading ≡ a .q) ×
-                (origin (after g (after g R (a .bs)) (start (a .q) ∷ a .ps) .wheel .advance) (after g (after g R (a .bs)) (start (a .q) ∷ a .ps) .wheel .reading) ≡ after g R (a .bs) .wheel .reading)
+                (origin (after g (after g R (a .bs)) (start (a .q) ∷ a .ps) .wheel .advance)
+                (after g (after g R (a .bs)) (start (a .q) ∷ a .ps) .wheel .reading) ≡ after g R (a .bs) .wheel .reading)
                 → Later g (origin (after g R (l .bs) .wheel .advance) (after g R (l .bs) .wheel .reading)) (after g R (l .bs) .wheel .reading)
                 → Later g (after g R (a .bs) .wheel .reading) (a .q)
             later i r t =
@@ -291,7 +318,8 @@ module _ (g : Geometry) (x n e d h : ℕ) where
                 (subst (λ (m : ℕ). Later g m (after g (after g R (a .bs)) (start (a .q) ∷ a .ps) .wheel .reading)) (r .1)
                 (subst (λ (T : Run). Later g (origin (T .wheel .advance) (T .wheel .reading)) (T .wheel .reading)) i t))
 
-    first-hands-out : (cs : List Call) (q : ℕ) (ps : List Call) → Unchanged g x n e d R (cs ++ (start q ∷ ps)) → Full g d (after g R cs) q ps → NoneBefore g d R cs
+    first-hands-out : (cs : List Call) (q : ℕ) (ps : List Call) → Unchanged g x n e d R (cs ++ (start q ∷ ps)) → Full g d (after g R cs) q ps → NoneBefore g d
+        R cs
         → (handed n (answers g (after g R cs) (start q ∷ ps)) ≡ 1) ⊎ AbandonedOneHad g n R cs
     first-hands-out cs q ps u f none =
         let all : handed n (answers g R (cs ++ (start q ∷ ps))) ≡ 1 = by-then cs q ps u f in
@@ -312,7 +340,8 @@ module _ (g : Geometry) (x n e d h : ℕ) where
           says = says-so;
         }
 
--- "Let only this wheel's calls write the lent records": a run from a create on, whatever stood there before, with any calls, further creates among them. "Arm or re-arm a
+-- "Let only this wheel's calls write the lent records": a run from a create on, whatever stood there before, with any
+-- calls, further creates among them. "Arm or re-arm a
 -- timer whose deadline is not in an earlier tick than the wheel's reading": the call c. Then demand 3 holds of it.
 pub demand3 : (g : Geometry) (R : Run) (first : ℕ) (cs : List Call) (c : Call) (x n e d : ℕ)
     → Arms g (after g R (create first ∷ cs) .wheel) c x n e d

@@ -1,9 +1,9 @@
--- The three laws of a timer's effective time: all that demand 3's invariant knows of it. Assumes nothing.
-use Prim.Native.Nat.{ℕ, _+_, _≤_, _<_}
+-- The three laws of a timer's effective time: all that demand 3's invariant knows of it.
+use Prim.Native.Nat.{ℕ, _≤_}
 use native.Mathlib.Omega.{arith}
 use mathlib.Core.Path.{_≡_, refl}
-use Rattle.rules.specs.Geometry.{Geometry, tick, dense}
-use Rattle.rules.specs.Place.{placeFrom, bucketOf, effective}
+use Rattle.rules.specs.Geometry.{Geometry, tick}
+use Rattle.rules.specs.Place.{bucketOf, effective}
 use Rattle.rules.proofs.Placing.{InTime, placed-in-time}
 
 -- it is not before the deadline

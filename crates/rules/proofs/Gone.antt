@@ -1,22 +1,20 @@
--- A serial that is gone: a pull does not hand it out, nor bring it back. Assumes nothing.
-use Prim.Native.Nat.{ℕ, zero, suc, _+_, _≤_, _<_}
+-- A serial that is gone: a pull does not hand it out, nor bring it back.
+use Prim.Native.Nat.{ℕ, _≤_, _<_}
 use native.Mathlib.Omega.{arith}
-use mathlib.Core.Path.{_≡_, refl, sym, ap, subst, _∙_}
-use mathlib.Core.Logic.{_⊎_, inl, inr, ⊎-elim}
-use mathlib.Core.Bool.{Bool, true, false, cond}
+use mathlib.Core.Path.{_≡_, refl, sym, ap, _∙_}
+use mathlib.Core.Logic.{⊎-elim}
 use mathlib.Core.Option.{Option, none, some}
-use mathlib.Core.List.{List, [], _∷_, _++_}
-use lib.Dec.{eqb, leb}
+use mathlib.Core.List.{List, [], _∷_}
 use borrow.Author.Tests.{le-leb, lt-leb}
 use Rattle.rules.specs.Geometry.{Geometry}
 use Rattle.rules.specs.Place.{bucketOf}
-use Rattle.rules.specs.Lists.{Node, Lists, placedIn, hit, count, times, link, release, enter, pop}
+use Rattle.rules.specs.Lists.{Node, Lists, placedIn, count, link, release, enter, pop}
 use Rattle.rules.specs.Wheel.{Entry, Advance, closed, poised, within, Answer}
 use Rattle.rules.specs.Pull.{Found, dealt, emptied, Pulled, stopped, swept, pulled}
 use Rattle.rules.specs.Demand3.{handsOut}
 use Rattle.numbers.proofs.Cases.{below?}
 use Rattle.rules.proofs.Counting.{hit-is, hit-not}
-use Rattle.rules.proofs.Standing.{Bearers, Gone, bearers-enter, bearers-else, pop-release, pop-link, serial-freed, serial-linked, early-pop}
+use Rattle.rules.proofs.Standing.{Gone, bearers-enter, bearers-else, pop-release, pop-link, serial-freed, serial-linked, early-pop}
 
 module _ (g : Geometry) (E : ℕ → Entry) (n p q : ℕ) where
   abbrev Silent : Option Answer → Lists → Type 0

@@ -1,4 +1,4 @@
--- The laws of the rules. Demand3, SoundCalls, Order, Counts and Worked are what a reader looks for. Assumes nothing.
+-- The laws of the rules. Demand3, SoundCalls, Order, Counts and Worked are what a reader looks for.
 pub mod Ticks
 pub mod Placing
 pub mod Effective

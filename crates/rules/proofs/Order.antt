@@ -1,22 +1,20 @@
--- The order of a bucket: what is placed goes to the back, entering turns the bucket as 01 says, and what came first is popped first. Assumes nothing.
-use Prim.Native.Nat.{ℕ, zero, suc, _+_, _-_, _≤_, _<_}
+-- The order of a bucket: what is placed goes to the back, entering turns the bucket as 01 says, and what came first is
+-- popped first.
+use Prim.Native.Nat.{ℕ, zero, suc, _<_}
 use native.Mathlib.Omega.{arith}
 use mathlib.Core.Path.{_≡_, refl, sym, ap, subst, _∙_}
-use mathlib.Core.Logic.{_⊎_, inl, inr, ⊎-elim}
-use mathlib.Core.Bool.{Bool, true, false, cond}
+use mathlib.Core.Bool.{false}
 use mathlib.Core.Option.{Option, none, some}
 use mathlib.Core.List.{List, [], _∷_, _++_, append-assoc, append-nil}
-use lib.Dec.{eqb}
 use lib.ListN.{length, length-append}
 use borrow.Author.Tests.{eq-eqb, ne-eqb}
 use Rattle.rules.specs.Geometry.{Geometry}
 use Rattle.rules.specs.Place.{bucketOf}
-use Rattle.rules.specs.Lists.{Bucket, Node, Lists, whole, newNode, placedIn, update, hit, count, times, pushed, link, unlink, claim, turned, enter}
-use Rattle.rules.specs.Wheel.{Wheel, Call, schedule, reschedule, Answer, handle, ok}
-use Rattle.rules.specs.Refusals.{rows, refusal}
+use Rattle.rules.specs.Lists.{Bucket, Node, Lists, whole, newNode, placedIn, count, times, pushed, link, unlink, claim, turned}
+use Rattle.rules.specs.Wheel.{Wheel, schedule, reschedule, handle, ok}
+use Rattle.rules.specs.Refusals.{refusal}
 use Rattle.rules.specs.Calls.{armed, rearmed, act, judged, step}
-use Rattle.rules.specs.Order.{frontToBack, isLast, turnUntilLast}
-use Rattle.numbers.proofs.Cases.{same?}
+use Rattle.rules.specs.Order.{isLast, turnUntilLast}
 use Rattle.rules.proofs.Counting.{hit-is, count-app, update-is, update-not}
 
 -- ---- "at the back"
@@ -35,7 +33,8 @@ link-at-back b x v L =
       others = λ c ne. update-not (L .bucket) b c (pushed x (L .bucket b)) ne;
     }
 
--- "Schedule(entry, generation): puts a new node at the back of its bucket, answers its handle": the slot is the first free one, the serial the next
+-- "Schedule(entry, generation): puts a new node at the back of its bucket, answers its handle": the slot is the first
+-- free one, the serial the next
 pub record Scheduled (g : Geometry) (w : Wheel) (e h d x n : ℕ) (u : Wheel) : Type 0 where
   pub slot : (fs : List ℕ) × (w .lists .free ≡ x ∷ fs) × (u .lists .free ≡ fs)
   pub serial : n ≡ w .next
@@ -66,7 +65,8 @@ schedule-at-back g w e h d x n a dated = go (refusal g w (schedule e h)) a
                 back = link-at-back b y (newNode b e h (w .next)) (claim fs (w .lists)) .back;
                 others = link-at-back b y (newNode b e h (w .next)) (claim fs (w .lists)) .others;
               }));
-          node = update-is (w .lists .node) y x (newNode b e h (w .next)) j ∙ ap (newNode b e h) k ∙ ap (λ (m : ℕ). newNode (bucketOf g (w .reading) m) e h n) l;
+          node = update-is (w .lists .node) y x (newNode b e h (w .next)) j ∙ ap (newNode b e h) k ∙ ap (λ (m : ℕ). newNode (bucketOf g (w .reading) m) e h n)
+              l;
         }
 
     go : (k : ℕ) → judged k (act g w (schedule e h)) w .0 ≡ handle x n → Scheduled g w e h d x n (judged k (act g w (schedule e h)) w .1)
@@ -144,10 +144,13 @@ turned-by-moves z B h = go (B .early) (B .late) (omega arith) (omega arith)
         stops (suc k) = rw (last-app z early z [] ∙ eq-eqb z z refl)
     go early (y ∷ late) i j =
         ap (λ (xs : List ℕ). turnUntilLast z (length (early ++ (z ∷ y ∷ late))) (early ++ (z ∷ y ∷ xs))) (sym (append-nil late))
-        ∙ turning z early y late [] (length (early ++ (z ∷ y ∷ late))) (omega (arith, count-app z late [])) i (omega (arith, length-append early (z ∷ y ∷ late)))
+        ∙ turning z early y late [] (length (early ++ (z ∷ y ∷ late))) (omega (arith, count-app z late [])) i
+        (omega (arith, length-append early (z ∷ y ∷ late)))
 
 -- ---- "First in, first out inside a bucket"
--- Where nothing stands before the sentinel, as it is in a bucket that was emptied or never entered, the slots are popped in the order in which they were placed: what
--- is placed last comes last. (Slots before the sentinel, left there by an abandoned advance, come after those placed later: the D, B, C case of proofs/Worked.antt.)
+-- Where nothing stands before the sentinel, as it is in a bucket that was emptied or never entered, the slots are
+-- popped in the order in which they were placed: what
+-- is placed last comes last. (Slots before the sentinel, left there by an abandoned advance, come after those placed
+-- later: the D, B, C case of proofs/Worked.antt.)
 pub first-in-first-out : (x : ℕ) (B : Bucket) → B .early ≡ [] → turned (pushed x B) .early ≡ turned B .early ++ (x ∷ [])
 first-in-first-out x B h = rw h (append-nil (B .late ++ (x ∷ [])) ∙ ap (λ (xs : List ℕ). xs ++ (x ∷ [])) (sym (append-nil (B .late))))

@@ -1,15 +1,14 @@
--- What is known when a call is not refused: each of its rows' tests failed. Assumes nothing.
-use Prim.Native.Nat.{ℕ, zero, suc, _≤_, _<_}
+-- What is known when a call is not refused: each of its rows' tests failed.
+use Prim.Native.Nat.{ℕ, suc, _<_}
 use native.Mathlib.Omega.{arith}
-use mathlib.Core.Path.{_≡_, refl, sym, _∙_}
+use mathlib.Core.Path.{_≡_, refl, sym}
 use mathlib.Core.Bool.{Bool, true, false, cond, not}
 use mathlib.Core.List.{List, [], _∷_}
 use lib.Dec.{eqb, leb}
 use borrow.Author.Tests.{eqb-true, leb-false}
 use Rattle.rules.specs.Geometry.{Geometry}
-use Rattle.rules.specs.Lists.{Node, Lists}
-use Rattle.rules.specs.Wheel.{Advance, closed, poised, within, Wheel, Call, schedule, reschedule, deschedule}
-use Rattle.rules.specs.Refusals.{Row, pick, isOpen, isStale, rows, refusal}
+use Rattle.rules.specs.Wheel.{Advance, closed, poised, within, Wheel, reschedule}
+use Rattle.rules.specs.Refusals.{Row, pick, isOpen, isStale, refusal}
 use Rattle.numbers.proofs.Cases.{not-both}
 
 abbrev pub rest : List Row → List Row
@@ -51,7 +50,8 @@ fresh w x n i = go (leb (w .nodes) x) (w .lists .node x .armed) (eqb (w .lists .
     go false false t a b c k = absurd (not-both (sym k))
 
 -- reschedule, and deschedule, whose rows are the same
-pub handles : (g : Geometry) (w : Wheel) (y m j : ℕ) → refusal g w (reschedule y m j) ≡ 0 → (w .enabled ≡ true) × (isOpen (w .advance) ≡ false) × (isStale w y m ≡ false)
+pub handles : (g : Geometry) (w : Wheel) (y m j : ℕ) → refusal g w (reschedule y m j) ≡ 0 → (w .enabled ≡ true) × (isOpen (w .advance) ≡ false) ×
+    (isStale w y m ≡ false)
 handles g w y m j z =
     let ts : List Row = (isStale w y m, 12) ∷ (not (eqb (w .lists .node y .generation) j), 13) ∷ [] in
     let i = ready (w .enabled) (isOpen (w .advance)) ts z in

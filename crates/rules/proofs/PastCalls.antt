@@ -1,15 +1,15 @@
--- What each call does after a timer has been handed out: it is not handed out again. Assumes nothing.
-use Prim.Native.Nat.{ℕ, zero, suc, _+_, _-_, _≤_, _<_}
+-- What each call does after a timer has been handed out: it is not handed out again.
+use Prim.Native.Nat.{ℕ, zero, suc}
 use native.Mathlib.Omega.{arith}
-use mathlib.Core.Path.{_≡_, refl, sym, ap, _∙_}
-use mathlib.Core.Bool.{Bool, true, false}
+use mathlib.Core.Path.{_≡_, refl, sym, _∙_}
+use mathlib.Core.Bool.{true}
 use mathlib.Core.Option.{Option, none, some}
 use mathlib.Core.List.{List, [], _∷_}
 use Rattle.rules.specs.Geometry.{Geometry}
 use Rattle.rules.specs.Place.{bucketOf}
 use Rattle.rules.specs.Lists.{Node, Lists, newNode, placedIn, link, unlink, release, claim}
 use Rattle.rules.specs.Wheel.{Wheel, Call, create, enable, setEntry, schedule, reschedule, deschedule, start, pull, abandon, armedCount, nextDue, Answer}
-use Rattle.rules.specs.Refusals.{isOpen, isStale, rows, refusal}
+use Rattle.rules.specs.Refusals.{rows, refusal}
 use Rattle.rules.specs.Calls.{armed, rearmed, act, judged, step}
 use Rattle.rules.specs.Runs.{Run, next}
 use Rattle.rules.specs.Demand3.{Changes, handsOut}
@@ -47,7 +47,8 @@ module _ (g : Geometry) (n : ℕ) (R : Run) (k : Past n R) where
   drops-silent : (y : ℕ) → R .wheel .lists .node y .armed ≡ true → Gone n (release y (unlink y (R .wheel .lists)))
   drops-silent y l =
       let L : Lists = R .wheel .lists in
-      bearers-else n (λ (z : ℕ). ⊥) y L (release y (unlink y L)) (k .gone) (unlink-release y L) (λ z. k .gone .armed y l (sym (serial-freed y (unlink y L)) ∙ z))
+      bearers-else n (λ (z : ℕ). ⊥) y L (release y (unlink y L)) (k .gone) (unlink-release y L)
+      (λ z. k .gone .armed y l (sym (serial-freed y (unlink y L)) ∙ z))
 
   rearms-silent : (y m i : ℕ) (o : Option ℕ) → R .wheel .lists .node y .armed ≡ true → Silent (reschedule y m i) (rearmed g (R .wheel) y o)
   rearms-silent y m i none l = (refl, record { gone = drops-silent y l; issued = k .issued; on = k .on })
@@ -57,7 +58,8 @@ module _ (g : Geometry) (n : ℕ) (R : Run) (k : Past n R) where
       let v : Node = placedIn b (L .node y) in (
         refl,
         record {
-          gone = bearers-else n (λ (z : ℕ). ⊥) y L (link b y v (unlink y L)) (k .gone) (unlink-link y L b v) (λ z. k .gone .armed y l (sym (serial-linked y b v (unlink y L)) ∙ z));
+          gone = bearers-else n (λ (z : ℕ). ⊥) y L (link b y v (unlink y L)) (k .gone) (unlink-link y L b v)
+              (λ z. k .gone .armed y l (sym (serial-linked y b v (unlink y L)) ∙ z));
           issued = k .issued;
           on = k .on;
         },
@@ -81,7 +83,8 @@ module _ (g : Geometry) (n : ℕ) (R : Run) (k : Past n R) where
       refused-silent (deschedule y m j) (refusal g (R .wheel) (deschedule y m j)) (act g (R .wheel) (deschedule y m j))
       (λ z. (refl, record { gone = drops-silent y (fresh (R .wheel) y m (handles g (R .wheel) y m j z .2) .1); issued = k .issued; on = k .on }))
   each-call-past x e d (start q) f =
-      refused-silent (start q) (refusal g (R .wheel) (start q)) (act g (R .wheel) (start q)) (λ z. (refl, record { gone = k .gone; issued = k .issued; on = k .on }))
+      refused-silent (start q) (refusal g (R .wheel) (start q)) (act g (R .wheel) (start q))
+      (λ z. (refl, record { gone = k .gone; issued = k .issued; on = k .on }))
   each-call-past x e d pull f =
       refused-silent pull (refusal g (R .wheel) pull) (act g (R .wheel) pull)
       (λ z.
@@ -90,6 +93,7 @@ module _ (g : Geometry) (n : ℕ) (R : Run) (k : Past n R) where
   each-call-past x e d abandon f =
       refused-silent abandon (refusal g (R .wheel) abandon) (act g (R .wheel) abandon) (λ z. (refl, record { gone = k .gone; issued = k .issued; on = k .on }))
   each-call-past x e d armedCount f =
-      refused-silent armedCount (refusal g (R .wheel) armedCount) (act g (R .wheel) armedCount) (λ z. (refl, record { gone = k .gone; issued = k .issued; on = k .on }))
+      refused-silent armedCount (refusal g (R .wheel) armedCount) (act g (R .wheel) armedCount)
+      (λ z. (refl, record { gone = k .gone; issued = k .issued; on = k .on }))
   each-call-past x e d nextDue f =
       refused-silent nextDue (refusal g (R .wheel) nextDue) (act g (R .wheel) nextDue) (λ z. (refl, record { gone = k .gone; issued = k .issued; on = k .on }))

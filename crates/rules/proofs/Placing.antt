@@ -1,8 +1,9 @@
--- Laws of places and visits: a deadline is placed at the lowest level that fits, and an advance that passes a timer's tick visits its bucket. Assumes nothing.
-use Prim.Native.Nat.{ℕ, zero, suc, _+_, _-_, _*_, _/_, _%_, _^_, _≤_, _<_, min}
+-- Laws of places and visits: a deadline is placed at the lowest level that fits, and an advance that passes a timer's
+-- tick visits its bucket.
+use Prim.Native.Nat.{ℕ, zero, suc, _+_, _-_, _%_, _^_, _≤_, _<_}
 use native.Mathlib.Nat.{mod-lt, mod-one, add-mod-mod, add-zero, add-suc, add-sub-of-le}
 use native.Mathlib.Omega.{arith}
-use mathlib.Core.Path.{_≡_, refl, sym, ap, subst, _∙_}
+use mathlib.Core.Path.{_≡_, refl, ap, subst, _∙_}
 use mathlib.Core.Logic.{_⊎_, inl, inr, ⊎-elim}
 use mathlib.Core.Bool.{Bool, true, false, cond}
 use mathlib.Core.List.{List, [], _∷_, _++_}
@@ -12,9 +13,9 @@ use lib.Pow.{pow-pos, pow-mono}
 use borrow.Author.Tests.{lt-ltb, le-ltb, ltb-true, ltb-false}
 use Rattle.rules.specs.Geometry.{Geometry, tick, total, buckets, shiftOf, sizeOf, dense, firstOf}
 use Rattle.rules.specs.Place.{placeFrom, bucketOf}
-use Rattle.rules.specs.Visits.{moves, visited, ring, visitsAt, visitsFrom, visits}
+use Rattle.rules.specs.Visits.{moves, visited, ring, visitsAt, visitsFrom}
 use Rattle.numbers.proofs.Cases.{below?}
-use Rattle.rules.proofs.Ticks.{tick-mono, tick-up-mono, tick-later, tick-near}
+use Rattle.rules.proofs.Ticks.{tick-mono, tick-up-mono, tick-later}
 
 -- ---- "The lowest fitting level is used"
 -- k is the number of d's place at the reading r: the level that it stands at fits, and no level below does.
@@ -67,20 +68,23 @@ shift-mono s es k zero = omega (arith, ap (shiftOf s es) (add-zero k))
 shift-mono s es k (suc j) =
     omega (arith, shift-mono s es k j, shift-next s es (k + j), ap (shiftOf s es) (add-suc k j))
 
--- A level is the one that is used if its span is not above the difference (or it is level 0), and the next level's span is above it (or it is the last).
+-- A level is the one that is used if its span is not above the difference (or it is level 0), and the next level's span
+-- is above it (or it is the last).
 pub lowest-is : (wide : ℕ → ℕ) (s : ℕ) (es : List ℕ) (base r d l : ℕ) → l ≤ length es → (0 < l → 2 ^ shiftOf s es l ≤ d - r)
     → (l < length es → d - r < 2 ^ shiftOf s es (suc l))
     → placeFrom wide s es base r d ≡ firstOf wide base es l + tick (shiftOf s es l) d % 2 ^ sizeOf es l
 lowest-is wide s es base r d l h low high = go (place-lowest wide s es base r d)
   where
-    go : Lowest wide s es base r d (placeFrom wide s es base r d) → placeFrom wide s es base r d ≡ firstOf wide base es l + tick (shiftOf s es l) d % 2 ^ sizeOf es l
+    go : Lowest wide s es base r d (placeFrom wide s es base r d) → placeFrom wide s es base r d ≡ firstOf wide base es l + tick (shiftOf s es l) d % 2 ^
+        sizeOf es l
     go k =
         ⊎-elim
         (λ (i : l < k .level). absurd (omega (arith, k .least l i, high (omega (arith, k .exists)), ap (λ (n : ℕ). 2 ^ n) (shift-next s es l))))
         (λ (i : k .level ≤ l).
         ⊎-elim
         (λ (j : k .level < l).
-        let m : shiftOf s es (suc (k .level)) ≤ shiftOf s es l = omega (arith, shift-mono s es (suc (k .level)) (l - suc (k .level)), ap (shiftOf s es) (add-sub-of-le j)) in
+        let m : shiftOf s es (suc (k .level)) ≤ shiftOf s es l = omega
+        (arith, shift-mono s es (suc (k .level)) (l - suc (k .level)), ap (shiftOf s es) (add-sub-of-le j)) in
         absurd (omega (arith, k .fits (omega arith), low (omega arith), ap (λ (n : ℕ). 2 ^ n) (shift-next s es (k .level)), pow-mono m)))
         (λ (j : l ≤ k .level).
         let m : k .level ≡ l = omega arith in
@@ -147,7 +151,8 @@ visits-none s [] base p q h = rw (visited-still s 0 p q h)
 visits-none s (e ∷ es) base p q h = simp (le-ltb (tick s p) (tick s q) h)
 
 -- ---- the invariant of a timer's place
--- b is the bucket of t's tick at some level, and that tick is not passed at the reading p: at the first level it is o or more above p's, o being 0 or 1, and at the
+-- b is the bucket of t's tick at some level, and that tick is not passed at the reading p: at the first level it is o
+-- or more above p's, o being 0 or 1, and at the
 -- levels above the first it is above p's. t is the timer's effective time.
 abbrev pub InTime : ℕ → ℕ → List ℕ → ℕ → ℕ → ℕ → ℕ → Type 0
 InTime o s [] base p t b = (b ≡ base) × (o + tick s p ≤ tick s t)
@@ -177,7 +182,8 @@ in-time-on o s [] base p q t b h i =
     ⊎-elim
     (λ (k : tick s q < tick s t). inr (i .0, omega arith))
     (λ (k : tick s t ≤ tick s q).
-    inl (subst (λ (n : ℕ). Mem n (visitsAt s 0 base p q)) (omega (arith, mod-one (tick s t), i .0)) (visits-tick s 0 base p q (tick s t) h (omega (arith, i .1)) k)))
+    inl (subst (λ (n : ℕ). Mem n (visitsAt s 0 base p q)) (omega (arith, mod-one (tick s t), i .0))
+    (visits-tick s 0 base p q (tick s t) h (omega (arith, i .1)) k)))
     (below? (tick s q) (tick s t))
 in-time-on o s (e ∷ es) base p q t b h (inl i) =
     ⊎-elim

@@ -1,18 +1,17 @@
--- The position of an advance as level and step, and the buckets that it has yet to enter. Assumes nothing.
-use Prim.Native.Nat.{ℕ, zero, suc, _+_, _-_, _%_, _^_, _≤_, _<_, min}
+-- The position of an advance as level and step, and the buckets that it has yet to enter.
+use Prim.Native.Nat.{ℕ, zero, suc, _+_, _-_, _%_, _^_, _≤_, _<_}
 use native.Mathlib.Nat.{add-zero}
 use native.Mathlib.Omega.{arith}
-use mathlib.Core.Path.{_≡_, refl, sym, ap, subst, _∙_}
-use mathlib.Core.Logic.{_⊎_, inl, inr, ⊎-elim}
-use mathlib.Core.Bool.{Bool, true, false, cond}
+use mathlib.Core.Path.{_≡_, refl, sym, ap, _∙_}
+use mathlib.Core.Logic.{⊎-elim}
+use mathlib.Core.Bool.{cond}
 use mathlib.Core.List.{List, [], _∷_, _++_}
-use lib.Dec.{ltb}
 use lib.ListN.{length, getD, drop, drop-of-length-le}
 use lib.Seq.{drop-cons}
 use lib.Pow.{pow-pos}
 use borrow.Author.Tests.{lt-ltb, le-ltb}
 use Rattle.rules.specs.Geometry.{Geometry, tick, shiftOf, sizeOf, dense, firstOf}
-use Rattle.rules.specs.Visits.{moves, visited, ring, visitsAt, visitsFrom, visits, visitedAt, bucketAt, aheadFrom, ahead}
+use Rattle.rules.specs.Visits.{moves, visited, ring, visitsFrom, visits, visitedAt, bucketAt, aheadFrom, ahead}
 use Rattle.numbers.proofs.Cases.{below?}
 use Rattle.rules.proofs.Ticks.{tick-up-mono}
 use Rattle.rules.proofs.Placing.{visits-none, visited-covers}
@@ -78,11 +77,13 @@ ahead-end s (e ∷ es) base p q (suc l) j h k = ahead-end (s + e) es (base + 2 ^
 pub ahead-still : (s : ℕ) (es : List ℕ) (base p q l j : ℕ) → visited (shiftOf s es l) (sizeOf es l) p q ≡ 0 → aheadFrom s es base p q l j ≡ []
 ahead-still s [] base p q l j h = over-ring base (2 ^ 0) (tick s p) (visited s 0 p q) j (omega arith)
 ahead-still s (e ∷ es) base p q zero j h =
-    ap (λ (xs : List ℕ). xs ++ cond (moves s p q) (visitsFrom (s + e) es (base + 2 ^ e) p q) []) (over-ring base (2 ^ e) (tick s p) (visited s e p q) j (omega arith))
+    ap (λ (xs : List ℕ). xs ++ cond (moves s p q) (visitsFrom (s + e) es (base + 2 ^ e) p q) [])
+    (over-ring base (2 ^ e) (tick s p) (visited s e p q) j (omega arith))
     ∙ rw (le-ltb (tick s p) (tick s q) (visited-zero s e p q h))
 ahead-still s (e ∷ es) base p q (suc l) j h = ahead-still (s + e) es (base + 2 ^ e) p q l j h
 
--- Where there is a bucket yet to enter, it is one that the advance visits: the i-th of some level l, and what is ahead after it is what is ahead of that position.
+-- Where there is a bucket yet to enter, it is one that the advance visits: the i-th of some level l, and what is ahead
+-- after it is what is ahead of that position.
 pub record NextAt (g : Geometry) (p q b : ℕ) (bs : List ℕ) : Type 0 where
   pub level : ℕ
   pub done : ℕ

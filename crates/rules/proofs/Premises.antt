@@ -1,11 +1,11 @@
--- Demand 3's premises: they can be met, and the one on the deadline's tick is needed (W9). Assumes nothing.
-use Prim.Native.Nat.{ℕ, _+_, _-_, _*_, _^_, _≤_, _<_}
+-- Demand 3's premises: they can be met, and the one on the deadline's tick is needed (W9).
+use Prim.Native.Nat.{ℕ, _*_, _^_}
 use native.Mathlib.Omega.{arith}
 use mathlib.Core.Path.{_≡_, refl}
-use mathlib.Core.Option.{Option, none, some}
+use mathlib.Core.Option.{some}
 use mathlib.Core.List.{List, [], _∷_, _++_}
 use Rattle.rules.specs.Geometry.{wheel01, tick}
-use Rattle.rules.specs.Wheel.{Call, create, enable, setEntry, schedule, reschedule, start, pull, abandon, Answer}
+use Rattle.rules.specs.Wheel.{Call, create, enable, setEntry, schedule, reschedule, start, pull, abandon}
 use Rattle.rules.specs.Runs.{Run, answers, after, next}
 use Rattle.rules.specs.Demand3.{Arms, Unchanged, handed, Full, Demand3}
 use Rattle.rules.specs.Worked.{nothing}
@@ -30,8 +30,10 @@ pub met-again : Demand3 wheel01 165 7 0 20 (next wheel01 (after wheel01 nothing 
 unfolding tick
 met-again = demand3 wheel01 nothing 7 before-20 (reschedule 165 7 0) 165 7 0 20 (refl, refl, refl, refl, refl) (omega arith)
 
--- A run that leaves it unchanged, with an advance that enters no later tick, one that is abandoned, a clock stepped back, and its deadline set again; then an advance that
--- is read to its end, goes to the deadline or later and enters a later tick. So the third part's premises on the calls and on the advance are met together, and here it hands the timer out.
+-- A run that leaves it unchanged, with an advance that enters no later tick, one that is abandoned, a clock stepped
+-- back, and its deadline set again; then an advance that
+-- is read to its end, goes to the deadline or later and enters a later tick. So the third part's premises on the calls
+-- and on the advance are met together, and here it hands the timer out.
 abbrev run-10 : List Call
 run-10 = start 100 ∷ pull ∷ start (2 ^ 31) ∷ abandon ∷ start 3 ∷ pull ∷ setEntry 0 (some 10) 9 ∷ []
 
@@ -51,7 +53,8 @@ pub hands-out-10 : handed 7 (answers wheel01 (after wheel01 armed-10 run-10) (st
 unfolding tick
 hands-out-10 = refl
 
--- ---- needed: W9, reading 5 x 2^30 and deadline 2 x 2^30. The timer is armed, and an advance that is read to its end goes to tick 65, past the deadline, and enters a
+-- ---- needed: W9, reading 5 x 2^30 and deadline 2 x 2^30. The timer is armed, and an advance that is read to its end
+-- goes to tick 65, past the deadline, and enters a
 -- later tick: it does not hand the timer out. So demand 3 fails of it.
 abbrev before-w9 : List Call
 before-w9 = enable 200 8 ∷ start (5 * 2 ^ 30) ∷ pull ∷ setEntry 0 (some (2 * 2 ^ 30)) 0 ∷ []

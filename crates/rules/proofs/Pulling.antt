@@ -1,17 +1,15 @@
--- What a pull does to a waiting timer: it stays and waits, or it is handed out. Assumes nothing.
-use Prim.Native.Nat.{ℕ, zero, suc, _+_, _-_, _≤_, _<_}
+-- What a pull does to a waiting timer: it stays and waits, or it is handed out.
+use Prim.Native.Nat.{ℕ, _≤_, _<_}
 use native.Mathlib.Omega.{arith}
 use mathlib.Core.Path.{_≡_, refl, sym, ap, subst, _∙_}
 use mathlib.Core.Logic.{_⊎_, inl, inr, ⊎-elim}
-use mathlib.Core.Bool.{Bool, true, false, cond}
 use mathlib.Core.Option.{Option, none, some}
-use mathlib.Core.List.{List, [], _∷_, _++_}
-use lib.Dec.{eqb, leb}
+use mathlib.Core.List.{List, [], _∷_}
 use borrow.Author.Tests.{eq-eqb, le-leb, lt-leb}
-use Rattle.rules.specs.Geometry.{Geometry, tick}
-use Rattle.rules.specs.Place.{bucketOf, placeOf, effective}
+use Rattle.rules.specs.Geometry.{Geometry}
+use Rattle.rules.specs.Place.{bucketOf, effective}
 use Rattle.rules.specs.Lists.{Node, Lists, newNode, placedIn, hit, count, times, link, release, enter, pop}
-use Rattle.rules.specs.Wheel.{Entry, Advance, closed, poised, within, pull, Answer, end, expired, rescheduled}
+use Rattle.rules.specs.Wheel.{Entry, Advance, poised, within, pull, Answer, expired}
 use Rattle.rules.specs.Pull.{Found, dealt, emptied, Pulled, stopped, swept, pulled}
 use Rattle.rules.specs.Runs.{placing, noted}
 use Rattle.rules.specs.Demand3.{Later, handsOut}
@@ -20,10 +18,12 @@ use Rattle.rules.proofs.Counting.{hit-is, hit-not, update-is, update-no
 use Rattle.rules.proofs.Ticks.{tick-mono}
 use Rattle.rules.proofs.Placing.{Mem, in-time-back}
 use Rattle.rules.proofs.Effective.{effective-late, effective-placed}
-use Rattle.rules.proofs.Standing.{Elsewhere, enter-same, pop-release, pop-link, At, Bearers, Gone, at-same, bearers-enter, bearers-else, nowhere, pop-own, link-own, gone, serial-freed, serial-linked, early-link, early-pop}
+use Rattle.rules.proofs.Standing.{enter-same, pop-release, pop-link, At, Gone, at-same, bearers-enter, bearers-else, nowhere, pop-own, link-own, gone}
+use Rattle.rules.proofs.Standing.{serial-freed, serial-linked, early-link, early-pop}
 use Rattle.rules.proofs.Timers.{Due, Settled, Stage, Timer, timer-else, Ends}
 
--- the timer x of the entry e, with the deadline d, in an advance from p to q; f holds the readings at last placings before the pull
+-- the timer x of the entry e, with the deadline d, in an advance from p to q; f holds the readings at last placings
+-- before the pull
 module _ (g : Geometry) (E : ℕ → Entry) (x e h n d p q : ℕ) (f : ℕ → ℕ) (dated : E e .deadline ≡ some d) where
   -- its effective time, before the pull and after an answer
   abbrev now : ℕ
@@ -91,7 +91,8 @@ module _ (g : Geometry) (E : ℕ → Entry) (x e h n d p q : ℕ) (f : ℕ → �
       })))
       (⊎-elim (λ (j : q < d). inr j) (λ (j : d ≤ q). inl j) (below? q d)))
 
-  module _ (b c : ℕ) (bs xs : List ℕ) (y : ℕ) (L : Lists) (i : L .bucket c .early ≡ y ∷ xs) (t : Timer x e h n b L) (u : Due g p (effective (f n) d) b) (l : Later g p q)
+  module _ (b c : ℕ) (bs xs : List ℕ) (y : ℕ) (L : Lists) (i : L .bucket c .early ≡ y ∷ xs) (t : Timer x e h n b L) (u : Due g p (effective (f n) d) b)
+      (l : Later g p q)
       (ne : x ≡ y → ⊥) (s : (Mem b bs ⊎ (0 < count x xs)) ⊎ Settled g p q (effective (f n) d) b) where
     -- the slot popped has another serial
     other-serial : L .node y .serial ≡ n → ⊥
@@ -159,11 +160,13 @@ module _ (g : Geometry) (E : ℕ → Entry) (x e h n d p q : ℕ) (f : ℕ → �
   abbrev pub FateOf : Pulled → Type 0
   FateOf r = Fate (r .answer) (r .advance) (r .lists)
 
-  stopped-fate : (c : ℕ) (bs : List ℕ) (o : Option Answer) (L : Lists) (r : Pulled) → Emptied c bs o L → (Emptied c bs none L → FateOf r) → FateOf (stopped p c bs o L r)
+  stopped-fate : (c : ℕ) (bs : List ℕ) (o : Option Answer) (L : Lists) (r : Pulled) → Emptied c bs o L → (Emptied c bs none L → FateOf r) → FateOf
+      (stopped p c bs o L r)
   stopped-fate c bs none L r w k = k w
   stopped-fate c bs (some a) L r w k = w
 
-  swept-fate : (b : ℕ) (bs : List ℕ) (L : Lists) → Timer x e h n b L → Due g p now b → ((c : ℕ) → Mem c bs → Later g p q) → Mem b bs ⊎ Settled g p q now b → FateOf (swept g E p q bs L)
+  swept-fate : (b : ℕ) (bs : List ℕ) (L : Lists) → Timer x e h n b L → Due g p now b → ((c : ℕ) → Mem c bs → Later g p q) → Mem b bs ⊎ Settled g p q now b →
+      FateOf (swept g E p q bs L)
   swept-fate b [] L t u l s =
       ⊎-elim (λ (k : ⊥). absurd k) (λ (k : Settled g p q now b). inl (record { b = b; timer = t; stage = k .due; quiet = refl; late = λ i. k .later })) s
   swept-fate b (c ∷ bs) L t u l s =
@@ -186,10 +189,12 @@ module _ (g : Geometry) (E : ℕ → Entry) (x e h n d p q : ℕ) (f : ℕ → �
           omega (arith, a .stands c, hit-is b c i)
 
   -- a pull, from before the first bucket and from within one
-  pub pulled-poised : (b : ℕ) (L : Lists) (bs : List ℕ) → Timer x e h n b L → Stage g x (effective (f n) d) b q L (poised p bs) → FateOf (pulled g E q (poised p bs) L)
+  pub pulled-poised : (b : ℕ) (L : Lists) (bs : List ℕ) → Timer x e h n b L → Stage g x (effective (f n) d) b q L (poised p bs) → FateOf
+      (pulled g E q (poised p bs) L)
   pulled-poised b L bs t s = swept-fate b bs L t (s .0) (s .1) (s .2)
 
-  pub pulled-within : (b : ℕ) (L : Lists) (c : ℕ) (bs : List ℕ) → Timer x e h n b L → Stage g x (effective (f n) d) b q L (within p c bs) → FateOf (pulled g E q (within p c bs) L)
+  pub pulled-within : (b : ℕ) (L : Lists) (c : ℕ) (bs : List ℕ) → Timer x e h n b L → Stage g x (effective (f n) d) b q L (within p c bs) → FateOf
+      (pulled g E q (within p c bs) L)
   pulled-within b L c bs t s =
       let r : Found = emptied g E q c (L .bucket c .early) L in
       stopped-fate c bs (r .0) (r .1) (swept g E p q bs (r .1))

@@ -1,10 +1,11 @@
--- Every call, refused or not, leaves a sound wheel: "each slot of one kind", "each armed slot in exactly one bucket", and the rest of 01's "Sound means". Assumes nothing.
+-- Every call, refused or not, leaves a sound wheel: "each slot of one kind", "each armed slot in exactly one bucket",
+-- and the rest of 01's "Sound means".
 -- So refusal 4 does not arise in a run (`sound-created`): it is for records that something else has written.
-use Prim.Native.Nat.{ℕ, zero, suc, _+_, _-_, _≤_, _<_}
+use Prim.Native.Nat.{ℕ, zero, suc, _≤_, _<_}
 use native.Mathlib.Omega.{arith}
-use mathlib.Core.Path.{_≡_, refl, sym, ap, subst, _∙_}
-use mathlib.Core.Logic.{_⊎_, inl, inr, ⊎-elim}
-use mathlib.Core.Bool.{Bool, true, false, cond, not}
+use mathlib.Core.Path.{_≡_, refl, sym, ap, _∙_}
+use mathlib.Core.Logic.{⊎-elim}
+use mathlib.Core.Bool.{Bool, true, false, cond}
 use mathlib.Core.Option.{Option, none, some}
 use mathlib.Core.List.{List, [], _∷_}
 use lib.Dec.{eqb, leb, ltb}
@@ -12,8 +13,9 @@ use borrow.Author.Tests.{le-leb, lt-leb, leb-false}
 use Rattle.rules.specs.Geometry.{Geometry, buckets}
 use Rattle.rules.specs.Place.{bucketOf}
 use Rattle.rules.specs.Visits.{visits, ahead}
-use Rattle.rules.specs.Lists.{Node, Lists, newNode, placedIn, hit, count, link, unlink, release, claim, enter, pop}
-use Rattle.rules.specs.Wheel.{Entry, Advance, closed, poised, within, Wheel, Call, create, enable, setEntry, schedule, reschedule, deschedule, start, pull, abandon, armedCount, nextDue, Answer}
+use Rattle.rules.specs.Lists.{Lists, newNode, placedIn, count, unlink, release, claim, enter, pop}
+use Rattle.rules.specs.Wheel.{Entry, Advance, closed, poised, within, Wheel, Call, create, enable, setEntry, schedule, reschedule, deschedule, start}
+use Rattle.rules.specs.Wheel.{pull, abandon, armedCount, nextDue, Answer}
 use Rattle.rules.specs.Refusals.{Row, isOpen, outOfRange, rows, refusal}
 use Rattle.rules.specs.Pull.{Found, dealt, emptied, Pulled, stopped, swept, pulled}
 use Rattle.rules.specs.Calls.{armed, rearmed, act, judged, step}
@@ -121,7 +123,8 @@ module _ (g : Geometry) (w : Wheel) (s : Sound g w) where
       let b : ℕ = bucketOf g (w .reading) d in
       let v = first-free D (w .nodes) (w .entries) (w .next) y L (s .lists) fs f in
       record {
-        lists = sound-placed D (w .nodes) (w .entries) (w .next) y L (s .lists) (suc (w .next)) (omega arith) (claim fs L) (L .node y) b (newNode b e h (w .next)) refl refl
+        lists = sound-placed D (w .nodes) (w .entries) (w .next) y L (s .lists) (suc (w .next)) (omega arith) (claim fs L) (L .node y) b
+            (newNode b e h (w .next)) refl refl
             (free-nowhere D (w .nodes) (w .entries) (w .next) y L (s .lists) fs f) (claim-link y L fs f b (newNode b e h (w .next))) (v .0, v .1)
             (bucketOf-in g (w .reading) d) i (omega arith) (λ z ne l k. omega (arith, s .lists .below z l));
         advance = s .advance;
@@ -134,7 +137,8 @@ module _ (g : Geometry) (w : Wheel) (s : Sound g w) where
         (at-of (buckets g) (w .nodes) (w .entries) (w .next) y (w .lists) (s .lists) l)
 
     pub drops : SoundLists (buckets g) (w .nodes) (w .entries) (w .next) (release y (unlink y (w .lists)))
-    drops = sound-freed (buckets g) (w .nodes) (w .entries) (w .next) y (w .lists) (s .lists) (unlink y (w .lists)) (w .lists .node y) out (unlink-release y (w .lists)) l
+    drops = sound-freed (buckets g) (w .nodes) (w .entries) (w .next) y (w .lists) (s .lists) (unlink y (w .lists)) (w .lists .node y) out
+        (unlink-release y (w .lists)) l
 
     rearms : (o : Option ℕ) → Sound g (rearmed g w y o .1)
     rearms none = record { lists = drops; advance = s .advance }
@@ -142,7 +146,8 @@ module _ (g : Geometry) (w : Wheel) (s : Sound g w) where
         let L : Lists = w .lists in
         let b : ℕ = bucketOf g (w .reading) d in
         record {
-          lists = sound-placed D (w .nodes) (w .entries) (w .next) y L (s .lists) (w .next) (omega arith) (unlink y L) (L .node y) b (placedIn b (L .node y)) refl refl out
+          lists = sound-placed D (w .nodes) (w .entries) (w .next) y L (s .lists) (w .next) (omega arith) (unlink y L) (L .node y) b (placedIn b (L .node y))
+              refl refl out
               (unlink-link y L b (placedIn b (L .node y))) (s .lists .slot y l) (bucketOf-in g (w .reading) d) (s .lists .entry y l) (s .lists .below y l)
               (λ z ne k e. ne (s .lists .differ z y k l e));
           advance = s .advance;

@@ -1,17 +1,17 @@
--- The steps on the lists keep them sound. Assumes nothing.
-use Prim.Native.Nat.{ℕ, zero, suc, _+_, _-_, _≤_, _<_}
+-- The steps on the lists keep them sound.
+use Prim.Native.Nat.{ℕ, _+_, _-_, _≤_, _<_}
 use native.Mathlib.Omega.{arith}
 use mathlib.Core.Path.{_≡_, refl, sym, ap, subst, _∙_}
 use mathlib.Core.Logic.{_⊎_, inl, inr, ⊎-elim}
 use mathlib.Core.Bool.{Bool, true, false, cond}
-use mathlib.Core.List.{List, [], _∷_}
+use mathlib.Core.List.{List, _∷_}
 use lib.Dec.{ltb}
 use borrow.Author.Tests.{eq-eqb, lt-ltb, le-ltb}
-use Rattle.rules.specs.Lists.{Node, Lists, update, hit, count, times, link, unlink, release, claim, enter, pop, upwards, bare}
+use Rattle.rules.specs.Lists.{Node, Lists, hit, count, times, link, release, claim, enter, upwards, bare}
 use Rattle.rules.specs.Sound.{spare, SoundLists}
 use Rattle.numbers.proofs.Cases.{below?, same?, not-both}
-use Rattle.rules.proofs.Counting.{hit-is, hit-most, count-upwards, count-upwards-below, count-upwards-above}
-use Rattle.rules.proofs.Standing.{Same, Elsewhere, enter-same, At, nowhere, link-own}
+use Rattle.rules.proofs.Counting.{hit-is, count-upwards, count-upwards-below, count-upwards-above}
+use Rattle.rules.proofs.Standing.{Elsewhere, enter-same, At, nowhere, link-own}
 
 -- ---- how often a slot has to be free
 module _ (D nodes : ℕ) (f : ℕ → Node) (y : ℕ) where
@@ -100,7 +100,8 @@ module _ (D nodes entries next next′ : ℕ) (grows : next ≤ next′) (y : �
             ⊎-elim
             (λ (j : u ≡ y). i ∙ sym j)
             (λ (j : u ≡ y → ⊥).
-            absurd (o .differ (subst (λ (v : ℕ). M .node v .armed ≡ true) i h) u j (was u j k) (sym (serial-of u j) ∙ sym e ∙ ap (λ (v : ℕ). M .node v .serial) i)))
+            absurd (o .differ (subst (λ (v : ℕ). M .node v .armed ≡ true) i h) u j (was u j k)
+            (sym (serial-of u j) ∙ sym e ∙ ap (λ (v : ℕ). M .node v .serial) i)))
             (same? u y))
             (λ (i : z ≡ y → ⊥).
             ⊎-elim
@@ -138,7 +139,8 @@ module _ (D nodes entries next y : ℕ) (L : Lists) (s : SoundLists D nodes entr
         says = refl;
       }
 
-  -- "each slot is a sentinel, armed or free, and just one of these": it stands below the buckets' number, or is armed, or stands once in the free chain
+  -- "each slot is a sentinel, armed or free, and just one of these": it stands below the buckets' number, or is armed,
+  -- or stands once in the free chain
   pub one-kind : y < nodes
       → ((y < D) × (L .node y .armed ≡ false) × (count y (L .free) ≡ 0))
       ⊎ (((D ≤ y) × (L .node y .armed ≡ true) × (count y (L .free) ≡ 0)) ⊎ ((D ≤ y) × (L .node y .armed ≡ false) × (count y (L .free) ≡ 1)))
@@ -154,7 +156,8 @@ module _ (D nodes entries next y : ℕ) (L : Lists) (s : SoundLists D nodes entr
       other i false e = inr (i, e, s .free y ∙ spare-free D nodes (L .node) y i h e)
 
   -- y was armed, was taken out of its bucket, and is freed
-  pub sound-freed : (M : Lists) (v : Node) → At y v nowhere M → Elsewhere y L (release y M) → L .node y .armed ≡ true → SoundLists D nodes entries next (release y M)
+  pub sound-freed : (M : Lists) (v : Node) → At y v nowhere M → Elsewhere y L (release y M) → L .node y .armed ≡ true → SoundLists D nodes entries next
+      (release y M)
   sound-freed M v a p l =
       let dead : release y M .node y .armed ≡ false = simp (eq-eqb y y refl) in
       let no-more : release y M .node y .armed ≡ true → ⊥ = λ h. not-both (sym dead ∙ h) in
@@ -171,7 +174,8 @@ module _ (D nodes entries next y : ℕ) (L : Lists) (s : SoundLists D nodes entr
       })
 
   -- y, taken out of its bucket or of the free chain, goes to the back of c with the record v
-  pub sound-placed : (next′ : ℕ) → next ≤ next′ → (M : Lists) (u : Node) (c : ℕ) (v : Node) → v .armed ≡ true → v .bucket ≡ c → At y u nowhere M → Elsewhere y L (link c y v M)
+  pub sound-placed : (next′ : ℕ) → next ≤ next′ → (M : Lists) (u : Node) (c : ℕ) (v : Node) → v .armed ≡ true → v .bucket ≡ c → At y u nowhere M → Elsewhere y
+      L (link c y v M)
       → (D ≤ y) × (y < nodes) → c < D → v .entry < entries → v .serial < next′
       → ((z : ℕ) → (z ≡ y → ⊥) → L .node z .armed ≡ true → L .node z .serial ≡ v .serial → ⊥) → SoundLists D nodes entries next′ (link c y v M)
   sound-placed next′ g M u c v on is a p slot r i j k =

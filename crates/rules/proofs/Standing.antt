@@ -1,15 +1,18 @@
--- Where a slot stands, and what the steps on the lists do to that. Assumes nothing.
--- Each step has to do with one slot y, and every other slot is left alone (`Elsewhere`). What becomes of y itself is said beside it.
-use Prim.Native.Nat.{ℕ, zero, suc, _+_, _-_, _≤_, _<_}
+-- Where a slot stands, and what the steps on the lists do to that.
+-- Each step has to do with one slot y, and every other slot is left alone (`Elsewhere`). What becomes of y itself is
+-- said beside it.
+use Prim.Native.Nat.{ℕ, _+_, _-_, _<_}
 use native.Mathlib.Omega.{arith}
 use mathlib.Core.Path.{_≡_, refl, sym, ap, subst, _∙_}
-use mathlib.Core.Logic.{_⊎_, inl, inr, ⊎-elim}
-use mathlib.Core.Bool.{Bool, true, false, cond}
-use mathlib.Core.List.{List, [], _∷_, _++_}
+use mathlib.Core.Logic.{⊎-elim}
+use mathlib.Core.Bool.{true, false}
+use mathlib.Core.List.{List, [], _∷_}
 use borrow.Author.Tests.{eq-eqb, ne-eqb}
-use Rattle.rules.specs.Lists.{Bucket, Node, Lists, freed, update, hit, count, times, pushed, link, taken, unlink, release, claim, turned, enter, shortened, pop}
+use Rattle.rules.specs.Lists.{Bucket, Node, Lists, freed, update, hit, count, times, pushed, link, taken, unlink, release, claim, turned, enter}
+use Rattle.rules.specs.Lists.{shortened, pop}
 use Rattle.numbers.proofs.Cases.{same?, not-both}
-use Rattle.rules.proofs.Counting.{hit-is, hit-not, hit-most, hit-same, count-app, count-without, count-without-own, update-is, update-not, times-more, times-same}
+use Rattle.rules.proofs.Counting.{hit-is, hit-not, hit-most, hit-same, count-app, count-without, count-without-own, update-is, update-not, times-more}
+use Rattle.rules.proofs.Counting.{times-same}
 
 -- ---- what does not change
 -- z stands in M where it stands in L, and its record says the same
@@ -68,7 +71,8 @@ module _ (y : ℕ) (L : Lists) where
       let b : ℕ = L .node y .bucket in
       record {
         is = λ z ne. record {
-          stands = times-same (L .bucket) b (taken y (L .bucket b)) z (omega (arith, count-without z y (L .bucket b .early) ne, count-without z y (L .bucket b .late) ne));
+          stands = times-same (L .bucket) b (taken y (L .bucket b)) z
+              (omega (arith, count-without z y (L .bucket b .early) ne, count-without z y (L .bucket b .late) ne));
           free = refl;
           node = refl;
         };
@@ -88,7 +92,8 @@ module _ (y : ℕ) (L : Lists) where
         };
       }
 
--- the five things that are done to a slot: popped and freed, popped and placed anew, unlinked and freed, unlinked and placed anew, claimed and placed
+-- the five things that are done to a slot: popped and freed, popped and placed anew, unlinked and freed, unlinked and
+-- placed anew, claimed and placed
 module _ (y : ℕ) (L : Lists) where
   pub pop-release : (b : ℕ) (xs : List ℕ) → L .bucket b .early ≡ y ∷ xs → Elsewhere y L (release y (pop b xs L))
   pop-release b xs f = else-then y L (pop b xs L) _ (pop-else y L b xs f) (release-else y (pop b xs L))
@@ -139,7 +144,8 @@ bearers-else n P y L M o a own =
       armed = λ z h e.
           ⊎-elim
           (λ (i : z ≡ y). subst P (sym i) (own (ap (λ (k : ℕ). M .node k .serial) (sym i) ∙ e)))
-          (λ (ne : z ≡ y → ⊥). o .armed z (ap (λ (v : Node). v .armed) (sym (a .is z ne .node)) ∙ h) (ap (λ (v : Node). v .serial) (sym (a .is z ne .node)) ∙ e))
+          (λ (ne : z ≡ y → ⊥). o .armed z (ap (λ (v : Node). v .armed) (sym (a .is z ne .node)) ∙ h)
+          (ap (λ (v : Node). v .serial) (sym (a .is z ne .node)) ∙ e))
           (same? z y);
     }
 

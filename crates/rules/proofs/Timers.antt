@@ -1,15 +1,14 @@
--- The invariant of one timer, over every state that a run can come to. It speaks of the timer's effective time t. Assumes nothing.
-use Prim.Native.Nat.{ℕ, zero, suc, _+_, _≤_, _<_}
+-- The invariant of one timer, over every state that a run can come to. It speaks of the timer's effective time t.
+use Prim.Native.Nat.{ℕ, _<_}
 use native.Mathlib.Omega.{arith}
-use mathlib.Core.Path.{_≡_, refl, sym, ap, subst, _∙_}
-use mathlib.Core.Logic.{_⊎_, inl, inr, ⊎-elim}
-use mathlib.Core.Bool.{Bool, true, false}
-use mathlib.Core.Option.{Option, none, some}
-use mathlib.Core.List.{List, [], _∷_}
+use mathlib.Core.Path.{_≡_}
+use mathlib.Core.Logic.{_⊎_}
+use mathlib.Core.Bool.{true}
+use mathlib.Core.Option.{some}
 use Rattle.rules.specs.Geometry.{Geometry, buckets}
 use Rattle.rules.specs.Place.{effective}
-use Rattle.rules.specs.Lists.{Node, Lists, newNode, hit, count}
-use Rattle.rules.specs.Wheel.{Advance, closed, poised, within, Wheel, Answer, refused, ok, handle, removed, end, expired, rescheduled, number, due}
+use Rattle.rules.specs.Lists.{Lists, newNode, hit, count}
+use Rattle.rules.specs.Wheel.{Advance, closed, poised, within, Answer, refused, ok, handle, removed, end, expired, rescheduled, number, due}
 use Rattle.rules.specs.Runs.{Run}
 use Rattle.rules.specs.Demand3.{Later}
 use Rattle.rules.proofs.Placing.{Mem, InTime, in-time-in}
@@ -19,12 +18,14 @@ use Rattle.rules.proofs.Standing.{Elsewhere, At, Bearers, Gone, at-same
 abbrev pub Due : Geometry → ℕ → ℕ → ℕ → Type 0
 Due g r t b = InTime 0 (g .shift) (g .sizes) 0 r t b
 
--- An advance from p to q has dealt with the timer, or will not come to its bucket: it is due at q, and if the advance enters a later tick, t is after q.
+-- An advance from p to q has dealt with the timer, or will not come to its bucket: it is due at q, and if the advance
+-- enters a later tick, t is after q.
 pub record Settled (g : Geometry) (p q t b : ℕ) : Type 0 where
   pub due : Due g q t b
   pub later : Later g p q → q < t
 
--- Where the timer x in the bucket b stands in an advance to q. While one is open from p, it is due at p, whatever has been pulled (abandon rests on that); and its bucket
+-- Where the timer x in the bucket b stands in an advance to q. While one is open from p, it is due at p, whatever has
+-- been pulled (abandon rests on that); and its bucket
 -- is yet to be entered, or it stands before the sentinel of the bucket that was entered last, or it is settled.
 abbrev pub Stage : Geometry → ℕ → ℕ → ℕ → ℕ → Lists → Advance → Type 0
 Stage g x t b q L closed = Due g q t b
@@ -37,7 +38,8 @@ stage-in g x t b q L closed s = omega (arith, in-time-in 0 (g .shift) (g .sizes)
 stage-in g x t b q L (poised p bs) s = omega (arith, in-time-in 0 (g .shift) (g .sizes) 0 p t b (s .0))
 stage-in g x t b q L (within p c bs) s = omega (arith, in-time-in 0 (g .shift) (g .sizes) 0 p t b (s .0))
 
--- x is armed for the entry e with the generation h and the serial n, stands in b once and in no other bucket, and no other slot bears the serial n
+-- x is armed for the entry e with the generation h and the serial n, stands in b once and in no other bucket, and no
+-- other slot bears the serial n
 pub record Timer (x e h n b : ℕ) (L : Lists) : Type 0 where
   pub at : At x (newNode b e h n) (hit b) L
   pub only : Bearers n (λ (y : ℕ). y ≡ x) L

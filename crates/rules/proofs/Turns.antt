@@ -1,16 +1,14 @@
--- A pull as a loop: after each turn, what is left to do gives the same result. Assumes nothing.
-use Prim.Native.Nat.{ℕ, zero, suc, _≤_, _<_}
+-- A pull as a loop: after each turn, what is left to do gives the same result.
+use Prim.Native.Nat.{ℕ, _≤_, _<_}
 use mathlib.Core.Path.{_≡_, refl, sym, ap, _∙_}
-use mathlib.Core.Bool.{Bool, cond}
-use mathlib.Core.Option.{Option, none, some}
+use mathlib.Core.Option.{none, some}
 use mathlib.Core.List.{List, [], _∷_}
-use lib.Dec.{leb}
 use borrow.Author.Tests.{le-leb, lt-leb}
 use Rattle.rules.specs.Geometry.{Geometry}
 use Rattle.rules.specs.Place.{bucketOf, placeOf}
-use Rattle.rules.specs.Lists.{Node, Lists, placedIn, link, release, enter, pop}
-use Rattle.rules.specs.Wheel.{Entry, Advance, closed, poised, within, Answer, end, expired, rescheduled}
-use Rattle.rules.specs.Pull.{Found, dealt, emptied, Pulled, stopped, swept, pulled}
+use Rattle.rules.specs.Lists.{Lists, placedIn, link, release, enter, pop}
+use Rattle.rules.specs.Wheel.{Entry, closed, poised, within, end, expired, rescheduled}
+use Rattle.rules.specs.Pull.{emptied, Pulled, stopped, swept, pulled}
 use Rattle.rules.proofs.Standing.{early-pop}
 
 module _ (g : Geometry) (E : ℕ → Entry) (p q : ℕ) where
@@ -44,7 +42,12 @@ module _ (g : Geometry) (E : ℕ → Entry) (p q : ℕ) where
 
       -- "Deadline at most q: freed, Expired(entry, serial, deadline)."
       pub turn-expire : (d : ℕ) → E (L .node x .entry) .deadline ≡ some d → d ≤ q
-          → pulled g E q (within p c bs) L ≡ record { answer = expired (L .node x .entry) (L .node x .serial) d; advance = within p c bs; lists = release x (pop c xs L) }
+          → pulled g E q (within p c bs) L ≡ record {
+            answer = expired (L .node x .entry) (L .node x .serial) d;
+            advance = within p c bs;
+            lists = release x
+                (pop c xs L);
+          }
       turn-expire d o i = rw (f, o, le-leb d q i)
 
       -- "Otherwise placed anew with reading q, at the back: Rescheduled(entry, serial, new place)."

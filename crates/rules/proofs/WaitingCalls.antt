@@ -1,28 +1,28 @@
--- What each call does to a waiting timer that it does not change: the timer goes on waiting, or a pull hands it out. Assumes nothing.
-use Prim.Native.Nat.{ℕ, zero, suc, _+_, _-_, _^_, _≤_, _<_}
+-- What each call does to a waiting timer that it does not change: the timer goes on waiting, or a pull hands it out.
+use Prim.Native.Nat.{ℕ, zero, suc, _≤_, _<_}
 use native.Mathlib.Omega.{arith}
 use mathlib.Core.Path.{_≡_, refl, sym, ap, subst, _∙_}
 use mathlib.Core.Logic.{_⊎_, inl, inr, ⊎-elim}
-use mathlib.Core.Bool.{Bool, true, false, cond, not}
+use mathlib.Core.Bool.{false}
 use mathlib.Core.Option.{Option, none, some}
-use mathlib.Core.List.{List, [], _∷_, _++_}
-use lib.Dec.{eqb, leb}
+use mathlib.Core.List.{List, [], _∷_}
 use borrow.Author.Tests.{eq-eqb, ne-eqb}
 use Rattle.rules.specs.Geometry.{Geometry, tick}
 use Rattle.rules.specs.Place.{bucketOf, effective}
 use Rattle.rules.specs.Visits.{visits}
-use Rattle.rules.specs.Lists.{Node, Lists, newNode, placedIn, update, hit, count, link, unlink, release, claim}
-use Rattle.rules.specs.Wheel.{Entry, Advance, closed, poised, within, Wheel, Call, create, enable, setEntry, schedule, reschedule, deschedule, start, pull, abandon, armedCount, nextDue, Answer, expired}
-use Rattle.rules.specs.Refusals.{Row, isOpen, isStale, rows, refusal}
+use Rattle.rules.specs.Lists.{Node, Lists, newNode, placedIn, update, count, link, unlink, release, claim}
+use Rattle.rules.specs.Wheel.{Advance, closed, poised, within, Wheel, Call, create, enable, setEntry, schedule, reschedule, deschedule, start, pull}
+use Rattle.rules.specs.Wheel.{abandon, armedCount, nextDue, Answer, expired}
+use Rattle.rules.specs.Refusals.{isOpen, isStale, rows, refusal}
 use Rattle.rules.specs.Pull.{Pulled, pulled}
-use Rattle.rules.specs.Calls.{withLists, withNext, withClock, withEntry, armed, rearmed, origin, act, judged, step}
+use Rattle.rules.specs.Calls.{withLists, withNext, armed, rearmed, origin, act, judged, step}
 use Rattle.rules.specs.Runs.{Run, placing, noted, answer, next}
 use Rattle.rules.specs.Demand3.{Changes, Later, handsOut}
 use Rattle.numbers.proofs.Cases.{below?, same?, not-both}
 use Rattle.rules.proofs.Counting.{hit-is, update-not}
 use Rattle.rules.proofs.Placing.{Mem, in-time-back, in-time-on, in-time-after, in-time-weak, visits-none}
 use Rattle.rules.proofs.Standing.{unlink-release, unlink-link, claim-link, serial-freed, serial-linked}
-use Rattle.rules.proofs.Timers.{Due, Settled, Stage, Timer, timer-else, Ends, Waiting, Past}
+use Rattle.rules.proofs.Timers.{Due, Stage, Timer, timer-else, Ends, Waiting, Past}
 use Rattle.rules.proofs.Pulling.{Stays, Leaves, pulled-poised, pulled-within}
 use Rattle.rules.proofs.Passing.{rest, pass, ready, fresh, handles}
 
@@ -30,7 +30,8 @@ use Rattle.rules.proofs.Passing.{rest, pass, ready, fresh, handles}
 abbrev pub led : Run → Call → Answer × Wheel → Run
 led R c r = record { wheel = r .1; placed = noted (placing c (r .0)) (R .wheel .reading) (R .placed) }
 
--- a call leaves the timer waiting, or hands it out. `late`: if its answer is End, of an advance that entered a later tick, the effective time is after the reading
+-- a call leaves the timer waiting, or hands it out. `late`: if its answer is End, of an advance that entered a later
+-- tick, the effective time is after the reading
 pub record Waits (g : Geometry) (x e h n d : ℕ) (R : Run) (c : Call) (r : Answer × Wheel) : Type 0 where
   pub waiting : Waiting g x e h n d (led R c r)
   pub quiet : handsOut n (r .0) ≡ 0
@@ -111,7 +112,8 @@ module _ (g : Geometry) (x e h n d : ℕ) (R : Run) (k : Waiting g x e h n d R) 
         late = λ z. absurd z;
       })
 
-  -- ---- reschedule, deschedule: a handle that is taken and is not the timer's is that of another slot, with another serial
+  -- ---- reschedule, deschedule: a handle that is taken and is not the timer's is that of another slot, with another
+  -- serial
   module _ (y m : ℕ) (f : (y ≡ x) × (m ≡ n) → ⊥) (s : isStale (R .wheel) y m ≡ false) where
     other : x ≡ y → ⊥
     other i =
@@ -127,7 +129,12 @@ module _ (g : Geometry) (x e h n d : ℕ) (R : Run) (k : Waiting g x e h n d R) 
 
     rearms-other : (j : ℕ) (o : Option ℕ) → isOpen (R .wheel .advance) ≡ false → Either g x e h n d R (reschedule y m j) (rearmed g (R .wheel) y o)
     rearms-other j none c =
-        inl (record { waiting = keeps (release y (unlink y (R .wheel .lists))) (R .wheel .next) (R .placed) refl c drops (omega arith); quiet = refl; late = λ z. absurd z })
+        inl (record {
+          waiting = keeps (release y (unlink y (R .wheel .lists))) (R .wheel .next) (R .placed) refl c drops (omega arith);
+          quiet = refl;
+          late =
+              λ z. absurd z;
+        })
     rearms-other j (some i) c =
         let L : Lists = R .wheel .lists in
         let b : ℕ = bucketOf g (R .wheel .reading) i in
@@ -135,7 +142,8 @@ module _ (g : Geometry) (x e h n d : ℕ) (R : Run) (k : Waiting g x e h n d R) 
         inl (record {
           waiting = keeps (link b y v (unlink y L)) (R .wheel .next) (update (R .placed) m (R .wheel .reading))
               (update-not (R .placed) m n (R .wheel .reading) (λ z. other-serial (fresh (R .wheel) y m s .2 ∙ z))) c
-              (timer-else x e h n (k .b) y L (link b y v (unlink y L)) (k .timer) (unlink-link y L b v) other (λ z. other-serial (sym (serial-linked y b v (unlink y L)) ∙ z)))
+              (timer-else x e h n (k .b) y L (link b y v (unlink y L)) (k .timer) (unlink-link y L b v) other
+              (λ z. other-serial (sym (serial-linked y b v (unlink y L)) ∙ z)))
               (omega arith);
           quiet = refl;
           late = λ z. absurd z;
@@ -191,7 +199,8 @@ module _ (g : Geometry) (x e h n d : ℕ) (R : Run) (k : Waiting g x e h n d R) 
       refused-keeps (setEntry i o m) (refusal g (R .wheel) (setEntry i o m)) (act g (R .wheel) (setEntry i o m)) (λ z. sets i o m (λ j. f j z))
   each-call (schedule i m) f =
       refused-keeps (schedule i m) (refusal g (R .wheel) (schedule i m)) (act g (R .wheel) (schedule i m))
-      (λ z. arms i m (R .wheel .entry i .deadline) (R .wheel .lists .free) refl (ready (R .wheel .enabled) (isOpen (R .wheel .advance)) (rest (rest (rest (rows g (R .wheel) (schedule i m))))) z .1))
+      (λ z. arms i m (R .wheel .entry i .deadline) (R .wheel .lists .free) refl
+      (ready (R .wheel .enabled) (isOpen (R .wheel .advance)) (rest (rest (rest (rows g (R .wheel) (schedule i m))))) z .1))
   each-call (reschedule y m j) f =
       refused-keeps (reschedule y m j) (refusal g (R .wheel) (reschedule y m j)) (act g (R .wheel) (reschedule y m j))
       (λ z.

@@ -1,16 +1,13 @@
--- 01's table of levels, and its run examples of the wheel, computed by the rules. (W1 to W9 stand in the crate worked.) Assumes nothing.
-use Prim.Native.Nat.{ℕ, _+_, _-_, _*_, _^_, _≤_, _<_}
-use native.Mathlib.Omega.{arith}
+-- 01's table of levels, and its run examples of the wheel, computed by the rules. (W1 to W9 stand in the crate worked.)
+use Prim.Native.Nat.{ℕ, _+_, _-_, _*_, _^_}
 use mathlib.Core.Path.{_≡_, refl}
-use mathlib.Core.Bool.{Bool, true}
-use mathlib.Core.Option.{Option, none, some}
+use mathlib.Core.Option.{none, some}
 use mathlib.Core.List.{List, [], _∷_}
 use Rattle.rules.specs.Geometry.{wheel01, tick, shifts, counts, buckets}
-use Rattle.rules.specs.Wheel.{Call, create, enable, setEntry, schedule, reschedule, deschedule, start, pull, abandon, armedCount, nextDue, Answer, refused, ok, handle, removed, end, expired, rescheduled, number, due}
-use Rattle.rules.specs.Runs.{Run, answers, after, next}
-use Rattle.rules.specs.Demand3.{Demand3}
+use Rattle.rules.specs.Wheel.{Call, create, enable, setEntry, schedule, reschedule, deschedule, start, pull, abandon, armedCount, nextDue, refused, ok}
+use Rattle.rules.specs.Wheel.{handle, removed, end, expired, rescheduled, number, due}
+use Rattle.rules.specs.Runs.{Run, answers, after}
 use Rattle.rules.specs.Worked.{nothing}
-use Rattle.rules.proofs.Demand3.{demand3}
 
 -- 01's table of levels
 pub table-shifts : shifts (wheel01 .shift) (wheel01 .sizes) ≡ 30 ∷ 36 ∷ 42 ∷ 47 ∷ 49 ∷ []
@@ -66,7 +63,8 @@ stepped-back-reading = refl
 pub refusals :
     answers wheel01 nothing (
     pull ∷ create 3 ∷ abandon ∷ enable 165 1 ∷ enable 166 1 ∷ enable 166 1 ∷ pull ∷ setEntry 1 none 0 ∷ schedule 1 0 ∷ schedule 0 4 ∷ schedule 0 0 ∷
-    setEntry 0 (some 9) 4 ∷ schedule 0 4 ∷ schedule 0 4 ∷ reschedule 165 4 0 ∷ reschedule 165 3 0 ∷ start 5 ∷ reschedule 165 4 0 ∷ armedCount ∷ nextDue ∷ abandon ∷
+    setEntry 0 (some 9) 4 ∷ schedule 0 4 ∷ schedule 0 4 ∷ reschedule 165 4 0 ∷ reschedule 165 3 0 ∷ start 5 ∷ reschedule 165 4 0 ∷ armedCount ∷ nextDue ∷
+    abandon ∷
     setEntry 0 none 4 ∷ nextDue ∷ reschedule 165 3 4 ∷ deschedule 165 3 4 ∷ [])
     ≡ refused 1 ∷ ok ∷ refused 1 ∷ refused 3 ∷ ok ∷ refused 2 ∷ refused 6 ∷ refused 7 ∷ refused 7 ∷ refused 8 ∷ refused 9 ∷
     ok ∷ handle 165 3 ∷ refused 10 ∷ refused 12 ∷ refused 13 ∷ ok ∷ refused 5 ∷ number 1 ∷ refused 5 ∷ ok ∷
@@ -80,17 +78,21 @@ pub spent :
 unfolding tick
 spent = refl
 
--- "One entry may be armed more than once." "The free slot taken is the last one freed; at the start the lowest, 165 first."
+-- "One entry may be armed more than once." "The free slot taken is the last one freed; at the start the lowest, 165
+-- first."
 pub armed-twice :
-    answers wheel01 new (setEntry 0 (some 10) 0 ∷ schedule 0 0 ∷ schedule 0 0 ∷ schedule 0 0 ∷ deschedule 166 8 0 ∷ deschedule 165 7 0 ∷ schedule 0 0 ∷ schedule 0 0 ∷ armedCount ∷ [])
+    answers wheel01 new (setEntry 0 (some 10) 0 ∷ schedule 0 0 ∷ schedule 0 0 ∷ schedule 0 0 ∷ deschedule 166 8 0 ∷ deschedule 165 7 0 ∷ schedule 0 0 ∷
+    schedule 0 0 ∷ armedCount ∷ [])
     ≡ ok ∷ handle 165 7 ∷ handle 166 8 ∷ handle 167 9 ∷ ok ∷ ok ∷ handle 165 10 ∷ handle 166 11 ∷ number 3 ∷ []
 unfolding tick
 armed-twice = refl
 
--- "Another create may give the same two again": the first handle of the second wheel is that of the first, and a call with it is a call on the timer that has it now
+-- "Another create may give the same two again": the first handle of the second wheel is that of the first, and a call
+-- with it is a call on the timer that has it now
 pub given-again :
     answers wheel01 new (
-    setEntry 0 (some 10) 0 ∷ schedule 0 0 ∷ create 7 ∷ enable 200 8 ∷ deschedule 165 7 0 ∷ setEntry 0 (some 20) 0 ∷ schedule 0 0 ∷ nextDue ∷ deschedule 165 7 0 ∷ nextDue ∷ [])
+    setEntry 0 (some 10) 0 ∷ schedule 0 0 ∷ create 7 ∷ enable 200 8 ∷ deschedule 165 7 0 ∷ setEntry 0 (some 20) 0 ∷ schedule 0 0 ∷ nextDue ∷ deschedule 165 7 0
+    ∷ nextDue ∷ [])
     ≡ ok ∷ handle 165 7 ∷ ok ∷ ok ∷ refused 12 ∷ ok ∷ handle 165 7 ∷ due (some 20) ∷ ok ∷ due none ∷ []
 unfolding tick
 given-again = refl
@@ -100,7 +102,8 @@ abbrev far : ℕ
 far = 2 ^ 42 + 6 * 2 ^ 36 + 9 * 2 ^ 30
 
 pub way-through :
-    answers wheel01 new (setEntry 0 (some far) 0 ∷ schedule 0 0 ∷ start (2 ^ 42) ∷ pull ∷ pull ∷ start (2 ^ 42 + 6 * 2 ^ 36) ∷ pull ∷ pull ∷ start far ∷ pull ∷ pull ∷ [])
+    answers wheel01 new (setEntry 0 (some far) 0 ∷ schedule 0 0 ∷ start (2 ^ 42) ∷ pull ∷ pull ∷ start (2 ^ 42 + 6 * 2 ^ 36) ∷ pull ∷ pull ∷ start far ∷ pull ∷
+    pull ∷ [])
     ≡ ok ∷ handle 165 7 ∷ ok ∷ rescheduled 0 7 (1 * 64 + 6) ∷ end ∷ ok ∷ rescheduled 0 7 (0 * 64 + 9) ∷ end ∷ ok ∷ expired 0 7 far ∷ end ∷ []
 unfolding tick
 way-through = refl

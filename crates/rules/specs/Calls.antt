@@ -1,24 +1,45 @@
--- What each call does: its answer and the wheel after it. 01, "Calls". Assumes nothing.
+-- What each call does: its answer and the wheel after it. 01, "Calls".
 use Prim.Native.Nat.{ℕ, zero, suc, _+_, _-_, min}
-use mathlib.Core.Bool.{Bool, true, false, cond}
+use mathlib.Core.Bool.{true, false, cond}
 use mathlib.Core.Option.{Option, none, some}
 use mathlib.Core.List.{List, [], _∷_}
 use Rattle.rules.specs.Geometry.{Geometry, buckets}
 use Rattle.rules.specs.Place.{bucketOf}
 use Rattle.rules.specs.Visits.{visits}
 use Rattle.rules.specs.Lists.{Node, Lists, newNode, placedIn, update, link, unlink, release, claim, upwards, bare}
-use Rattle.rules.specs.Wheel.{Entry, Advance, closed, poised, within, Wheel, Call, create, enable, setEntry, schedule, reschedule, deschedule, start, pull, abandon, armedCount, nextDue, Answer, refused, ok, handle, removed, number, due}
+use Rattle.rules.specs.Wheel.{Entry, Advance, closed, poised, within, Wheel, Call, create, enable, setEntry, schedule, reschedule, deschedule, start}
+use Rattle.rules.specs.Wheel.{pull, abandon, armedCount, nextDue, Answer, refused, ok, handle, removed, number, due}
 use Rattle.rules.specs.Refusals.{refusal}
 use Rattle.rules.specs.Pull.{Pulled, pulled}
 
 -- ---- a wheel with one thing changed
 abbrev pub withLists : Lists → Wheel → Wheel
 withLists L w =
-    record { enabled = w .enabled; nodes = w .nodes; entries = w .entries; reading = w .reading; next = w .next; advance = w .advance; lists = L; entry = w .entry }
+    record {
+      enabled = w .enabled;
+      nodes = w .nodes;
+      entries = w .entries;
+      reading = w .reading;
+      next = w .next;
+      advance = w .advance;
+      lists = L;
+      entry = w
+          .entry;
+    }
 
 abbrev pub withNext : ℕ → Wheel → Wheel
 withNext n w =
-    record { enabled = w .enabled; nodes = w .nodes; entries = w .entries; reading = w .reading; next = n; advance = w .advance; lists = w .lists; entry = w .entry }
+    record {
+      enabled = w .enabled;
+      nodes = w .nodes;
+      entries = w .entries;
+      reading = w .reading;
+      next = n;
+      advance = w .advance;
+      lists = w .lists;
+      entry = w
+          .entry;
+    }
 
 abbrev pub withClock : ℕ → Advance → Wheel → Wheel
 withClock r a w =
@@ -26,10 +47,20 @@ withClock r a w =
 
 abbrev pub withEntry : ℕ → Entry → Wheel → Wheel
 withEntry e v w =
-    record { enabled = w .enabled; nodes = w .nodes; entries = w .entries; reading = w .reading; next = w .next; advance = w .advance; lists = w .lists; entry = update (w .entry) e v }
+    record {
+      enabled = w .enabled;
+      nodes = w .nodes;
+      entries = w .entries;
+      reading = w .reading;
+      next = w .next;
+      advance = w .advance;
+      lists = w .lists;
+      entry = update (w .entry) e v;
+    }
 
 -- ---- arming
--- "puts a new node at the back of its bucket, answers its handle"; "serials count up by one per arming". Deadline and free chain are arguments; the first two cases are refused before.
+-- "puts a new node at the back of its bucket, answers its handle"; "serials count up by one per arming". Deadline and
+-- free chain are arguments; the first two cases are refused before.
 abbrev pub armed : Geometry → Wheel → ℕ → ℕ → Option ℕ → List ℕ → Answer × Wheel
 armed g w e h none fs = (refused 9, w)
 armed g w e h (some d) [] = (refused 10, w)
@@ -62,7 +93,8 @@ sooner none o = o
 sooner (some d) none = some d
 sooner (some d) (some c) = some (min d c)
 
--- what next due takes the least of: at a reading r, for a timer in the bucket b whose entry holds this deadline or none. Here it is the deadline.
+-- what next due takes the least of: at a reading r, for a timer in the bucket b whose entry holds this deadline or
+-- none. Here it is the deadline.
 abbrev pub dueKey : Geometry → ℕ → ℕ → Option ℕ → Option ℕ
 dueKey g r b o = o
 
@@ -82,7 +114,8 @@ act g w (create n) = (
   ok,
   record { enabled = false; nodes = 0; entries = 0; reading = 0; next = n; advance = closed; lists = bare []; entry = w .entry },
 )
--- "Enable: sentinels placed, other slots free, no open advance, each entry set to no deadline, generation 0"; "at the start the lowest, 165 first"
+-- "Enable: sentinels placed, other slots free, no open advance, each entry set to no deadline, generation 0"; "at the
+-- start the lowest, 165 first"
 act g w (enable m k) = (
   ok,
   record {

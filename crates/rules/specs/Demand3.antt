@@ -1,26 +1,32 @@
--- Demand 3: what is promised of a timer over a run of calls. The demand's words stand beside what states them. Assumes nothing.
+-- Demand 3: what is promised of a timer over a run of calls. The demand's words stand beside what states them.
 --
--- "Let only this wheel's calls write the lent records. Arm or re-arm a timer whose deadline is not in an earlier tick than the wheel's reading, and change neither
--- it nor its deadline afterwards. It stands in exactly one bucket until it is handed out. No advance to a reading before the deadline hands it out. The first
--- advance that is read to its end, goes to the deadline or later and enters a later tick than the one it started in hands it out once, unless an abandoned one
+-- "Let only this wheel's calls write the lent records. Arm or re-arm a timer whose deadline is not in an earlier tick
+-- than the wheel's reading, and change neither
+-- it nor its deadline afterwards. It stands in exactly one bucket until it is handed out. No advance to a reading
+-- before the deadline hands it out. The first
+-- advance that is read to its end, goes to the deadline or later and enters a later tick than the one it started in
+-- hands it out once, unless an abandoned one
 -- already had. Calls on other timers, refused calls, abandoned advances and a clock stepped back do not alter this."
 --
--- A timer is its slot x and serial n; e is its entry, d its deadline, R the run just after it was armed. Each part speaks of every list of calls from there on.
-use Prim.Native.Nat.{ℕ, zero, suc, _+_, _≤_, _<_}
+-- A timer is its slot x and serial n; e is its entry, d its deadline, R the run just after it was armed. Each part
+-- speaks of every list of calls from there on.
+use Prim.Native.Nat.{ℕ, _+_, _≤_, _<_}
 use mathlib.Core.Path.{_≡_}
 use mathlib.Core.Logic.{_⊎_}
 use mathlib.Core.Bool.{true}
-use mathlib.Core.Option.{Option, none, some}
+use mathlib.Core.Option.{some}
 use mathlib.Core.List.{List, [], _∷_, _++_}
 use Rattle.rules.specs.Geometry.{Geometry, tick, buckets}
 use Rattle.rules.specs.Lists.{hit, times}
-use Rattle.rules.specs.Wheel.{Advance, Wheel, Call, create, enable, setEntry, schedule, reschedule, deschedule, start, pull, abandon, armedCount, nextDue, Answer, refused, ok, handle, removed, end, expired, rescheduled, number, due}
+use Rattle.rules.specs.Wheel.{Wheel, Call, create, enable, setEntry, schedule, reschedule, deschedule, start, pull, abandon, armedCount, nextDue, Answer}
+use Rattle.rules.specs.Wheel.{refused, ok, handle, removed, end, expired, rescheduled, number, due}
 use Rattle.rules.specs.Refusals.{isOpen, refusal}
 use Rattle.rules.specs.Calls.{origin, step}
 use Rattle.rules.specs.Runs.{Run, answer, next, answers, after}
 
 -- ---- the premises
--- "Arm or re-arm": the call, at the wheel w, is a schedule that answers the handle (x, n), or a reschedule with that handle that is not refused and does not remove
+-- "Arm or re-arm": the call, at the wheel w, is a schedule that answers the handle (x, n), or a reschedule with that
+-- handle that is not refused and does not remove
 abbrev pub Arms : Geometry → Wheel → Call → ℕ → ℕ → ℕ → ℕ → Type 0
 Arms g w (create m) x n e d = ⊥
 Arms g w (enable m k) x n e d = ⊥
@@ -39,8 +45,10 @@ Arms g w nextDue x n e d = ⊥
 abbrev pub Timely : Geometry → Wheel → ℕ → Type 0
 Timely g w d = tick (g .shift) (w .reading) ≤ tick (g .shift) d
 
--- A call that would change the timer or its deadline: one with its handle; a set entry that gives its entry another deadline, or none; a create, which "begins another
--- wheel, and the timers of the former one count as changed". To set the same deadline again, with any generation, is no change.
+-- A call that would change the timer or its deadline: one with its handle; a set entry that gives its entry another
+-- deadline, or none; a create, which "begins another
+-- wheel, and the timers of the former one count as changed". To set the same deadline again, with any generation, is no
+-- change.
 abbrev pub Changes : ℕ → ℕ → ℕ → ℕ → Call → Type 0
 Changes x n e d (create m) = Unit {0}
 Changes x n e d (enable m k) = ⊥
@@ -109,7 +117,8 @@ ReadToItsEnd g R q ps = Advancing g R q ps × (answer g (after g R (start q ∷ 
 abbrev pub Abandoned : Geometry → Run → ℕ → List Call → Type 0
 Abandoned g R q ps = Advancing g R q ps × (answer g (after g R (start q ∷ ps)) abandon ≡ ok)
 
--- "an advance that is read to its end, goes to the deadline or later and enters a later tick than the one it started in"
+-- "an advance that is read to its end, goes to the deadline or later and enters a later tick than the one it started
+-- in"
 abbrev pub Full : Geometry → ℕ → Run → ℕ → List Call → Type 0
 Full g d R q ps = ReadToItsEnd g R q ps × (d ≤ q) × Later g (R .wheel .reading) q
 
@@ -139,7 +148,8 @@ pub record Demand3 (g : Geometry) (x n e d : ℕ) (R : Run) : Type 0 where
   pub notEarly :
       (cs : List Call) (q : ℕ) (ps : List Call) → Unchanged g x n e d R (cs ++ (start q ∷ ps)) → Advancing g (after g R cs) q ps → q < d
       → handed n (answers g (after g R cs) (start q ∷ ps)) ≡ 0
-  -- "The first advance that is read to its end, goes to the deadline or later and enters a later tick than the one it started in hands it out once, unless an
+  -- "The first advance that is read to its end, goes to the deadline or later and enters a later tick than the one it
+  -- started in hands it out once, unless an
   -- abandoned one already had."
   pub firstHandsOut :
       (cs : List Call) (q : ℕ) (ps : List Call) → Unchanged g x n e d R (cs ++ (start q ∷ ps)) → Full g d (after g R cs) q ps → NoneBefore g d R cs
@@ -150,7 +160,8 @@ pub record Demand3 (g : Geometry) (x n e d : ℕ) (R : Run) : Type 0 where
       → handed n (answers g R (cs ++ (start q ∷ ps))) ≡ 1
   -- It is handed out once at most.
   pub atMostOnce : (cs : List Call) → Unchanged g x n e d R cs → handed n (answers g R cs) ≤ 1
-  -- What hands it out says its entry, serial and deadline, and belongs to an advance that goes to the deadline or later and enters a later tick.
+  -- What hands it out says its entry, serial and deadline, and belongs to an advance that goes to the deadline or later
+  -- and enters a later tick.
   pub says :
       (cs : List Call) (c : Call) → Unchanged g x n e d R (cs ++ (c ∷ [])) → 0 < handsOut n (answer g (after g R cs) c)
       → (answer g (after g R cs) c ≡ expired e n d) × (d ≤ after g R cs .wheel .reading) ×

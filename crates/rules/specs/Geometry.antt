@@ -1,13 +1,15 @@
--- The geometry of a wheel: its levels, their ticks and their buckets. 01, "Times and places". Assumes nothing.
+-- The geometry of a wheel: its levels, their ticks and their buckets. 01, "Times and places".
 -- The laws hold for every first shift and every list of exponents; 01's wheel is the instance `wheel01`.
 use Prim.Native.Nat.{ℕ, zero, suc, _+_, _/_, _^_}
 use mathlib.Core.List.{List, [], _∷_}
 
--- 01's table: a level has ticks of 2 ^ s nanoseconds and 2 ^ e buckets, and the next level's tick is this one times the bucket count, 2 ^ (s + e).
+-- 01's table: a level has ticks of 2 ^ s nanoseconds and 2 ^ e buckets, and the next level's tick is this one times the
+-- bucket count, 2 ^ (s + e).
 pub record Geometry : Type 0 where
   -- the first level's tick is 2 ^ shift
   pub shift : ℕ
-  -- the exponents of the bucket counts, level by level, without the last level: that one has a single bucket (exponent 0) and no limit
+  -- the exponents of the bucket counts, level by level, without the last level: that one has a single bucket (exponent
+  -- 0) and no limit
   pub sizes : List ℕ
 
 -- "Tick is 2^" 30, 36, 42, 47, 49; "Buckets" 64, 64, 32, 4, 1
@@ -46,7 +48,8 @@ sizeOf [] l = 0
 sizeOf (e ∷ es) zero = e
 sizeOf (e ∷ es) (suc l) = sizeOf es l
 
--- Buckets are numbered level by level: how many numbers a level with 2 ^ e buckets takes. As bucket numbers have no gap, as many as it has buckets; in 01's
+-- Buckets are numbered level by level: how many numbers a level with 2 ^ e buckets takes. As bucket numbers have no
+-- gap, as many as it has buckets; in 01's
 -- "level x 64 + index", 64.
 abbrev pub dense : ℕ → ℕ
 dense e = 2 ^ e

@@ -1,4 +1,5 @@
--- The rules of the wheel, as definitions. The order is that of reading: times and places, the state, the calls, runs, demand 3. Assumes nothing.
+-- The rules of the wheel, as definitions. The order is that of reading: times and places, the state, the calls, runs,
+-- demand 3.
 pub mod Geometry
 pub mod Place
 pub mod Visits

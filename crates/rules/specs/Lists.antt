@@ -1,4 +1,5 @@
--- The buckets, the free slots and the node records of a wheel, on lists, and what is done to them. 01, "Buckets and slots". Assumes nothing.
+-- The buckets, the free slots and the node records of a wheel, on lists, and what is done to them. 01, "Buckets and
+-- slots".
 -- Buckets and nodes are functions from their number, so that nothing here speaks of lengths.
 use Prim.Native.Nat.{ℕ, zero, suc, _+_}
 use mathlib.Core.Bool.{Bool, true, false, cond}

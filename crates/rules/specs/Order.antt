@@ -1,6 +1,6 @@
--- The order of a bucket, as 01 tells it step by step. Assumes nothing.
+-- The order of a bucket, as 01 tells it step by step.
 use Prim.Native.Nat.{ℕ, zero, suc}
-use mathlib.Core.Bool.{Bool, true, false, cond}
+use mathlib.Core.Bool.{Bool, false, cond}
 use mathlib.Core.List.{List, [], _∷_, _++_}
 use lib.Dec.{eqb}
 

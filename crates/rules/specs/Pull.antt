@@ -1,20 +1,22 @@
--- What a pull does. 01, "Calls": the paragraph on the advance, and "A pull does no more than reach its answer". Assumes nothing.
-use Prim.Native.Nat.{ℕ, zero, suc}
-use mathlib.Core.Bool.{Bool, cond}
+-- What a pull does. 01, "Calls": the paragraph on the advance, and "A pull does no more than reach its answer".
+use Prim.Native.Nat.{ℕ}
+use mathlib.Core.Bool.{cond}
 use mathlib.Core.Option.{Option, none, some}
 use mathlib.Core.List.{List, [], _∷_}
 use lib.Dec.{leb}
 use Rattle.rules.specs.Geometry.{Geometry}
 use Rattle.rules.specs.Place.{bucketOf, placeOf}
-use Rattle.rules.specs.Lists.{Bucket, Node, Lists, placedIn, link, release, enter, pop}
+use Rattle.rules.specs.Lists.{Node, Lists, placedIn, link, release, enter, pop}
 use Rattle.rules.specs.Wheel.{Entry, Advance, closed, poised, within, Answer, refused, end, expired, rescheduled}
 
 -- the event that a pull has reached, if any, and the lists then
 abbrev pub Found : Type 0
 Found = Option Answer × Lists
 
--- A slot x has been popped at the reading q, which leaves the lists L; the next argument is the deadline that its entry holds.
--- "No deadline: slot freed, no event": the pull goes on as r says. "Deadline at most q: freed, Expired(entry, serial, deadline). Otherwise placed anew with
+-- A slot x has been popped at the reading q, which leaves the lists L; the next argument is the deadline that its entry
+-- holds.
+-- "No deadline: slot freed, no event": the pull goes on as r says. "Deadline at most q: freed, Expired(entry, serial,
+-- deadline). Otherwise placed anew with
 -- reading q, at the back: Rescheduled(entry, serial, new place)."
 abbrev pub dealt : Geometry → ℕ → ℕ → Option ℕ → Lists → Found → Found
 dealt g q x none L r = r

@@ -1,14 +1,15 @@
--- When a call is refused. 01, "Refusal numbers". Assumes nothing.
--- A call's refusals are an ordered list of rows, test and number, put together from stages that stand once. "Each is given exactly then, the lowest number
+-- When a call is refused. 01, "Refusal numbers".
+-- A call's refusals are an ordered list of rows, test and number, put together from stages that stand once. "Each is
+-- given exactly then, the lowest number
 -- first where several apply": the numbers of each list ascend, and the first row whose test holds gives the answer.
-use Prim.Native.Nat.{ℕ, zero, suc, _+_, _-_, _^_}
+use Prim.Native.Nat.{ℕ, _-_, _^_}
 use mathlib.Core.Bool.{Bool, true, false, cond, not}
 use mathlib.Core.Option.{Option, none, some}
 use mathlib.Core.List.{List, [], _∷_, _++_}
 use lib.Dec.{eqb, leb, ltb}
 use Rattle.rules.specs.Geometry.{Geometry, buckets}
-use Rattle.rules.specs.Lists.{Node, Lists}
-use Rattle.rules.specs.Wheel.{Entry, Advance, closed, poised, within, Wheel, Call, create, enable, setEntry, schedule, reschedule, deschedule, start, pull, abandon, armedCount, nextDue}
+use Rattle.rules.specs.Wheel.{Advance, closed, poised, within, Wheel, Call, create, enable, setEntry, schedule, reschedule, deschedule, start, pull}
+use Rattle.rules.specs.Wheel.{abandon, armedCount, nextDue}
 
 abbrev pub Row : Type 0
 Row = Bool × ℕ
@@ -20,8 +21,10 @@ pick (t ∷ ts) = cond (t .0) (t .1) (pick ts)
 
 -- ---- the stages
 -- 1, 4: all wheel calls but create and enable; then 5, or 6 for pull and abandon; armed count has neither.
--- How 4 enters: "not sound" is a property of lent records, and the code tests them. The states of this crate are what sound records stand for, and every state that calls
--- lead to from a create is sound (proofs/SoundCalls.antt, `sound-created`): so here the test for 4 is the constant false, and the code puts its own in that row.
+-- How 4 enters: "not sound" is a property of lent records, and the code tests them. The states of this crate are what
+-- sound records stand for, and every state that calls
+-- lead to from a create is sound (proofs/SoundCalls.antt, `sound-created`): so here the test for 4 is the constant
+-- false, and the code puts its own in that row.
 abbrev pub standing : Bool → Bool → List Row
 standing enabled sound = (not enabled, 1) ∷ (not sound, 4) ∷ []
 

@@ -1,18 +1,20 @@
--- Runs: lists of calls, what they answer, and what they lead to. Assumes nothing.
+-- Runs: lists of calls, what they answer, and what they lead to.
 -- A run keeps beside the wheel, for each serial, the reading at which the timer with that serial was last placed.
-use Prim.Native.Nat.{ℕ, zero, suc, _+_}
+use Prim.Native.Nat.{ℕ}
 use mathlib.Core.Option.{Option, none, some}
 use mathlib.Core.List.{List, [], _∷_}
 use Rattle.rules.specs.Geometry.{Geometry}
 use Rattle.rules.specs.Lists.{update}
-use Rattle.rules.specs.Wheel.{Wheel, Call, create, enable, setEntry, schedule, reschedule, deschedule, start, pull, abandon, armedCount, nextDue, Answer, refused, ok, handle, removed, end, expired, rescheduled, number, due}
+use Rattle.rules.specs.Wheel.{Wheel, Call, create, enable, setEntry, schedule, reschedule, deschedule, start, pull, abandon, armedCount, nextDue, Answer}
+use Rattle.rules.specs.Wheel.{refused, ok, handle, removed, end, expired, rescheduled, number, due}
 use Rattle.rules.specs.Calls.{step}
 
 pub record Run : Type 0 where
   pub wheel : Wheel
   pub placed : ℕ → ℕ
 
--- the serial of the timer that a call placed, as its answer tells: schedule, reschedule that did not remove, and a pull that rescheduled
+-- the serial of the timer that a call placed, as its answer tells: schedule, reschedule that did not remove, and a pull
+-- that rescheduled
 abbrev pub rearms : Call → Option ℕ
 rearms (create n) = none
 rearms (enable m k) = none

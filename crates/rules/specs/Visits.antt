@@ -1,5 +1,5 @@
--- Which buckets an advance visits, and its position as level and step. 01, "Calls": the paragraph on the advance. Assumes nothing.
-use Prim.Native.Nat.{ℕ, zero, suc, _+_, _-_, _%_, _^_, _≤_, _<_, min}
+-- Which buckets an advance visits, and its position as level and step. 01, "Calls": the paragraph on the advance.
+use Prim.Native.Nat.{ℕ, zero, suc, _+_, _-_, _%_, _^_, _≤_, min}
 use mathlib.Core.Path.{_≡_}
 use mathlib.Core.Logic.{_⊎_}
 use mathlib.Core.Bool.{Bool, cond}
@@ -12,8 +12,10 @@ use Rattle.rules.specs.Geometry.{Geometry, tick, shiftOf, sizeOf, dense,
 abbrev pub moves : ℕ → ℕ → ℕ → Bool
 moves s p q = ltb (tick s p) (tick s q)
 
--- "If q's tick at a level is not above p's, everything ends. Otherwise it visits buckets from p's tick to q's tick, both included, at most the level's count":
--- how many buckets an advance from p to q visits at a level with ticks of 2 ^ s and 2 ^ e buckets. All that follows goes by this number.
+-- "If q's tick at a level is not above p's, everything ends. Otherwise it visits buckets from p's tick to q's tick,
+-- both included, at most the level's count":
+-- how many buckets an advance from p to q visits at a level with ticks of 2 ^ s and 2 ^ e buckets. All that follows
+-- goes by this number.
 abbrev pub visited : ℕ → ℕ → ℕ → ℕ → ℕ
 visited s e p q = cond (moves s p q) (min (suc (tick s q - tick s p)) (2 ^ e)) 0
 
@@ -35,7 +37,8 @@ visitsFrom s (e ∷ es) base p q =
 abbrev pub visits : Geometry → ℕ → ℕ → List ℕ
 visits g p q = visitsFrom (g .shift) (g .sizes) 0 p q
 
--- ---- the position of an open advance as two numbers: `step` buckets of `level` have been entered, the last of them is the one it stands in
+-- ---- the position of an open advance as two numbers: `step` buckets of `level` have been entered, the last of them is
+-- the one it stands in
 -- how many buckets of the level it visits
 abbrev pub visitedAt : Geometry → ℕ → ℕ → ℕ → ℕ
 visitedAt g p q l = visited (shiftOf (g .shift) (g .sizes) l) (sizeOf (g .sizes) l) p q
@@ -55,6 +58,7 @@ aheadFrom s (e ∷ es) base p q (suc l) j = aheadFrom (s + e) es (base + 2 ^ e) 
 abbrev pub ahead : Geometry → ℕ → ℕ → ℕ → ℕ → List ℕ
 ahead g p q l j = aheadFrom (g .shift) (g .sizes) 0 p q l j
 
--- 01, "Sound means": "an open advance stands before its first bucket or in one that it visits". Level 0 and step 0 stand before the first bucket, for every p and q.
+-- 01, "Sound means": "an open advance stands before its first bucket or in one that it visits". Level 0 and step 0
+-- stand before the first bucket, for every p and q.
 abbrev pub SoundPosition : Geometry → ℕ → ℕ → ℕ → ℕ → Type 0
 SoundPosition g p q l j = ((l ≡ 0) × (j ≡ 0)) ⊎ ((1 ≤ j) × (j ≤ visitedAt g p q l))

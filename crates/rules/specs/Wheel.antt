@@ -1,6 +1,6 @@
--- The state of a wheel, its calls and their answers. 01, "Buckets and slots" and "Calls". Assumes nothing.
+-- The state of a wheel, its calls and their answers. 01, "Buckets and slots" and "Calls".
 use Prim.Native.Nat.{ℕ}
-use mathlib.Core.Bool.{Bool, true, false}
+use mathlib.Core.Bool.{Bool}
 use mathlib.Core.Option.{Option}
 use mathlib.Core.List.{List}
 use Rattle.rules.specs.Lists.{Lists}
@@ -10,7 +10,8 @@ pub record Entry : Type 0 where
   pub deadline : Option ℕ
   pub generation : ℕ
 
--- "any open advance": closed; or open from the reading p, before its first bucket or within the bucket b, with the buckets that it has yet to enter.
+-- "any open advance": closed; or open from the reading p, before its first bucket or within the bucket b, with the
+-- buckets that it has yet to enter.
 -- (Level and step of the clock record stand for this list: specs/Visits.antt, `ahead`.)
 pub data Advance : Type 0 where
   closed : Advance

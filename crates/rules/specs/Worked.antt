@@ -1,20 +1,31 @@
--- What 01's worked numbers of the wheel say, as tests that compute: a place, and the tick in which a deadline first fires. Assumes nothing.
+-- What 01's worked numbers of the wheel say, as tests that compute: a place, and the tick in which a deadline first
+-- fires.
 use Prim.Native.Nat.{ℕ, zero, suc, _+_, _-_, _*_, _^_}
-use mathlib.Core.Bool.{Bool, true, false, cond}
-use mathlib.Core.Option.{Option, none, some}
-use mathlib.Core.List.{List, [], _∷_}
+use mathlib.Core.Bool.{Bool, false, cond}
+use mathlib.Core.Option.{none, some}
+use mathlib.Core.List.{[], _∷_}
 use lib.Dec.{eqb}
 use Rattle.rules.specs.Geometry.{wheel01}
 use Rattle.rules.specs.Place.{placeOf}
 use Rattle.rules.specs.Lists.{bare}
-use Rattle.rules.specs.Wheel.{closed, Call, create, enable, setEntry, schedule, start, pull}
+use Rattle.rules.specs.Wheel.{closed, create, enable, setEntry, schedule, start, pull}
 use Rattle.rules.specs.Runs.{Run, answers, after}
 use Rattle.rules.specs.Demand3.{handed}
 
 -- some run to begin with: create begins another wheel over whatever it holds
 abbrev pub nothing : Run
 nothing = record {
-  wheel = record { enabled = false; nodes = 0; entries = 0; reading = 0; next = 0; advance = closed; lists = bare []; entry = λ e. record { deadline = none; generation = 0 } };
+  wheel = record {
+    enabled = false;
+    nodes = 0;
+    entries = 0;
+    reading = 0;
+    next = 0;
+    advance = closed;
+    lists = bare [];
+    entry = λ e. record
+        { deadline = none; generation = 0 };
+  };
   placed = λ n. 0;
 }
 

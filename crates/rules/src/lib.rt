@@ -1,1 +1,2 @@
-// No code: the crate holds the rules of the wheel as definitions (specs/), and the laws that follow from them (proofs/).
+// No code: the crate holds the rules of the wheel as definitions (specs/), and the laws that follow from them
+// (proofs/).

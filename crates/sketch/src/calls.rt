@@ -1,16 +1,14 @@
-// The sketch's public calls: refusals in order, then the unchecked work. Assumes nothing.
+// The sketch's public calls: refusals in order, then the unchecked work.
 ghost use mathlib.Core.Path.{_≡_};
-ghost use mathlib.Core.List.{_++_};
 ghost use Prim.Native.Nat.{_<_, _≤_};
-ghost use lib.ListN.{length, replicate, drop};
-ghost use Rattle.sketch.specs.Sound.{sampleFor};
-ghost use Rattle.sketch.specs.Calls.{unusedSketch, Ensures, Estimates, Increases};
-use crate::Ensured;
-use crate::Estimated;
-use crate::Increased;
-use crate::Sketch;
+ghost use Rattle.sketch_rules.specs.Sound.{sampleFor};
+ghost use Rattle.sketch_rules.specs.Calls.{unusedSketch, Ensures, Estimates, Increases};
 use crate::sound::is_sound;
 use crate::unchecked;
+use sketch_rules::Ensured;
+use sketch_rules::Estimated;
+use sketch_rules::Increased;
+use sketch_rules::Sketch;
 
 // The record of a sketch that is not used yet: it takes its table with the first capacity that is ensured.
 pub fn unused() -> Sketch
@@ -31,7 +29,8 @@ fn sample_for(capacity: u64) -> u64
     if capacity == 0 { 10 } else { 10 * capacity }
 }
 
-// Makes the table long enough for a capacity, if it is not already: the longer table's words are all 0 then, and the size count
+// Makes the table long enough for a capacity, if it is not already: the longer table's words are all 0 then, and the
+// size count
 // stays. Refused: 4, 15 (capacity above 65,536), 14 (the lent table is too short to grow).
 pub fn ensure_capacity(table: &mut [u64], sketch: Sketch, capacity: u64) -> Ensured
     ensures { λ r. ⌜ Ensures (now (table .entry)) sketch capacity r (now (table .exit)) ⌝ }
@@ -72,7 +71,8 @@ pub fn estimate(table: &[u64], sketch: Sketch, hash: u64) -> Estimated
     Estimated::Least(unchecked::least_count(table, used, hash))
 }
 
-// Raises the four counters of a hash that are below 15, and ages the table where the size count comes to the sample size; does
+// Raises the four counters of a hash that are below 15, and ages the table where the size count comes to the sample
+// size; does
 // nothing where the sketch is unused. Refused: 4.
 pub fn increase(table: &mut [u64], sketch: Sketch, hash: u64) -> Increased
     ensures { λ r. ⌜ Increases (now (table .entry)) sketch hash r (now (table .exit)) ⌝ }

@@ -1,10 +1,10 @@
-// Where a hash goes in a table of words: the host's function, and the work of the calls, which is unchecked and for proved code only.
-// Assumes nothing.
+// Where a hash goes in a table of words: the host's function, and the work of the calls, which is unchecked and for
+// proved code only.
 ghost use mathlib.Core.Path.{_≡_};
 ghost use Prim.Native.Nat.{_<_};
 ghost use mathlib.Core.Bool.{true};
 ghost use Rattle.numbers.specs.Powers.{isPowerTo};
-ghost use Rattle.sketch.specs.Index.{seed, Places, wordIndex};
+ghost use Rattle.sketch_rules.specs.Index.{seed, Places, wordIndex};
 
 // The seed of a depth.
 fn seed_of(depth: u64) -> u64
@@ -30,7 +30,8 @@ pub fn word_at(hash: u64, depth: u64, words: u64) -> u64
     std::num::wrapping_add_u64(x, x >> 32) & (words - 1)
 }
 
-// For the host: the word of a hash at a depth, in a table of `mask` + 1 words; 65,536 where the depth is above 3 or `mask` + 1 is
+// For the host: the word of a hash at a depth, in a table of `mask` + 1 words; 65,536 where the depth is above 3 or
+// `mask` + 1 is
 // not a power of two up to 65,536.
 #[no_mangle]
 pub extern "C" fn word_index(hash: u64, depth: u64, mask: u64) -> u64

@@ -1,7 +1,7 @@
-// The soundness test of a sketch's record against a lent table of some length. Assumes nothing.
+// The soundness test of a sketch's record against a lent table of some length.
 ghost use mathlib.Core.Path.{_≡_};
-ghost use Rattle.sketch.specs.Sound.{sound};
-use crate::Sketch;
+ghost use Rattle.sketch_rules.specs.Sound.{sound};
+use sketch_rules::Sketch;
 
 // Whether the record is sound. A power of two L is what a capacity c gives just where L / 2 < c and c <= L.
 pub fn is_sound(lent: usize, sketch: Sketch) -> bool

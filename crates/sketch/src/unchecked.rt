@@ -1,19 +1,13 @@
-// The sketch's work on a sound record, unchecked: for proved code only. Assumes nothing.
+// The sketch's work on a sound record, unchecked: for proved code only.
 ghost use mathlib.Core.Path.{_≡_};
 ghost use mathlib.Core.List.{_++_};
 ghost use Prim.Native.Nat.{_<_, _≤_, min};
 ghost use lib.ListN.{length, replicate, drop};
-ghost use Rattle.sketch.specs.Hashes.{InUse, least, raisedAt, risesAt, Counts};
-ghost use Rattle.sketch.specs.Aging.{grownSize, agedSize, Ready, Settles, Raises};
-use crate::Sketch;
+ghost use Rattle.sketch_rules.specs.Hashes.{InUse, least, raisedAt, risesAt, Counts};
+ghost use Rattle.sketch_rules.specs.Aging.{grownSize, agedSize, Ready, Settles, Raises};
 use crate::index::word_at;
-
-// What an increase did: how many of the four counters rose, whether the table was aged, and the record from now on.
-pub struct Counted {
-    pub rose: u64,
-    pub aged: bool,
-    pub sketch: Sketch,
-}
+pub use sketch_rules::Counted;
+use sketch_rules::Sketch;
 
 fn smaller(a: u64, b: u64) -> u64
     ensures { λ r. ⌜ r ≡ min a b ⌝ }
@@ -33,7 +27,7 @@ pub fn least_count(table: &[u64], used: usize, hash: u64) -> u64
     while i < 4 {
         let at = word_at(hash, i, words) as usize;
         let w = table[at];
-        best = smaller(best, counters::counter_at(w, start + i));
+        best = smaller(best, crate::counters::counter_at(w, start + i));
         i += 1;
     }
     best
@@ -47,7 +41,7 @@ fn raise_at(table: &mut [u64], at: usize, k: u64) -> u64
     ensures { λ _. ⌜ now (table .exit) ≡ raisedAt (now (table .entry)) at k ⌝ }
 {
     let w = table[at];
-    let v = counters::raise(w, k);
+    let v = crate::counters::raise(w, k);
     if v != w {
         table[at] = v;
         1
@@ -120,7 +114,7 @@ fn settle(table: &mut [u64], sketch: Sketch, size: u64, rose: u64) -> Counted
             sketch: Sketch { used, sample, size },
         };
     }
-    let odd = counters::age(table, used);
+    let odd = crate::counters::age(table, used);
     let left = aged_size(size, odd as u64);
     Counted {
         rose,

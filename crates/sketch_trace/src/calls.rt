@@ -1,10 +1,10 @@
 // The calls of the trace, on a lent table and the sketch's record.
 use crate::requests;
 use crate::requests::Request;
-use sketch::Ensured;
-use sketch::Estimated;
-use sketch::Increased;
-use sketch::Sketch;
+use sketch_rules::Ensured;
+use sketch_rules::Estimated;
+use sketch_rules::Increased;
+use sketch_rules::Sketch;
 
 // The answers, in the order of their words in `answers`; the last is no line.
 pub const OK: usize = 0;

@@ -4,10 +4,10 @@ mod answers;
 mod calls;
 mod requests;
 
-use answers::say;
-use calls::answer;
-use calls::lent;
-use requests::read;
+use crate::answers::say;
+use crate::calls::answer;
+use crate::calls::lent;
+use crate::requests::read;
 
 fn main() {
     let mut table = [0u64; 65536];

@@ -6,18 +6,18 @@ use lib.Dec.{eqb}
 use mathlib.Core.Path.{_≡_, refl, ap, _∙_}
 use mathlib.Core.Bool.{Bool, true, false, false≢true}
 use Rattle.rules.specs.Wheel.{Answer, refused, ok, handle, end, expired, rescheduled, number}
-use Rattle.records.specs.declared.Clock.{Clock}
-use Rattle.wheel_plain.specs.declared.Timed.{Timed}
-use Rattle.wheel_plain.specs.declared.Timed.the-variants.{Done, Refused as TimedRefused}
-use Rattle.wheel_plain.specs.declared.Noted.{Noted}
-use Rattle.wheel_plain.specs.declared.Noted.the-variants.{Done as Set, Refused as NotedRefused}
-use Rattle.wheel_plain.specs.declared.Scheduled.{Scheduled}
-use Rattle.wheel_plain.specs.declared.Scheduled.the-variants.{Armed, Refused as ScheduledRefused}
-use Rattle.wheel_plain.specs.declared.Pulled.{Pulled}
-use Rattle.wheel_plain.specs.declared.Pulled.the-variants.{Expired, Moved, End, Refused as PulledRefused}
-use Rattle.wheel_plain.specs.declared.Counted.{Counted}
-use Rattle.wheel_plain.specs.declared.Counted.the-variants.{Armed as Count, Refused as CountedRefused}
-use Rattle.wheel.specs.Answers.{timedSays, notedSays, scheduledSays, pulledSays, countedSays}
+use Rattle.wheel_rules.specs.declared.records.Clock.{Clock}
+use Rattle.wheel_rules.specs.declared.calls.Timed.{Timed}
+use Rattle.wheel_rules.specs.declared.calls.Timed.the-variants.{Done, Refused as TimedRefused}
+use Rattle.wheel_rules.specs.declared.calls.Noted.{Noted}
+use Rattle.wheel_rules.specs.declared.calls.Noted.the-variants.{Done as Set, Refused as NotedRefused}
+use Rattle.wheel_rules.specs.declared.calls.Scheduled.{Scheduled}
+use Rattle.wheel_rules.specs.declared.calls.Scheduled.the-variants.{Armed, Refused as ScheduledRefused}
+use Rattle.wheel_rules.specs.declared.calls.Pulled.{Pulled}
+use Rattle.wheel_rules.specs.declared.calls.Pulled.the-variants.{Expired, Moved, End, Refused as PulledRefused}
+use Rattle.wheel_rules.specs.declared.calls.Counted.{Counted}
+use Rattle.wheel_rules.specs.declared.calls.Counted.the-variants.{Armed as Count, Refused as CountedRefused}
+use Rattle.wheel_rules.specs.calls.Answers.{timedSays, notedSays, scheduledSays, pulledSays, countedSays}
 use Rattle.story.specs.Tests.{Whether, Agree}
 
 -- the answer is the expected one, or cannot be

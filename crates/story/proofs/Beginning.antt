@@ -5,13 +5,13 @@ use mathlib.Core.Bool.{Bool}
 use mathlib.Core.List.{List}
 use lib.ListN.{length}
 use Rattle.rules.specs.Wheel.{enable, Answer, ok}
-use Rattle.records.specs.declared.Clock.{Clock}
-use Rattle.records.specs.Records.{Nodes, Entries, Records, records}
-use Rattle.wheel_refuse.specs.Lent.{lent}
-use Rattle.wheel_refuse.specs.Refuse.{enableRows}
-use Rattle.wheel.specs.Work.{created, laidOut}
-use Rattle.wheel.specs.Calls.{Meets, Create}
-use Rattle.wheel_history.specs.History.{Promised}
+use Rattle.wheel_rules.specs.declared.records.Clock.{Clock}
+use Rattle.wheel_rules.specs.records.Records.{Nodes, Entries, Records, records}
+use Rattle.wheel_rules.specs.refusals.Lent.{lent}
+use Rattle.wheel_rules.specs.refusals.Refuse.{enableRows}
+use Rattle.wheel_rules.specs.calls.Work.{created, laidOut}
+use Rattle.wheel_rules.specs.calls.Calls.{Meets, Create}
+use Rattle.wheel_rules.specs.history.History.{Promised}
 use Rattle.story.proofs.Timing.{with-clock}
 
 module _ (h t n p b e g s : List ℕ) (d : List Bool) (l m : List ℕ) (k : Clock) where

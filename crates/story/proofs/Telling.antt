@@ -7,9 +7,9 @@ use Rattle.rules.specs.Wheel.{Call, create, Answer, ok}
 use Rattle.rules.specs.Runs.{Run, answer, after}
 use Rattle.rules.specs.Worked.{nothing}
 use Rattle.rules.proofs.Advances.{after-app}
-use Rattle.records.specs.Records.{Records}
-use Rattle.wheel_history.specs.History.{Tells, Promised}
-use Rattle.wheel_history.proofs.Steps.{create-is, step-is}
+use Rattle.wheel_rules.specs.records.Records.{Records}
+use Rattle.wheel_rules.specs.history.History.{Tells, Promised}
+use Rattle.wheel_rules.proofs.history.Steps.{create-is, step-is}
 use Rattle.story.specs.Story.{Reached}
 
 -- it begins with a create, whatever the records held
@@ -21,7 +21,8 @@ module _ (c : Call) {cs : List Call} {R : Records} (R′ : Records) (a : Answer)
   pub on : Reached (cs ++ (c ∷ [])) R′
   on =
       record {
-        tells = subst (λ (ρ : Run). Tells R′ (ρ .wheel)) (sym (after-app wheel01 nothing cs (c ∷ []))) (step-is c R R′ a (after wheel01 nothing cs .wheel) (r .tells) p .1);
+        tells = subst (λ (ρ : Run). Tells R′ (ρ .wheel)) (sym (after-app wheel01 nothing cs (c ∷ [])))
+            (step-is c R R′ a (after wheel01 nothing cs .wheel) (r .tells) p .1);
       }
 
   -- the same, where the records are given by an equation

@@ -2,16 +2,16 @@
 use Prim.Native.Nat.{ℕ}
 use mathlib.Core.Path.{_≡_, sym, ap, subst}
 use Rattle.rules.specs.Wheel.{Call, Answer}
-use Rattle.records.specs.declared.Clock.{Clock}
-use Rattle.records.specs.Records.{Nodes, Entries, Records, records}
-use Rattle.wheel_plain.specs.declared.Timed.{Timed}
-use Rattle.wheel_plain.specs.declared.Timed.the-variants.{Done}
-use Rattle.wheel_plain.specs.declared.Scheduled.{Scheduled}
-use Rattle.wheel_plain.specs.declared.Scheduled.the-variants.{Armed}
-use Rattle.wheel_plain.specs.declared.Pulled.{Pulled}
-use Rattle.wheel_plain.specs.declared.Pulled.the-variants.{Expired, Moved, End}
-use Rattle.wheel.specs.Answers.{timedClock, scheduledClock, pulledClock}
-use Rattle.wheel.specs.Calls.{Meets}
+use Rattle.wheel_rules.specs.declared.records.Clock.{Clock}
+use Rattle.wheel_rules.specs.records.Records.{Nodes, Entries, Records, records}
+use Rattle.wheel_rules.specs.declared.calls.Timed.{Timed}
+use Rattle.wheel_rules.specs.declared.calls.Timed.the-variants.{Done}
+use Rattle.wheel_rules.specs.declared.calls.Scheduled.{Scheduled}
+use Rattle.wheel_rules.specs.declared.calls.Scheduled.the-variants.{Armed}
+use Rattle.wheel_rules.specs.declared.calls.Pulled.{Pulled}
+use Rattle.wheel_rules.specs.declared.calls.Pulled.the-variants.{Expired, Moved, End}
+use Rattle.wheel_rules.specs.calls.Answers.{timedClock, scheduledClock, pulledClock}
+use Rattle.wheel_rules.specs.calls.Calls.{Meets}
 
 module _ (c k : Clock) where
   pub done : (a : Timed) → a ≡ Done k → k ≡ timedClock c a

@@ -6,8 +6,8 @@ use Rattle.rules.specs.Geometry.{wheel01}
 use Rattle.rules.specs.Wheel.{Call, create, enable, setEntry, schedule, deschedule, start, pull, abandon}
 use Rattle.rules.specs.Runs.{after}
 use Rattle.rules.specs.Worked.{nothing}
-use Rattle.records.specs.Records.{Records}
-use Rattle.wheel_history.specs.History.{Tells}
+use Rattle.wheel_rules.specs.records.Records.{Records}
+use Rattle.wheel_rules.specs.history.History.{Tells}
 
 -- the records stand for the wheel that these calls of the rules lead to, and are sound
 pub record Reached (calls : List Call) (R : Records) : Type 0 where

@@ -1,13 +1,13 @@
 // Whether an answer is the one that is expected: all of it but the clock.
 ghost use Rattle.rules.specs.Wheel.{ok, handle, end, expired, rescheduled, number};
 ghost use Rattle.rules.specs.Wheel as rules;
-ghost use Rattle.wheel.specs.Answers.{timedSays, notedSays, scheduledSays, pulledSays, countedSays};
+ghost use Rattle.wheel_rules.specs.calls.Answers.{timedSays, notedSays, scheduledSays, pulledSays, countedSays};
 ghost use Rattle.story.specs.Tests.{Whether, Agree};
-use wheel::Counted;
-use wheel::Noted;
-use wheel::Pulled;
-use wheel::Scheduled;
-use wheel::Timed;
+use wheel_rules::calls::Counted;
+use wheel_rules::calls::Noted;
+use wheel_rules::calls::Pulled;
+use wheel_rules::calls::Scheduled;
+use wheel_rules::calls::Timed;
 
 pub fn is_done(answer: Timed) -> bool
     ensures { λ r. ⌜ Whether (timedSays answer) ok r ⌝ }

@@ -1,18 +1,18 @@
 // The wheel's public calls on held records, each with the wheel's own promise.
 ghost use mathlib.Core.Option.{some};
 ghost use Rattle.rules.specs.Wheel.{setEntry, schedule, deschedule, start, pull, abandon, armedCount};
-ghost use Rattle.wheel.specs.Answers.{timedClock, timedSays, notedSays, scheduledSays, pulledSays, countedSays};
-ghost use Rattle.wheel_history.specs.History.{Promised};
+ghost use Rattle.wheel_rules.specs.calls.Answers.{timedClock, timedSays, notedSays, scheduledSays, pulledSays, countedSays};
+ghost use Rattle.wheel_rules.specs.history.History.{Promised};
 ghost use Rattle.story.specs.Held.{held, later};
 use crate::clocks::after_pull;
 use crate::clocks::after_schedule;
 use crate::clocks::after_timed;
 use crate::held::Held;
-use wheel::Counted;
-use wheel::Noted;
-use wheel::Pulled;
-use wheel::Scheduled;
-use wheel::Timed;
+use wheel_rules::calls::Counted;
+use wheel_rules::calls::Noted;
+use wheel_rules::calls::Pulled;
+use wheel_rules::calls::Scheduled;
+use wheel_rules::calls::Timed;
 
 // The records after a call, and its answer.
 pub struct Timing {

@@ -8,14 +8,14 @@ mod clocks; // the clock that holds after a call
 mod held; // the records
 mod making; // create, enable
 
-use chapters::abandon_one;
-use chapters::arm;
-use chapters::begin;
-use chapters::cancel_another;
-use chapters::come_too_early;
-use chapters::count_none;
-use chapters::hand_out;
-use chapters::step_back;
+use crate::chapters::abandon_one;
+use crate::chapters::arm;
+use crate::chapters::begin;
+use crate::chapters::cancel_another;
+use crate::chapters::come_too_early;
+use crate::chapters::count_none;
+use crate::chapters::hand_out;
+use crate::chapters::step_back;
 
 fn main() {
     let begun = begin();

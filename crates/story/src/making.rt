@@ -1,7 +1,7 @@
 // Create and enable on held records, each with the wheel's own promise.
 ghost use Rattle.rules.specs.Wheel.{create, enable, ok};
-ghost use Rattle.wheel.specs.Answers.{timedSays};
-ghost use Rattle.wheel_history.specs.History.{Promised};
+ghost use Rattle.wheel_rules.specs.calls.Answers.{timedSays};
+ghost use Rattle.wheel_rules.specs.history.History.{Promised};
 ghost use Rattle.story.specs.Held.{held};
 use crate::calls::Timing;
 use crate::clocks::after_timed;

@@ -1,13 +1,14 @@
 // Schedule: refusals in order, then the work. No `requires`. A refused call leaves every record as found.
-ghost use Rattle.wheel_refuse.specs.Lent.{lent};
-ghost use Rattle.wheel_plain.specs.Answers.{scheduledClock};
-ghost use Rattle.wheel_plain.specs.Calls.{Schedule};
-use records::Clock;
-use records_timers::timers::arm;
-use wheel_plain::Scheduled;
-use wheel_refuse::schedule_refusal;
+ghost use Rattle.wheel_rules.specs.calls.Answers.{scheduledClock};
+ghost use Rattle.wheel_rules.specs.calls.Calls.{Schedule};
+ghost use Rattle.wheel_rules.specs.refusals.Lending.{before, after};
+use wheel_refusals::schedule_refusal;
+use wheel_rules::calls::Scheduled;
+use wheel_rules::records::Clock;
+use wheel_timers::timers::arm;
 
-// Puts a new node for the entry e, whose generation is h, at the back of its bucket. Answers the handle, or refuses (1, 4, 5, 7 to 11).
+// Puts a new node for the entry e, whose generation is h, at the back of its bucket. Answers the handle, or refuses (1,
+// 4, 5, 7 to 11).
 pub fn schedule(
     heads: &mut [usize],
     tails: &mut [usize],
@@ -24,7 +25,9 @@ pub fn schedule(
     e: usize,
     h: u32,
 ) -> Scheduled
-    ensures { λ r. ⌜ Schedule (lent (now (heads .entry)) (now (tails .entry)) (now (next .entry)) (now (prev .entry)) (now (bucket .entry)) (now (entry .entry)) (now (generation .entry)) (now (serial .entry)) (now (dated .entry)) (now (deadline .entry)) (now (stamp .entry)) clock) (lent (now (heads .exit)) (now (tails .exit)) (now (next .exit)) (now (prev .exit)) (now (bucket .exit)) (now (entry .exit)) (now (generation .exit)) (now (serial .exit)) (now (dated .entry)) (now (deadline .entry)) (now (stamp .entry)) (scheduledClock clock r)) e h r ⌝ }
+    ensures { λ r. ⌜ Schedule
+        (before heads tails next prev bucket entry generation serial dated deadline stamp clock)
+        (after heads tails next prev bucket entry generation serial dated deadline stamp (scheduledClock clock r)) e h r ⌝ }
 {
     let no = schedule_refusal(
         heads,

@@ -1,12 +1,12 @@
 // Pull: refusals in order, then the work. No `requires`. A refused call leaves every record as found.
-ghost use Rattle.wheel_refuse.specs.Lent.{lent};
-ghost use Rattle.wheel_plain.specs.Answers.{pulledClock, TellsEvent};
-ghost use Rattle.wheel_plain.specs.Calls.{Pull};
-use advance::pull;
-use popping::pop;
-use records::Clock;
-use wheel_plain::Pulled;
-use wheel_refuse::open_refusal;
+ghost use Rattle.wheel_rules.specs.calls.Answers.{pulledClock, TellsEvent};
+ghost use Rattle.wheel_rules.specs.calls.Calls.{Pull};
+ghost use Rattle.wheel_rules.specs.refusals.Lending.{before, after};
+use wheel_advance::pop;
+use wheel_advance::pull;
+use wheel_refusals::open_refusal;
+use wheel_rules::calls::Pulled;
+use wheel_rules::records::Clock;
 
 // The event or End, and the clock then, as an answer.
 fn told(event: pop::Pulled, clock: Clock) -> Pulled
@@ -37,7 +37,8 @@ fn told(event: pop::Pulled, clock: Clock) -> Pulled
     }
 }
 
-// One event of the open advance, or End, which closes it and keeps its reading. It does no more than reach its answer. Refuses (1, 4, 6).
+// One event of the open advance, or End, which closes it and keeps its reading. It does no more than reach its answer.
+// Refuses (1, 4, 6).
 pub fn pull(
     heads: &mut [usize],
     tails: &mut [usize],
@@ -52,7 +53,9 @@ pub fn pull(
     stamp: &[u32],
     clock: Clock,
 ) -> Pulled
-    ensures { λ r. ⌜ Pull (lent (now (heads .entry)) (now (tails .entry)) (now (next .entry)) (now (prev .entry)) (now (bucket .entry)) (now (entry .entry)) (now (generation .entry)) (now (serial .entry)) (now (dated .entry)) (now (deadline .entry)) (now (stamp .entry)) clock) (lent (now (heads .exit)) (now (tails .exit)) (now (next .exit)) (now (prev .exit)) (now (bucket .exit)) (now (entry .exit)) (now (generation .exit)) (now (serial .exit)) (now (dated .entry)) (now (deadline .entry)) (now (stamp .entry)) (pulledClock clock r)) r ⌝ }
+    ensures { λ r. ⌜ Pull
+        (before heads tails next prev bucket entry generation serial dated deadline stamp clock)
+        (after heads tails next prev bucket entry generation serial dated deadline stamp (pulledClock clock r)) r ⌝ }
 {
     let no = open_refusal(
         heads,

@@ -4,13 +4,13 @@ use crate::state::State;
 use crate::state::answer;
 use crate::state::plain;
 use crate::state::timed;
-use wheel::Counted;
-use wheel::Due;
-use wheel::Noted;
-use wheel::Pulled;
-use wheel::Rescheduled;
-use wheel::Scheduled;
-use wheel::Timed;
+use wheel_rules::calls::Counted;
+use wheel_rules::calls::Due;
+use wheel_rules::calls::Noted;
+use wheel_rules::calls::Pulled;
+use wheel_rules::calls::Rescheduled;
+use wheel_rules::calls::Scheduled;
+use wheel_rules::calls::Timed;
 
 fn refused(s: State, n: u64) -> State {
     answer(s, answers::REFUSED, 1, n, 0, 0)

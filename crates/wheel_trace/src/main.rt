@@ -13,14 +13,14 @@ mod turns; // start, abandon, armed, due
 mod words; // a word's place in a table of words
 mod work; // the wheel's calls on the records that are lent
 
-use making::change;
-use requests::Request;
-use requests::request_of;
-use shows::look;
-use state::State;
-use state::at_start;
-use state::said;
-use work::work_lent;
+use crate::making::change;
+use crate::requests::Request;
+use crate::requests::request_of;
+use crate::shows::look;
+use crate::state::State;
+use crate::state::at_start;
+use crate::state::said;
+use crate::work::work_lent;
 
 fn main() {
     let mut heads = [4096usize; 165];

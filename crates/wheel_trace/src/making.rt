@@ -79,7 +79,7 @@ fn aside(s: State, r: Request) -> State {
 }
 
 fn placed(s: State, r: Request) -> State {
-    let at = place::wheel_place(r.index as u64, r.second);
+    let at = wheel_timers::place::wheel_place(r.index as u64, r.second);
     answer(s, answers::PLACE, 1, at, 0, 0)
 }
 

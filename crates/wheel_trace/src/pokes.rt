@@ -3,7 +3,7 @@ use crate::answers;
 use crate::requests::Request;
 use crate::state::State;
 use crate::state::plain;
-use records::Clock;
+use wheel_rules::records::Clock;
 
 // `poke-node S FIELD V`.
 pub fn poke_node(

@@ -8,7 +8,8 @@ use crate::words::found;
 use lines::Kind;
 use lines::Source;
 
-// What a line asks for: a call, its first field as an index, the numbers of the second and the third, the generation among
+// What a line asks for: a call, its first field as an index, the numbers of the second and the third, the generation
+// among
 // them, and whether the second is no dash.
 pub struct Request {
     pub call: u64,
@@ -19,7 +20,8 @@ pub struct Request {
     pub dated: bool,
 }
 
-// The calls' numbers. Those with one part stand in the first ten, those with two in the second, and so on; a field that is
+// The calls' numbers. Those with one part stand in the first ten, those with two in the second, and so on; a field that
+// is
 // poked is a call of its own.
 pub const PULL: u64 = 0;
 
@@ -76,7 +78,8 @@ pub const SILENT: u64 = 98;
 // No call of the table.
 pub const BAD: u64 = 99;
 
-// What the line that was found asks for, if there was one. Before the first lend every call but `place` and `lend` is none.
+// What the line that was found asks for, if there was one. Before the first lend every call but `place` and `lend` is
+// none.
 pub fn request_of(line: &[u8], source: Source, lent: bool) -> Request {
     let more = source.more;
     if !more {

@@ -7,7 +7,7 @@ use crate::requests::Request;
 use crate::state::State;
 use crate::state::answer;
 use crate::state::shown;
-use records::Clock;
+use wheel_rules::records::Clock;
 
 // `clock`, `bucket`, `dump` or `digest`.
 pub fn look(
@@ -50,7 +50,8 @@ pub fn look(
     }
 }
 
-// A line of the dump: its word, and how many of the values it has. Those from `from` up to `upto` are links, which may be none.
+// A line of the dump: its word, and how many of the values it has. Those from `from` up to `upto` are links, which may
+// be none.
 pub struct Row {
     pub word: usize,
     pub values: [u64; 10],

@@ -4,9 +4,10 @@ use crate::answers::Reply;
 use crate::answers::reply_of;
 use crate::answers::say;
 use lines::Source;
-use records::Clock;
+use wheel_rules::records::Clock;
 
-// Whether records were lent, how many node records and entries, the clock, how many bytes of answers wait, and the answer
+// Whether records were lent, how many node records and entries, the clock, how many bytes of answers wait, and the
+// answer
 // that is to be said.
 pub struct State {
     pub lent: bool,

@@ -1,3 +1,3 @@
--- The worked numbers of 01 that are marked W and S. Assumes nothing.
+-- The worked numbers of 01 that are marked W and S.
 pub mod Rows
 pub mod Right

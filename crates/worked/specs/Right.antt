@@ -1,19 +1,19 @@
--- Each row of the worked numbers is right: one test, computed over the whole table from the definitions that the promises cite.
--- Assumes nothing.
+-- Each row of the worked numbers is right: one test, computed over the whole table from the definitions that the
+-- promises cite.
 use Prim.Native.Nat.{ℕ}
 use mathlib.Core.Bool.{Bool, true, false, _&&_}
 use mathlib.Core.List.{List, [], _∷_, map}
 use lib.ListN.{length, replicate}
 use lib.Dec.{T, eqb}
 use Rattle.numbers.specs.Powers.{isPowerTo, powerFor}
-use Rattle.counters.specs.Counters.{counter, word, total, raised, halved, odds}
-use Rattle.counters.specs.Tables.{halvedTo, oddsTo}
-use Rattle.sketch.specs.Index.{product, folded, wordAt}
-use Rattle.sketch.specs.Hashes.{counted, rose}
-use Rattle.sketch.specs.Sound.{sound}
-use Rattle.sketch.specs.Aging.{increasedTable, increasedSketch}
-use Rattle.sketch.specs.Calls.{unusedSketch, ensureRefusal, ensuredTable, ensuredSketch, standing}
-use Rattle.sketch.specs.Histories.{Call, ensureCapacity, increaseHash, Held, run}
+use Rattle.sketch_rules.specs.Counters.{counter, word, total, raised, halved, odds}
+use Rattle.sketch_rules.specs.Tables.{halvedTo, oddsTo}
+use Rattle.sketch_rules.specs.Index.{product, folded, wordAt}
+use Rattle.sketch_rules.specs.Hashes.{counted, rose}
+use Rattle.sketch_rules.specs.Sound.{sound}
+use Rattle.sketch_rules.specs.Aging.{increasedTable, increasedSketch}
+use Rattle.sketch_rules.specs.Calls.{unusedSketch, ensureRefusal, ensuredTable, ensuredSketch, standing}
+use Rattle.sketch_rules.specs.Histories.{ensureCapacity, increaseHash, Held, run}
 use Rattle.rules.specs.Geometry.{tick}
 use Rattle.rules.specs.Worked.{isPlaced, firesFirst}
 use Rattle.worked.specs.Rows.{Row, placed, fires, sketched, rows}
@@ -40,5 +40,6 @@ allRight [] = true
 allRight (r ∷ rs) = isRight r && allRight rs
 
 pub all-right : T (allRight rows)
-unfolding tick isPowerTo powerFor counter word total raised halved odds halvedTo oddsTo product folded wordAt counted rose sound increasedTable increasedSketch ensureRefusal ensuredTable ensuredSketch standing
+unfolding tick isPowerTo powerFor counter word total raised halved odds halvedTo oddsTo product folded wordAt counted rose sound increasedTable increasedSketch
+    ensureRefusal ensuredTable ensuredSketch standing
 all-right = tt

@@ -1,4 +1,4 @@
--- 01, "Worked numbers": the rows that are proved together. Assumes nothing.
+-- 01, "Worked numbers": the rows that are proved together.
 use Prim.Native.Nat.{ℕ, _-_, _*_, _^_}
 use mathlib.Core.List.{List, [], _∷_, _++_}
 use lib.ListN.{replicate}
@@ -9,7 +9,8 @@ pub data Row : Type 0 where
   placed : (reading deadline level index : ℕ) → Row
   -- armed at a reading, a deadline fires at the first reading of this tick, and at the last reading of no earlier one
   fires : (reading deadline tick : ℕ) → Row
-  -- a sketch of a capacity, on a lent table of as many words as the row has, after increases of these hashes: the words and the size count
+  -- a sketch of a capacity, on a lent table of as many words as the row has, after increases of these hashes: the words
+  -- and the size count
   sketched : (capacity : ℕ) (hashes words : List ℕ) (size : ℕ) → Row
 
 abbrev pub rows : List Row

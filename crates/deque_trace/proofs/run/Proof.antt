@@ -9,11 +9,14 @@ use Rattle.deque_trace.proofs.run.Statement.{statement}
 use Rattle.deque_trace.proofs.run.Tie as tie
 
 abbrev Inv-loop : tie.InvT-loop
-Inv-loop heads₀ tails₀ lens₀ cursors₀ next₀ prev₀ home₀ element₀ block₀ line₀ out₀ source₀ state₀ waiting₀ turns₀ heads tails lens cursors next prev home element block line out source state waiting turns =
-    ((state .deques ≤ 256) × (state .nodes ≤ 4096)) × ((length heads ≡ 256) × (length tails ≡ 256) × (length lens ≡ 256) × (length cursors ≡ 256) × (length next ≡ 4096) × (length prev ≡ 4096) × (length home ≡ 4096) × (length element ≡ 4096))
+Inv-loop heads₀ tails₀ lens₀ cursors₀ next₀ prev₀ home₀ element₀ block₀ line₀ out₀ source₀ state₀ waiting₀ turns₀ heads tails lens cursors next prev home
+    element block line out source state waiting turns =
+    ((state .deques ≤ 256) × (state .nodes ≤ 4096)) × ((length heads ≡ 256) × (length tails ≡ 256) × (length lens ≡ 256) × (length cursors ≡ 256) ×
+    (length next ≡ 4096) × (length prev ≡ 4096) × (length home ≡ 4096) × (length element ≡ 4096))
 
 abbrev μ-loop : tie.MeasureT-loop
-μ-loop heads₀ tails₀ lens₀ cursors₀ next₀ prev₀ home₀ element₀ block₀ line₀ out₀ source₀ state₀ waiting₀ turns₀ heads tails lens cursors next prev home element block line out source state waiting turns =
+μ-loop heads₀ tails₀ lens₀ cursors₀ next₀ prev₀ home₀ element₀ block₀ line₀ out₀ source₀ state₀ waiting₀ turns₀ heads tails lens cursors next prev home element
+    block line out source state waiting turns =
     turns
 
 begin-requires : tie.Need-begin-requires Inv-loop μ-loop
@@ -90,7 +93,8 @@ settle-requires c κs = search needs
 
 after-requires : tie.Need-after-requires Inv-loop μ-loop
 after-requires c κs =
-    let p = c .before .before .before .before .before .before .before .before .before .before .before .before .before .before .before .before .before .before .before .before .before .before .before .before .before .before .before .before .before .before .before .before in
+    let p = c .before .before .before .before .before .before .before .before .before .before .before .before .before .before .before .before .before .before
+    .before .before .before .before .before .before .before .before .before .before .before .before .before .before in
     let l = p .before .before .before .before .before .before .before .loop .inv .0 in
     (l .0, l .1, p .planned .ensures .0, p .planned .ensures .1)
 
@@ -98,11 +102,15 @@ turns-left-requires : tie.Need-turns-left-requires Inv-loop μ-loop
 turns-left-requires c κs = search needs
 
 loop-less : tie.Need-loop-less Inv-loop μ-loop
-loop-less c = c .turns-left .ensures .less (c .before .before .before .before .before .before .before .before .before .before .before .before .before .before .before .before .before .before .before .before .before .before .before .before .before .before .before .before .before .before .before .before .before .before .before .before .before .before .before .before .loop-test .taken)
+loop-less c = c .turns-left .ensures .less (c .before .before .before .before .before .before .before .before .before .before .before .before .before .before
+    .before .before .before .before .before .before .before .before .before .before .before .before .before .before .before .before .before .before .before
+    .before .before .before .before .before .before .before .loop-test .taken)
 
 loop-again : tie.Need-loop-again Inv-loop μ-loop
 loop-again c =
-    let l = c .before .before .before .before .before .before .before .before .before .before .before .before .before .before .before .before .before .before .before .before .before .before .before .before .before .before .before .before .before .before .before .before .before .before .before .before .before .before .before .before .before .loop .inv .1 in
+    let l = c .before .before .before .before .before .before .before .before .before .before .before .before .before .before .before .before .before .before
+    .before .before .before .before .before .before .before .before .before .before .before .before .before .before .before .before .before .before .before
+    .before .before .before .before .loop .inv .1 in
     let element = c .before .before .before .before .before .before .before .before in
     let home = element .before .before in
     let prev = home .before .before in
@@ -110,8 +118,19 @@ loop-again c =
     let cursors = next .before .before in
     let lens = cursors .before .before in
     let tails = lens .before .before in
-    let heads = tails .before .before in
-    (c .before .after .ensures, (heads .heads .given .1 ∙ l .0, tails .tails .given .1 ∙ l .1, lens .lens .given .1 ∙ l .2, cursors .cursors .given .1 ∙ l .3, next .next .given .1 ∙ l .4, prev .prev .given .1 ∙ l .5, home .home .given .1 ∙ l .6, element .element .given .1 ∙ l .7))
+    let heads = tails .before .before in (
+      c .before .after .ensures,
+      (
+        heads .heads .given .1 ∙ l .0,
+        tails .tails .given .1 ∙ l .1,
+        lens .lens .given .1 ∙ l .2,
+        cursors .cursors .given .1 ∙ l .3,
+        next .next .given .1 ∙ l .4,
+        prev .prev .given .1 ∙ l .5,
+        home .home .given .1 ∙ l .6,
+        element .element .given .1 ∙ l .7,
+      ),
+    )
 
 flush-requires : tie.Need-flush-requires Inv-loop μ-loop
 flush-requires c κs = search needs

@@ -1,8 +1,8 @@
--- `block_end` meets its contract. Assumes nothing.
+-- `block_end` meets its contract.
 use mathlib.Core.Path.{sym}
 use native.Mathlib.Omega.{arith}
 use borrow.Author.Needs.{needs}
-use Rattle.nodes.proofs.Using.{ends-last, ends-short}
+use Rattle.face_rules.proofs.nodes.Using.{ends-last, ends-short}
 use Rattle.nodes.proofs.block_end.Statement.{statement}
 use Rattle.nodes.proofs.block_end.Tie as tie
 

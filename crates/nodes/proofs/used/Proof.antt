@@ -1,6 +1,6 @@
--- `used` meets its contract. Assumes nothing.
+-- `used` meets its contract.
 use mathlib.Core.Path.{sym}
-use Rattle.nodes.proofs.Using.{used-all, used-none}
+use Rattle.face_rules.proofs.nodes.Using.{used-all, used-none}
 use Rattle.nodes.proofs.used.Statement.{statement}
 use Rattle.nodes.proofs.used.Tie as tie
 

@@ -1,4 +1,4 @@
--- `numbers::is_power` meets its contract. Assumes nothing.
+-- `numbers::is_power` meets its contract.
 use mathlib.Core.Path.{sym}
 use native.Mathlib.Omega.{arith}
 use borrow.Author.Needs.{needs}

@@ -1,11 +1,11 @@
 -- `numbers::power_for` meets its contract. The loop's invariant: the power is 2 ^ exponent, and its half is below n.
--- The measure is what is left of the exponent. Assumes nothing.
+-- The measure is what is left of the exponent.
 use mathlib.Core.Path.{_≡_, refl, sym, ap, _∙_}
 use mathlib.Core.Logic.{_⊎_, inl, inr}
-use Prim.Native.Nat.{ℕ, suc, _+_, _-_, _*_, _^_, _≤_, _<_}
+use Prim.Native.Nat.{ℕ, _+_, _-_, _*_, _^_, _≤_, _<_}
 use native.Mathlib.Omega.{arith}
 use native.Mathlib.Numerals.{add-one}
-use native.Mathlib.Nat.{pow-suc, le-antisymm}
+use native.Mathlib.Nat.{pow-suc}
 use lib.Pow.{pow-mono}
 use borrow.Author.Needs.{needs}
 use Rattle.numbers.specs.Powers.{powerFor}

@@ -1,6 +1,6 @@
--- `numbers::wrapping_mul` meets its contract. Assumes nothing.
+-- `numbers::wrapping_mul` meets its contract.
 use mathlib.Core.Path.{_∙_, ap}
-use Prim.Native.Nat.{ℕ, _+_, _*_, _/_, _%_, _^_}
+use Prim.Native.Nat.{ℕ, _+_, _*_, _%_, _^_}
 use borrow.Author.Needs.{needs}
 use native.Mathlib.Nat.{mod-lt}
 use lib.Pow.{shr-lt, pow-pos}

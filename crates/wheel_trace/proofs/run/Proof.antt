@@ -6,10 +6,12 @@ use Rattle.wheel_trace.proofs.run.Statement.{statement}
 use Rattle.wheel_trace.proofs.run.Tie as tie
 
 abbrev Inv-loop : tie.InvT-loop
-Inv-loop heads₀ tails₀ next₀ prev₀ bucket₀ entry₀ generation₀ serial₀ dated₀ deadline₀ stamp₀ block₀ line₀ out₀ source₀ p₀ turns₀ heads tails next prev bucket entry generation serial dated deadline stamp block line out source p turns = 0 ≤ turns
+Inv-loop heads₀ tails₀ next₀ prev₀ bucket₀ entry₀ generation₀ serial₀ dated₀ deadline₀ stamp₀ block₀ line₀ out₀ source₀ p₀ turns₀ heads tails next prev bucket
+    entry generation serial dated deadline stamp block line out source p turns = 0 ≤ turns
 
 abbrev μ-loop : tie.MeasureT-loop
-μ-loop heads₀ tails₀ next₀ prev₀ bucket₀ entry₀ generation₀ serial₀ dated₀ deadline₀ stamp₀ block₀ line₀ out₀ source₀ p₀ turns₀ heads tails next prev bucket entry generation serial dated deadline stamp block line out source p turns = turns
+μ-loop heads₀ tails₀ next₀ prev₀ bucket₀ entry₀ generation₀ serial₀ dated₀ deadline₀ stamp₀ block₀ line₀ out₀ source₀ p₀ turns₀ heads tails next prev bucket
+    entry generation serial dated deadline stamp block line out source p turns = turns
 
 begin-requires : tie.Need-begin-requires Inv-loop μ-loop
 begin-requires c κs = search needs
@@ -36,7 +38,11 @@ turns-left-requires : tie.Need-turns-left-requires Inv-loop μ-loop
 turns-left-requires c κs = search needs
 
 loop-less : tie.Need-loop-less Inv-loop μ-loop
-loop-less c = c .turns-left .ensures .less (omega (arith, c .before .before .before .before .before .before .before .before .before .before .before .before .before .before .before .before .before .before .before .before .before .before .loop-test))
+loop-less c = c .turns-left .ensures .less (omega (
+  arith,
+  c .before .before .before .before .before .before .before .before .before .before .before .before
+      .before .before .before .before .before .before .before .before .before .before .loop-test,
+))
 
 loop-again : tie.Need-loop-again Inv-loop μ-loop
 loop-again c = omega arith

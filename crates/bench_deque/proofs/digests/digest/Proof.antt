@@ -1,4 +1,5 @@
--- `digest` is safe and ends on any links. Nothing has to hold from turn to turn; the measure is the number of nodes that may still come.
+-- `digest` is safe and ends on any links. Nothing has to hold from turn to turn; the measure is the number of nodes
+-- that may still come.
 use borrow.Author.Needs.{needs}
 use Rattle.bench_deque.proofs.digests.digest.Statement.{statement}
 use Rattle.bench_deque.proofs.digests.digest.Tie as tie

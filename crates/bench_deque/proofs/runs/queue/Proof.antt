@@ -3,18 +3,22 @@ use native.Mathlib.Omega.{arith}
 use mathlib.Core.Path.{_≡_, _∙_}
 use lib.ListN.{length}
 use borrow.Author.Needs.{needs}
-use Rattle.deque_sound.specs.State.{state}
+use Rattle.deque_rules.specs.alone.State.{state}
 use Rattle.bench_deque.specs.Ready.{Ready}
 use Rattle.bench_deque.proofs.Standing.{held-asks, left-asks, turned-ready}
 use Rattle.bench_deque.proofs.runs.queue.Statement.{statement}
 use Rattle.bench_deque.proofs.runs.queue.Tie as tie
 
 abbrev Inv-loop : tie.InvT-loop
-Inv-loop heads₀ tails₀ lens₀ cursors₀ next₀ prev₀ home₀ element₀ free calls first spare₀ sum₀ x₀ left₀ heads tails lens cursors next prev home element spare sum x left =
-    Ready (state heads tails lens cursors next prev home element) spare × ((length heads ≡ length heads₀) × (length tails ≡ length tails₀) × (length lens ≡ length lens₀) × (length cursors ≡ length cursors₀) × (length next ≡ length next₀) × (length prev ≡ length prev₀) × (length home ≡ length home₀) × (length element ≡ length element₀))
+Inv-loop heads₀ tails₀ lens₀ cursors₀ next₀ prev₀ home₀ element₀ free calls first spare₀ sum₀ x₀ left₀ heads tails lens cursors next prev home element spare
+    sum x left =
+    Ready (state heads tails lens cursors next prev home element) spare ×
+    ((length heads ≡ length heads₀) × (length tails ≡ length tails₀) × (length lens ≡ length lens₀) × (length cursors ≡ length cursors₀) ×
+    (length next ≡ length next₀) × (length prev ≡ length prev₀) × (length home ≡ length home₀) × (length element ≡ length element₀))
 
 abbrev μ-loop : tie.MeasureT-loop
-μ-loop heads₀ tails₀ lens₀ cursors₀ next₀ prev₀ home₀ element₀ free calls first spare₀ sum₀ x₀ left₀ heads tails lens cursors next prev home element spare sum x left =
+μ-loop heads₀ tails₀ lens₀ cursors₀ next₀ prev₀ home₀ element₀ free calls first spare₀ sum₀ x₀ left₀ heads tails lens cursors next prev home element spare sum
+    x left =
     left
 
 loop-holds : tie.Need-loop-holds Inv-loop μ-loop
@@ -67,7 +71,8 @@ release-requires c κs =
 
 push-requires : tie.Need-push-requires Inv-loop μ-loop
 push-requires c κs =
-    let r = c .before .before .before .before .before .before .before .before .before .before .before .before .before .before .before .before .before .before .before .before .before .before .before .before in
+    let r = c .before .before .before .before .before .before .before .before .before .before .before .before .before .before .before .before .before .before
+    .before .before .before .before .before .before in
     let e = r .before .before .before .before .before .before .before .before .before in
     let h = e .before in
     let l = h .before .before .before .before .before .loop .inv .0 in
@@ -78,16 +83,44 @@ wrapping-add-u64-requires c κs = search needs
 
 loop-less : tie.Need-loop-less Inv-loop μ-loop
 loop-less c =
-    let r = c .before .before .before .before .before .before .before .before .before .before .before .before .before .before .before .before .before .before .before .before .before .before .before .before .before .before .before .before .before .before .before .before .before .before .before .before .before .before .before .before in
+    let r = c .before .before .before .before .before .before .before .before .before .before .before .before .before .before .before .before .before .before
+    .before .before .before .before .before .before .before .before .before .before .before .before .before .before .before .before .before .before .before
+    .before .before .before in
     let t = r .before .before .before .before .before .before .before .before .before .before .before .before .before .before in
     omega (arith, t .loop-test .taken)
 
 loop-again : tie.Need-loop-again Inv-loop μ-loop
 loop-again c =
     let p = c .before .before .before .before .before .before .before .before .before .before .before .before .before .before .before in
-    let r = p .before .before .before .before .before .before .before .before .before .before .before .before .before .before .before .before .before .before .before .before .before .before .before .before .before in
-    let l = r .before .before .before .before .before .before .before .before .before .before .before .before .before .before .before .loop .inv in
-    (turned-ready _ _ _ _ _ _ _ _ (l .0) (r .release .ensures) (p .push .ensures), (c .before .before .before .before .before .before .before .before .before .before .before .before .before .before .heads2 .given ∙ (p .before .before .before .before .before .before .before .before .before .before .before .before .before .before .before .before .before .before .before .before .before .before .before .before .heads .given ∙ l .1 .0), c .before .before .before .before .before .before .before .before .before .before .before .before .tails2 .given ∙ (p .before .before .before .before .before .before .before .before .before .before .before .before .before .before .before .before .before .before .before .before .before .before .tails .given ∙ l .1 .1), c .before .before .before .before .before .before .before .before .before .before .lens2 .given ∙ (p .before .before .before .before .before .before .before .before .before .before .before .before .before .before .before .before .before .before .before .before .lens .given ∙ l .1 .2), p .before .before .before .before .before .before .before .before .before .before .before .before .before .before .before .before .before .before .cursors .given ∙ l .1 .3, c .before .before .before .before .before .before .before .before .next2 .given ∙ (p .before .before .before .before .before .before .before .before .before .before .before .before .before .before .before .before .next .given ∙ l .1 .4), c .before .before .before .before .before .before .prev2 .given ∙ (p .before .before .before .before .before .before .before .before .before .before .before .before .before .before .prev .given ∙ l .1 .5), c .before .before .before .before .home2 .given ∙ (p .before .before .before .before .before .before .before .before .before .before .before .before .home .given ∙ l .1 .6), c .before .before .element2 .given ∙ (p .before .before .before .before .before .before .before .before .before .before .element .given ∙ l .1 .7)))
+    let r = p .before .before .before .before .before .before .before .before .before .before .before .before .before .before .before .before .before .before
+    .before .before .before .before .before .before .before in
+    let l = r .before .before .before .before .before .before .before .before .before .before .before .before .before .before .before .loop .inv in (
+      turned-ready _ _ _ _ _ _ _ _ (l .0) (r .release .ensures) (p .push .ensures),
+      (
+        c .before .before .before .before .before .before .before .before .before .before .before .before .before .before .heads2 .given ∙
+            (p .before .before .before .before .before .before .before .before .before .before .before .before .before .before .before .before .before .before
+            .before .before .before .before .before .before .heads .given ∙ l .1 .0),
+        c .before .before .before .before .before .before .before .before .before
+            .before .before .before .tails2 .given ∙ (p .before .before .before .before .before .before .before .before .before .before .before .before .before
+            .before .before .before .before .before .before .before .before .before .tails .given ∙ l .1 .1),
+        c .before .before .before .before .before .before
+            .before .before .before .before .lens2 .given ∙
+            (p .before .before .before .before .before .before .before .before .before .before .before .before .before .before .before .before .before .before
+            .before .before .lens .given ∙ l .1 .2),
+        p .before .before .before .before .before .before .before .before .before .before .before .before .before
+            .before .before .before .before .before .cursors .given ∙ l .1 .3,
+        c .before .before .before .before .before .before .before .before .next2 .given ∙
+            (p .before .before .before .before .before .before .before .before .before .before .before .before .before .before .before .before .next .given ∙ l .1
+            .4),
+        c .before .before .before .before .before .before .prev2 .given ∙
+            (p .before .before .before .before .before .before .before .before .before .before .before .before .before .before .prev .given ∙ l .1 .5),
+        c .before
+            .before .before .before .home2 .given ∙ (p .before .before .before .before .before .before .before .before .before .before .before .before .home .given
+            ∙ l .1 .6),
+        c .before .before .element2 .given ∙
+            (p .before .before .before .before .before .before .before .before .before .before .element .given ∙ l .1 .7),
+      ),
+    )
 
 digest-requires : tie.Need-digest-requires Inv-loop μ-loop
 digest-requires c κs = search needs

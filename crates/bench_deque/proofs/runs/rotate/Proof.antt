@@ -1,7 +1,8 @@
--- `rotate` keeps the records. What has to hold from turn to turn is that the records are those of one deque; the measure is the number of calls that are left.
+-- `rotate` keeps the records. What has to hold from turn to turn is that the records are those of one deque; the
+-- measure is the number of calls that are left.
 use mathlib.Core.Path.{_≡_}
 use lib.ListN.{length}
-use Rattle.deque_sound.specs.State.{state}
+use Rattle.deque_rules.specs.alone.State.{state}
 use Rattle.bench_deque.specs.Ready.{Full}
 use Rattle.bench_deque.proofs.Standing.{full-size, chosen-node, moved-full}
 use borrow.Author.Needs.{needs}
@@ -9,7 +10,10 @@ use Rattle.bench_deque.proofs.runs.rotate.Statement.{statement}
 use Rattle.bench_deque.proofs.runs.rotate.Tie as tie
 
 abbrev Inv-loop : tie.InvT-loop
-Inv-loop heads₀ tails₀ lens cursors₀ next₀ prev₀ home element free calls first nodes x₀ left₀ heads tails cursors next prev x left = Full (state heads tails lens cursors next prev home element) free × ((length next ≡ nodes) × (length heads ≡ length heads₀) × (length tails ≡ length tails₀) × (length cursors ≡ length cursors₀) × (length next ≡ length next₀) × (length prev ≡ length prev₀))
+Inv-loop heads₀ tails₀ lens cursors₀ next₀ prev₀ home element free calls first nodes x₀ left₀ heads tails cursors next prev x left = Full
+    (state heads tails lens cursors next prev home element) free ×
+    ((length next ≡ nodes) × (length heads ≡ length heads₀) × (length tails ≡ length tails₀) × (length cursors ≡ length cursors₀) ×
+    (length next ≡ length next₀) × (length prev ≡ length prev₀))
 
 abbrev μ-loop : tie.MeasureT-loop
 μ-loop heads₀ tails₀ lens cursors₀ next₀ prev₀ home element free calls first nodes x₀ left₀ heads tails cursors next prev x left = left

@@ -1,14 +1,16 @@
--- `walk` keeps the records. What has to hold from turn to turn is that the records are those of one deque; the measure is the number of calls that are left.
+-- `walk` keeps the records. What has to hold from turn to turn is that the records are those of one deque; the measure
+-- is the number of calls that are left.
 use mathlib.Core.Path.{_≡_}
 use lib.ListN.{length}
-use Rattle.deque_sound.specs.State.{state}
+use Rattle.deque_rules.specs.alone.State.{state}
 use Rattle.bench_deque.specs.Ready.{Ready}
 use borrow.Author.Needs.{needs}
 use Rattle.bench_deque.proofs.runs.walk.Statement.{statement}
 use Rattle.bench_deque.proofs.runs.walk.Tie as tie
 
 abbrev Inv-loop : tie.InvT-loop
-Inv-loop heads tails lens cursors₀ next prev home element free calls sum₀ left₀ cursors sum left = Ready (state heads tails lens cursors next prev home element) free × ((length cursors ≡ length cursors₀))
+Inv-loop heads tails lens cursors₀ next prev home element free calls sum₀ left₀ cursors sum left = Ready
+    (state heads tails lens cursors next prev home element) free × ((length cursors ≡ length cursors₀))
 
 abbrev μ-loop : tie.MeasureT-loop
 μ-loop heads tails lens cursors₀ next prev home element free calls sum₀ left₀ cursors sum left = left

@@ -1,4 +1,5 @@
--- `bench_sketch::work::estimates` is safe and ends. Nothing has to hold from turn to turn; the measure is the number of calls that are left.
+-- `bench_sketch::work::estimates` is safe and ends. Nothing has to hold from turn to turn; the measure is the number of
+-- calls that are left.
 use borrow.Author.Needs.{needs}
 use Rattle.bench_sketch.proofs.work.estimates.Statement.{statement}
 use Rattle.bench_sketch.proofs.work.estimates.Tie as tie

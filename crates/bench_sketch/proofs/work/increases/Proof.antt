@@ -1,4 +1,5 @@
--- `bench_sketch::work::increases` is safe and ends. The table keeps its length; the measure is the number of calls that are left.
+-- `bench_sketch::work::increases` is safe and ends. The table keeps its length; the measure is the number of calls that
+-- are left.
 use borrow.Author.Needs.{needs}
 use mathlib.Core.Path.{_≡_}
 use lib.ListN.{length}

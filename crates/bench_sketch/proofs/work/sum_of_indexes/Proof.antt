@@ -1,4 +1,5 @@
--- `bench_sketch::work::sum_of_indexes` is safe and ends. Nothing has to hold from turn to turn; the measure is the number of calls that are left.
+-- `bench_sketch::work::sum_of_indexes` is safe and ends. Nothing has to hold from turn to turn; the measure is the
+-- number of calls that are left.
 use borrow.Author.Needs.{needs}
 use Prim.Native.Nat.{_-_}
 use Rattle.bench_sketch.proofs.work.sum_of_indexes.Statement.{statement}

@@ -39,10 +39,17 @@ enum-told-6 : tie.Need-enum-told-6
 enum-told-6 c = search needs
 
 returns-3 : tie.Need-returns-3
-returns-3 c = arming-fits (c .before .before .before .before .before .before .before .args .heads .now) (c .before .before .before .before .before .before .before .args .bucket .now) (c .before .before .before .before .before .before .before .args .clock) (c .before .before .before .before .before .before .before .args .nodes) (c .before .before .before .before .before .before .before .args .entries) (c .before .before .before .before .before .before .before .args .e) (c .before .before .before .before .before .before .before .args .x) (c .arming .result) (c .arming .ensures)
+returns-3 c = arming-fits (c .before .before .before .before .before .before .before .args .heads .now)
+    (c .before .before .before .before .before .before .before .args .bucket .now) (c .before .before .before .before .before .before .before .args .clock)
+    (c .before .before .before .before .before .before .before .args .nodes) (c .before .before .before .before .before .before .before .args .entries)
+    (c .before .before .before .before .before .before .before .args .e) (c .before .before .before .before .before .before .before .args .x)
+    (c .arming .result) (c .arming .ensures)
 
 returns-4 : tie.Need-returns-4
-returns-4 c = arming-fits (c .before .before .before .before .before .args .heads .now) (c .before .before .before .before .before .args .bucket .now) (c .before .before .before .before .before .args .clock) (c .before .before .before .before .before .args .nodes) (c .before .before .before .before .before .args .entries) (c .before .before .before .before .before .args .e) (c .before .before .before .before .before .args .x) (c .arming2 .result) (c .arming2 .ensures)
+returns-4 c = arming-fits (c .before .before .before .before .before .args .heads .now) (c .before .before .before .before .before .args .bucket .now)
+    (c .before .before .before .before .before .args .clock) (c .before .before .before .before .before .args .nodes)
+    (c .before .before .before .before .before .args .entries) (c .before .before .before .before .before .args .e)
+    (c .before .before .before .before .before .args .x) (c .arming2 .result) (c .arming2 .ensures)
 
 returns-5 : tie.Need-returns-5
 returns-5 c = tt

@@ -88,61 +88,102 @@ slice-aggregate-run-2 : tie.Need-slice-aggregate-run-2
 slice-aggregate-run-2 c = sym (c .before .before .before .before .before .before .before .before .before .before .before .before .before .enable .kept .1 .0)
 
 array-borrow-prefix-next-2 : tie.Need-array-borrow-prefix-next-2
-array-borrow-prefix-next-2 c = fits-again _ (c .before .before .before .before .before .before .before .before .before .before .before .before .before .enable .last .1 .1 .0) _ (c .before .before .before .before .before .before .before .before .before .before .before .before .before .enable .kept .1 .1 .0) (array-borrow-prefix-next (c .before .before .before .before .before .before .before .before .before .before .before .before .before .before .before .before .before .before .before .before .before .before .before))
+array-borrow-prefix-next-2 c = fits-again _ (c .before .before .before .before .before .before .before .before .before .before .before .before .before .enable
+    .last .1 .1 .0) _ (c .before .before .before .before .before .before .before .before .before .before .before .before .before .enable .kept .1 .1 .0)
+    (array-borrow-prefix-next (c .before .before .before .before .before .before .before .before .before .before .before .before .before .before .before
+    .before .before .before .before .before .before .before .before))
 
 slice-aggregate-run-3 : tie.Need-slice-aggregate-run-3
 slice-aggregate-run-3 c = sym (length-take-le _ _ (array-borrow-prefix-next-2 (c .before)))
 
 array-borrow-prefix-prev-2 : tie.Need-array-borrow-prefix-prev-2
-array-borrow-prefix-prev-2 c = fits-again _ (c .before .before .before .before .before .before .before .before .before .before .before .before .before .before .enable .last .1 .1 .1 .0) _ (c .before .before .before .before .before .before .before .before .before .before .before .before .before .before .enable .kept .1 .1 .1 .0) (array-borrow-prefix-prev (c .before .before .before .before .before .before .before .before .before .before .before .before .before .before .before .before .before .before .before .before .before .before .before))
+array-borrow-prefix-prev-2 c = fits-again _ (c .before .before .before .before .before .before .before .before .before .before .before .before .before .before
+    .enable .last .1 .1 .1 .0) _ (c .before .before .before .before .before .before .before .before .before .before .before .before .before .before .enable
+    .kept .1 .1 .1 .0) (array-borrow-prefix-prev (c .before .before .before .before .before .before .before .before .before .before .before .before .before
+    .before .before .before .before .before .before .before .before .before .before))
 
 slice-aggregate-run-4 : tie.Need-slice-aggregate-run-4
 slice-aggregate-run-4 c = sym (length-take-le _ _ (array-borrow-prefix-prev-2 (c .before)))
 
 array-borrow-prefix-bucket-2 : tie.Need-array-borrow-prefix-bucket-2
-array-borrow-prefix-bucket-2 c = fits-again _ (c .before .before .before .before .before .before .before .before .before .before .before .before .before .before .before .enable .last .1 .1 .1 .1 .0) _ (c .before .before .before .before .before .before .before .before .before .before .before .before .before .before .before .enable .kept .1 .1 .1 .1 .0) (array-borrow-prefix-bucket (c .before .before .before .before .before .before .before .before .before .before .before .before .before .before .before .before .before .before .before .before .before .before .before))
+array-borrow-prefix-bucket-2 c = fits-again _ (c .before .before .before .before .before .before .before .before .before .before .before .before .before
+    .before .before .enable .last .1 .1 .1 .1 .0) _ (c .before .before .before .before .before .before .before .before .before .before .before .before .before
+    .before .before .enable .kept .1 .1 .1 .1 .0) (array-borrow-prefix-bucket
+    (c .before .before .before .before .before .before .before .before .before .before .before .before .before .before .before .before .before .before .before
+    .before .before .before .before))
 
 slice-aggregate-run-5 : tie.Need-slice-aggregate-run-5
 slice-aggregate-run-5 c = sym (length-take-le _ _ (array-borrow-prefix-bucket-2 (c .before)))
 
 array-borrow-prefix-entry-2 : tie.Need-array-borrow-prefix-entry-2
-array-borrow-prefix-entry-2 c = fits-again _ (c .before .before .before .before .before .before .before .before .before .before .before .before .before .before .before .before .enable .last .1 .1 .1 .1 .1 .0) _ (c .before .before .before .before .before .before .before .before .before .before .before .before .before .before .before .before .enable .kept .1 .1 .1 .1 .1 .0) (array-borrow-prefix-entry (c .before .before .before .before .before .before .before .before .before .before .before .before .before .before .before .before .before .before .before .before .before .before .before))
+array-borrow-prefix-entry-2 c = fits-again _ (c .before .before .before .before .before .before .before .before .before .before .before .before .before .before
+    .before .before .enable .last .1 .1 .1 .1 .1 .0) _
+    (c .before .before .before .before .before .before .before .before .before .before .before .before .before .before .before .before .enable .kept .1 .1 .1
+    .1 .1 .0) (array-borrow-prefix-entry (c .before .before .before .before .before .before .before .before .before .before .before .before .before .before
+    .before .before .before .before .before .before .before .before .before))
 
 slice-aggregate-run-6 : tie.Need-slice-aggregate-run-6
 slice-aggregate-run-6 c = sym (length-take-le _ _ (array-borrow-prefix-entry-2 (c .before)))
 
 array-borrow-prefix-generation-2 : tie.Need-array-borrow-prefix-generation-2
-array-borrow-prefix-generation-2 c = fits-again _ (c .before .before .before .before .before .before .before .before .before .before .before .before .before .before .before .before .before .enable .last .1 .1 .1 .1 .1 .1 .0) _ (c .before .before .before .before .before .before .before .before .before .before .before .before .before .before .before .before .before .enable .kept .1 .1 .1 .1 .1 .1 .0) (array-borrow-prefix-generation (c .before .before .before .before .before .before .before .before .before .before .before .before .before .before .before .before .before .before .before .before .before .before .before))
+array-borrow-prefix-generation-2 c = fits-again _ (c .before .before .before .before .before .before .before .before .before .before .before .before .before
+    .before .before .before .before .enable .last .1 .1 .1 .1 .1 .1 .0) _
+    (c .before .before .before .before .before .before .before .before .before .before .before .before .before .before .before .before .before .enable .kept .1
+    .1 .1 .1 .1 .1 .0) (array-borrow-prefix-generation
+    (c .before .before .before .before .before .before .before .before .before .before .before .before .before .before .before .before .before .before .before
+    .before .before .before .before))
 
 slice-aggregate-run-7 : tie.Need-slice-aggregate-run-7
 slice-aggregate-run-7 c = sym (length-take-le _ _ (array-borrow-prefix-generation-2 (c .before)))
 
 array-borrow-prefix-serial-2 : tie.Need-array-borrow-prefix-serial-2
-array-borrow-prefix-serial-2 c = fits-again _ (c .before .before .before .before .before .before .before .before .before .before .before .before .before .before .before .before .before .before .enable .last .1 .1 .1 .1 .1 .1 .1 .0) _ (c .before .before .before .before .before .before .before .before .before .before .before .before .before .before .before .before .before .before .enable .kept .1 .1 .1 .1 .1 .1 .1 .0) (array-borrow-prefix-serial (c .before .before .before .before .before .before .before .before .before .before .before .before .before .before .before .before .before .before .before .before .before .before .before))
+array-borrow-prefix-serial-2 c = fits-again _ (c .before .before .before .before .before .before .before .before .before .before .before .before .before
+    .before .before .before .before .before .enable .last .1 .1 .1 .1 .1 .1 .1 .0) _
+    (c .before .before .before .before .before .before .before .before .before .before .before .before .before .before .before .before .before .before .enable
+    .kept .1 .1 .1 .1 .1 .1 .1 .0) (array-borrow-prefix-serial
+    (c .before .before .before .before .before .before .before .before .before .before .before .before .before .before .before .before .before .before .before
+    .before .before .before .before))
 
 slice-aggregate-run-8 : tie.Need-slice-aggregate-run-8
 slice-aggregate-run-8 c = sym (length-take-le _ _ (array-borrow-prefix-serial-2 (c .before)))
 
 array-borrow-prefix-dated-2 : tie.Need-array-borrow-prefix-dated-2
-array-borrow-prefix-dated-2 c = fits-again _ (c .before .before .before .before .before .before .before .before .before .before .before .before .before .before .before .before .before .before .before .enable .last .1 .1 .1 .1 .1 .1 .1 .1 .0) _ (c .before .before .before .before .before .before .before .before .before .before .before .before .before .before .before .before .before .before .before .enable .kept .1 .1 .1 .1 .1 .1 .1 .1 .0) (array-borrow-prefix-dated (c .before .before .before .before .before .before .before .before .before .before .before .before .before .before .before .before .before .before .before .before .before .before .before))
+array-borrow-prefix-dated-2 c = fits-again _ (c .before .before .before .before .before .before .before .before .before .before .before .before .before .before
+    .before .before .before .before .before .enable .last .1 .1 .1 .1 .1 .1 .1 .1 .0) _
+    (c .before .before .before .before .before .before .before .before .before .before .before .before .before .before .before .before .before .before .before
+    .enable .kept .1 .1 .1 .1 .1 .1 .1 .1 .0) (array-borrow-prefix-dated
+    (c .before .before .before .before .before .before .before .before .before .before .before .before .before .before .before .before .before .before .before
+    .before .before .before .before))
 
 slice-aggregate-run-9 : tie.Need-slice-aggregate-run-9
 slice-aggregate-run-9 c = sym (length-take-le _ _ (array-borrow-prefix-dated-2 (c .before)))
 
 array-borrow-prefix-deadline-2 : tie.Need-array-borrow-prefix-deadline-2
-array-borrow-prefix-deadline-2 c = fits-again _ (c .before .before .before .before .before .before .before .before .before .before .before .before .before .before .before .before .before .before .before .before .enable .last .1 .1 .1 .1 .1 .1 .1 .1 .1 .0) _ (c .before .before .before .before .before .before .before .before .before .before .before .before .before .before .before .before .before .before .before .before .enable .kept .1 .1 .1 .1 .1 .1 .1 .1 .1 .0) (array-borrow-prefix-deadline (c .before .before .before .before .before .before .before .before .before .before .before .before .before .before .before .before .before .before .before .before .before .before .before))
+array-borrow-prefix-deadline-2 c = fits-again _ (c .before .before .before .before .before .before .before .before .before .before .before .before .before
+    .before .before .before .before .before .before .before .enable .last .1 .1 .1 .1 .1 .1 .1 .1 .1 .0) _
+    (c .before .before .before .before .before .before .before .before .before .before .before .before .before .before .before .before .before .before .before
+    .before .enable .kept .1 .1 .1 .1 .1 .1 .1 .1 .1 .0)
+    (array-borrow-prefix-deadline (c .before .before .before .before .before .before .before .before .before .before .before .before .before .before .before
+    .before .before .before .before .before .before .before .before))
 
 slice-aggregate-run-10 : tie.Need-slice-aggregate-run-10
 slice-aggregate-run-10 c = sym (length-take-le _ _ (array-borrow-prefix-deadline-2 (c .before)))
 
 array-borrow-prefix-stamp-2 : tie.Need-array-borrow-prefix-stamp-2
-array-borrow-prefix-stamp-2 c = fits-again _ (c .before .before .before .before .before .before .before .before .before .before .before .before .before .before .before .before .before .before .before .before .before .enable .last .1 .1 .1 .1 .1 .1 .1 .1 .1 .1 .0) _ (c .before .before .before .before .before .before .before .before .before .before .before .before .before .before .before .before .before .before .before .before .before .enable .kept .1 .1 .1 .1 .1 .1 .1 .1 .1 .1 .0) (array-borrow-prefix-stamp (c .before .before .before .before .before .before .before .before .before .before .before .before .before .before .before .before .before .before .before .before .before .before .before))
+array-borrow-prefix-stamp-2 c = fits-again _ (c .before .before .before .before .before .before .before .before .before .before .before .before .before .before
+    .before .before .before .before .before .before .before .enable .last .1 .1 .1 .1 .1 .1 .1 .1 .1 .1 .0) _
+    (c .before .before .before .before .before .before .before .before .before .before .before .before .before .before .before .before .before .before .before
+    .before .before .enable .kept .1 .1 .1 .1 .1 .1 .1 .1 .1 .1 .0)
+    (array-borrow-prefix-stamp (c .before .before .before .before .before .before .before .before .before .before .before .before .before .before .before
+    .before .before .before .before .before .before .before .before))
 
 slice-aggregate-run-11 : tie.Need-slice-aggregate-run-11
 slice-aggregate-run-11 c = sym (length-take-le _ _ (array-borrow-prefix-stamp-2 (c .before)))
 
 array-borrow-prefix-list : tie.Need-array-borrow-prefix-list
-array-borrow-prefix-list c = array-borrow-prefix-deadline (c .before .before .before .before .before .before .before .before .before .before .before .before .before .before .before .before .before .before .before .before .before .before .before .before .before)
+array-borrow-prefix-list c = array-borrow-prefix-deadline
+    (c .before .before .before .before .before .before .before .before .before .before .before .before .before .before .before .before .before .before .before
+    .before .before .before .before .before .before)
 
 slice-aggregate-run-12 : tie.Need-slice-aggregate-run-12
 slice-aggregate-run-12 c = sym (length-take-le _ _ (array-borrow-prefix-list (c .before)))

@@ -1,4 +1,4 @@
--- `lines::answers::append` meets its contract. Assumes nothing.
+-- `lines::answers::append` meets its contract.
 use native.Mathlib.Omega.{arith}
 use Rattle.lines.proofs.Waiting.{appended-at, appended-out, place-room}
 use borrow.Author.Needs.{needs}
@@ -33,7 +33,8 @@ same-length-2 c = search needs
 returns-2 : tie.Need-returns-2
 returns-2 c =
     let a = c .before .before .before .before .before .before .before .before .before .args in
-    rw (c .before .before .copy .ensures, c .before .before .before .before .before .room .ensures) (appended-at (a .out .now) (a .at) (a .text .now) (omega arith))
+    rw (c .before .before .copy .ensures, c .before .before .before .before .before .room .ensures)
+    (appended-at (a .out .now) (a .at) (a .text .now) (omega arith))
 
 pub append-spec : {M : Type 1} → statement M
 append-spec =

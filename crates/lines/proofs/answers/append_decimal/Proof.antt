@@ -1,4 +1,4 @@
--- `lines::answers::append_decimal` meets its contract. Assumes nothing.
+-- `lines::answers::append_decimal` meets its contract.
 use Prim.Native.Nat.{ℕ}
 use mathlib.Core.Path.{subst}
 use mathlib.Core.List.{List}

@@ -1,4 +1,4 @@
--- `lines::answers::copy` meets its contract. The invariant: the first i bytes are copied. Assumes nothing.
+-- `lines::answers::copy` meets its contract. The invariant: the first i bytes are copied.
 use borrow.Author.Needs.{needs}
 use native.Mathlib.Omega.{arith}
 use Prim.Native.Nat.{_-_, _≤_}

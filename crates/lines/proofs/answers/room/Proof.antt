@@ -1,4 +1,4 @@
--- `lines::answers::room` meets its contract: the ways to its answer are the two cases of the test. Assumes nothing.
+-- `lines::answers::room` meets its contract: the ways to its answer are the two cases of the test.
 use native.Mathlib.Omega.{arith}
 use mathlib.Core.Path.{sym, _∙_}
 use lib.ListN.{length}

@@ -1,4 +1,4 @@
--- `lines::answers::settle` meets its contract. Assumes nothing.
+-- `lines::answers::settle` meets its contract.
 use borrow.Author.Tests.{lt-ltb, le-ltb}
 use borrow.Author.Needs.{needs}
 use Rattle.lines.proofs.answers.settle.Statement.{statement}

@@ -1,4 +1,4 @@
--- `lines::collecting::collect` meets its contract. The invariant is `Reached`. Assumes nothing.
+-- `lines::collecting::collect` meets its contract. The invariant is `Reached`.
 use borrow.Author.Needs.{needs}
 use native.Mathlib.Omega.{arith}
 use Prim.Native.Nat.{_-_}

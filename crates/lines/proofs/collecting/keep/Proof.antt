@@ -1,4 +1,4 @@
--- `lines::collecting::keep` meets its contract. Assumes nothing.
+-- `lines::collecting::keep` meets its contract.
 use native.Mathlib.Omega.{arith}
 use mathlib.Core.Path.{refl, sym, ap, _∙_}
 use mathlib.Core.List.{_∷_}

@@ -1,4 +1,4 @@
--- `lines::collecting::kind_of` meets its contract: each way is a case of the definition. Assumes nothing.
+-- `lines::collecting::kind_of` meets its contract: each way is a case of the definition.
 use borrow.Author.Tests.{lt-ltb, le-ltb, eq-eqb, ne-eqb}
 use borrow.Author.Needs.{needs}
 use Rattle.lines.proofs.collecting.kind_of.Statement.{statement}

@@ -1,4 +1,4 @@
--- `lines::collecting::next_line` meets its contract. Assumes nothing.
+-- `lines::collecting::next_line` meets its contract.
 use Rattle.lines.proofs.Blocks.{line-found, line-not-there}
 use borrow.Author.Needs.{needs}
 use Rattle.lines.proofs.collecting.next_line.Statement.{statement}

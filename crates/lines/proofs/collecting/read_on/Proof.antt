@@ -1,4 +1,5 @@
--- `lines::collecting::read_on` is safe and ends. What is written keeps its length; the measure is the number of turns that are left. Assumes nothing.
+-- `lines::collecting::read_on` is safe and ends. What is written keeps its length; the measure is the number of turns
+-- that are left.
 use borrow.Author.Needs.{needs}
 use native.Mathlib.Omega.{arith}
 use mathlib.Core.Path.{_≡_}

@@ -1,4 +1,4 @@
--- `lines::collecting::turns_left` meets its contract. Assumes nothing.
+-- `lines::collecting::turns_left` meets its contract.
 use native.Mathlib.Omega.{arith}
 use Rattle.lines.proofs.Blocks.{turns-none}
 use borrow.Author.Needs.{needs}

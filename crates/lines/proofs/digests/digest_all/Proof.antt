@@ -1,4 +1,4 @@
--- `lines::digests::digest_all` meets its contract. The invariant: the rest mixed into what is mixed is all of it. Assumes nothing.
+-- `lines::digests::digest_all` meets its contract. The invariant: the rest mixed into what is mixed is all of it.
 use borrow.Author.Needs.{needs}
 use native.Mathlib.Omega.{arith}
 use Prim.Native.Nat.{_-_, _≤_}

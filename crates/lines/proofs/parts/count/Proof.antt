@@ -1,4 +1,5 @@
--- `lines::parts::count` meets its contract. The invariant: what is counted and the parts of the rest are one more than the parts of the line. Assumes nothing.
+-- `lines::parts::count` meets its contract. The invariant: what is counted and the parts of the rest are one more than
+-- the parts of the line.
 use borrow.Author.Needs.{needs}
 use native.Mathlib.Omega.{arith}
 use Prim.Native.Nat.{_+_, _-_, _≤_}

@@ -1,4 +1,4 @@
--- `lines::parts::first` meets its contract. Assumes nothing.
+-- `lines::parts::first` meets its contract.
 use native.Mathlib.Omega.{arith}
 use mathlib.Core.Path.{sym}
 use lib.Seq.{length-take-le, take-all}

@@ -1,4 +1,4 @@
--- `lines::parts::is_part` meets its contract. Assumes nothing.
+-- `lines::parts::is_part` meets its contract.
 use borrow.Author.Needs.{needs}
 use Rattle.lines.proofs.parts.is_part.Statement.{statement}
 use Rattle.lines.proofs.parts.is_part.Tie as tie

@@ -1,4 +1,4 @@
--- `lines::parts::part` meets its contract. Assumes nothing.
+-- `lines::parts::part` meets its contract.
 use Rattle.lines.proofs.Scans.{part-is}
 use borrow.Author.Needs.{needs}
 use Rattle.lines.proofs.parts.part.Statement.{statement}

@@ -1,4 +1,4 @@
--- `lines::parts::same` meets its contract. The invariant: the rests are alike if and only if the texts are. Assumes nothing.
+-- `lines::parts::same` meets its contract. The invariant: the rests are alike if and only if the texts are.
 use borrow.Author.Needs.{needs}
 use native.Mathlib.Omega.{arith}
 use Prim.Native.Nat.{_-_, _≤_}

@@ -1,4 +1,5 @@
--- `lines::parts::skip` meets its contract. The invariant: skipping what is left to skip in the rest is skipping k parts of the line. Assumes nothing.
+-- `lines::parts::skip` meets its contract. The invariant: skipping what is left to skip in the rest is skipping k parts
+-- of the line.
 use borrow.Author.Needs.{needs}
 use native.Mathlib.Omega.{arith}
 use Prim.Native.Nat.{ℕ, _-_, _≤_}

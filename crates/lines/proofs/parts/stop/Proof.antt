@@ -1,4 +1,5 @@
--- `lines::parts::stop` meets its contract. The invariant: the bytes passed and those before the next space are as many as those before the first space. Assumes nothing.
+-- `lines::parts::stop` meets its contract. The invariant: the bytes passed and those before the next space are as many
+-- as those before the first space.
 use borrow.Author.Needs.{needs}
 use native.Mathlib.Omega.{arith}
 use Prim.Native.Nat.{_+_, _-_, _≤_}

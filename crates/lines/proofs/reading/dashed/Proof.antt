@@ -1,4 +1,4 @@
--- `lines::reading::dashed` meets its contract: each way is a case of the definition. Assumes nothing.
+-- `lines::reading::dashed` meets its contract: each way is a case of the definition.
 use borrow.Author.Tests.{eq-eqb, ne-eqb}
 use Rattle.lines.proofs.reading.dashed.Statement.{statement}
 use Rattle.lines.proofs.reading.dashed.Tie as tie

@@ -1,4 +1,4 @@
--- `lines::reading::digit` meets its contract: each way is a case of the definition. Assumes nothing.
+-- `lines::reading::digit` meets its contract: each way is a case of the definition.
 use borrow.Author.Tests.{lt-ltb, le-ltb}
 use borrow.Author.Needs.{needs}
 use Rattle.lines.proofs.reading.digit.Statement.{statement}

@@ -1,4 +1,4 @@
--- `lines::reading::digits` meets its contract. The invariant: the number so far, read on, is the number of the text. Assumes nothing.
+-- `lines::reading::digits` meets its contract. The invariant: the number so far, read on, is the number of the text.
 use borrow.Author.Needs.{needs}
 use native.Mathlib.Omega.{arith}
 use Prim.Native.Nat.{_-_, _^_, _≤_, _<_}

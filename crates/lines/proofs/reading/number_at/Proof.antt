@@ -1,4 +1,4 @@
--- `lines::reading::number_at` meets its contract. Assumes nothing.
+-- `lines::reading::number_at` meets its contract.
 use borrow.Author.Needs.{needs}
 use Rattle.lines.proofs.reading.number_at.Statement.{statement}
 use Rattle.lines.proofs.reading.number_at.Tie as tie

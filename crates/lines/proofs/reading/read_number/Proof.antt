@@ -1,4 +1,4 @@
--- `lines::reading::read_number` meets its contract: each way is a case of the definition. Assumes nothing.
+-- `lines::reading::read_number` meets its contract: each way is a case of the definition.
 use borrow.Author.Tests.{eq-eqb, ne-eqb}
 use borrow.Author.Needs.{needs}
 use Rattle.lines.proofs.reading.read_number.Statement.{statement}

@@ -1,4 +1,4 @@
--- `read_entry` meets its contract: it is the reader of this field (`Reading`). Assumes nothing.
+-- `read_entry` meets its contract: it is the reader of this field (`Reading`).
 use contract.Running.{givenOf, tables, tablesOf}
 use denote.Triple.Spec.{tripleOf}
 use denote.Triple.Table.{entered}

@@ -1,5 +1,5 @@
--- `laid_node` meets its contract. Assumes nothing.
-use Rattle.nodes.proofs.InPlace.{sentinel-laid, free-laid, last-laid}
+-- `laid_node` meets its contract.
+use Rattle.face_rules.proofs.nodes.InPlace.{sentinel-laid, free-laid, last-laid}
 use borrow.Author.Needs.{needs}
 use Rattle.nodes.proofs.laying.laid_node.Statement.{statement}
 use Rattle.nodes.proofs.laying.laid_node.Tie as tie

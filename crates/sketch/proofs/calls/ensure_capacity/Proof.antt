@@ -1,12 +1,13 @@
--- `sketch::calls::ensure_capacity` meets its contract. Assumes nothing.
-use mathlib.Core.Path.{_≡_, refl, sym, _∙_, subst}
+-- `sketch::calls::ensure_capacity` meets its contract.
+use mathlib.Core.Path.{_≡_, refl, sym, _∙_}
 use mathlib.Core.Bool.{true}
-use Prim.Native.Nat.{ℕ, _≤_, _<_}
+use Prim.Native.Nat.{_≤_, _<_}
 use native.Mathlib.Omega.{arith}
 use lib.ListN.{length}
 use borrow.Author.Tests.{not-true, not-false}
-use Rattle.sketch.specs.Sound.{sound, wordsFor}
-use Rattle.sketch.proofs.Promises.{ensure-not-sound, ensure-too-large, ensure-too-short, ensure-stays, ensure-grows, ensure-refused, ensure-same, ensure-grown}
+use Rattle.sketch_rules.specs.Sound.{sound, wordsFor}
+use Rattle.sketch_rules.proofs.Promises.{ensure-not-sound, ensure-too-large, ensure-too-short, ensure-stays, ensure-grows, ensure-refused, ensure-same}
+use Rattle.sketch_rules.proofs.Promises.{ensure-grown}
 use borrow.Author.Needs.{needs}
 use Rattle.sketch.proofs.calls.ensure_capacity.Statement.{statement}
 use Rattle.sketch.proofs.calls.ensure_capacity.Tie as tie
@@ -14,7 +15,8 @@ use Rattle.sketch.proofs.calls.ensure_capacity.Tie as tie
 whole : (c : tie.Else1) → sound (length (c .before .before .before .args .table .now)) (c .before .before .before .args .sketch) ≡ true
 whole c = sym (c .before .is-sound .ensures) ∙ not-false _ (c .if1 .left)
 
-grows : (c : tie.Else3) → c .before .before .before .before .before .before .before .args .sketch .used < wordsFor (c .before .before .before .before .before .before .before .args .capacity)
+grows : (c : tie.Else3) → c .before .before .before .before .before .before .before .args .sketch .used < wordsFor
+    (c .before .before .before .before .before .before .before .args .capacity)
 grows c = omega (arith, c .before .before .power-for .ensures, c .if3 .left)
 
 is-sound-requires : tie.Need-is-sound-requires
@@ -32,7 +34,8 @@ power-for-requires c κs = search needs
 returns-3 : tie.Need-returns-3
 returns-3 c =
     let m = c .before .before .before in
-    let l : wordsFor (m .before .before .before .before .args .capacity) ≤ m .before .before .before .before .args .sketch .used = omega (arith, c .before .before .power-for .ensures) in
+    let l : wordsFor (m .before .before .before .before .args .capacity) ≤ m .before .before .before .before .args .sketch .used = omega
+    (arith, c .before .before .power-for .ensures) in
     ensure-same _ _ _ (ensure-stays _ _ _ (whole (m .before)) (m .if2 .left) l) l
 
 returns-4 : tie.Need-returns-4
@@ -59,7 +62,8 @@ returns-5 c =
     let s = m .before .before .before .before .args in
     let p = e .before .before .before .power-for .ensures in
     let h : wordsFor (s .capacity) ≤ length (s .table .now) = omega (arith, p) in
-    ensure-grown _ _ _ _ _ _ (ensure-grows _ _ _ (whole (m .before)) (m .if2 .left) (grows (e .before)) h) (grows (e .before)) p (c .before .before .before .before .sample-for .ensures) (c .before .before .clear .ensures)
+    ensure-grown _ _ _ _ _ _ (ensure-grows _ _ _ (whole (m .before)) (m .if2 .left) (grows (e .before)) h) (grows (e .before)) p
+    (c .before .before .before .before .sample-for .ensures) (c .before .before .clear .ensures)
 
 pub ensure-capacity-spec : {M : Type 1} → statement M
 ensure-capacity-spec =

@@ -1,10 +1,10 @@
--- `sketch::calls::estimate` meets its contract. Assumes nothing.
+-- `sketch::calls::estimate` meets its contract.
 use mathlib.Core.Path.{_≡_, sym, _∙_}
 use mathlib.Core.Bool.{true}
 use lib.ListN.{length}
 use borrow.Author.Tests.{not-true, not-false}
-use Rattle.sketch.specs.Sound.{sound}
-use Rattle.sketch.proofs.Promises.{in-use, estimate-refused, estimate-unused, estimate-least}
+use Rattle.sketch_rules.specs.Sound.{sound}
+use Rattle.sketch_rules.proofs.Promises.{in-use, estimate-refused, estimate-unused, estimate-least}
 use borrow.Author.Needs.{needs}
 use Rattle.sketch.proofs.calls.estimate.Statement.{statement}
 use Rattle.sketch.proofs.calls.estimate.Tie as tie

@@ -1,4 +1,4 @@
--- `sketch::calls::sample_for` meets its contract. Assumes nothing.
+-- `sketch::calls::sample_for` meets its contract.
 use borrow.Author.Tests.{eq-eqb, ne-eqb}
 use borrow.Author.Needs.{needs}
 use Rattle.sketch.proofs.calls.sample_for.Statement.{statement}

@@ -1,6 +1,6 @@
--- `sketch::index::word_at` meets its contract. Assumes nothing.
+-- `sketch::index::word_at` meets its contract.
 use Rattle.numbers.proofs.Powers.{power-least}
-use Rattle.sketch.proofs.Places.{placed}
+use Rattle.sketch_rules.proofs.Places.{placed}
 use borrow.Author.Needs.{needs}
 use Rattle.sketch.proofs.index.word_at.Statement.{statement}
 use Rattle.sketch.proofs.index.word_at.Tie as tie

@@ -1,7 +1,6 @@
--- `sketch::index::word_index` meets its contract. Assumes nothing.
+-- `sketch::index::word_index` meets its contract.
 use mathlib.Core.Path.{sym, _∙_}
-use native.Mathlib.Omega.{arith}
-use Rattle.sketch.proofs.Places.{no-depth, no-table, too-long, given}
+use Rattle.sketch_rules.proofs.Places.{no-depth, no-table, too-long, given}
 use borrow.Author.Needs.{needs}
 use Rattle.sketch.proofs.index.word_index.Statement.{statement}
 use Rattle.sketch.proofs.index.word_index.Tie as tie

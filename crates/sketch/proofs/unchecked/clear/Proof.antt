@@ -1,4 +1,4 @@
--- `sketch::unchecked::clear` meets its contract. The loop's invariant: the first i words are 0. Assumes nothing.
+-- `sketch::unchecked::clear` meets its contract. The loop's invariant: the first i words are 0.
 use mathlib.Core.Path.{_≡_, ap, _∙_}
 use mathlib.Core.List.{_++_}
 use Prim.Native.Nat.{ℕ, _-_, _≤_, _<_}

@@ -1,16 +1,17 @@
--- `sketch::unchecked::count` meets its contract. The loop's invariant: the first i depths are counted. Assumes nothing.
+-- `sketch::unchecked::count` meets its contract. The loop's invariant: the first i depths are counted.
 use mathlib.Core.Path.{_≡_, refl, ap, _∙_}
-use Prim.Native.Nat.{ℕ, _+_, _*_, _%_, _-_, _≤_, _<_}
+use Prim.Native.Nat.{ℕ, _+_, _*_, _%_, _-_, _≤_}
 use native.Mathlib.Omega.{arith}
 use lib.ListN.{length}
-use Rattle.sketch.specs.Hashes.{counted, rose}
-use Rattle.sketch.proofs.Counting.{rises-le, turn-table, turn-rose}
+use Rattle.sketch_rules.specs.Hashes.{counted, rose}
+use Rattle.sketch_rules.proofs.Counting.{rises-le, turn-table, turn-rose}
 use borrow.Author.Needs.{needs}
 use Rattle.sketch.proofs.unchecked.count.Statement.{statement}
 use Rattle.sketch.proofs.unchecked.count.Tie as tie
 
 abbrev Inv-loop : tie.InvT-loop
-Inv-loop table₀ used hash words start up₀ i₀ table up i = (i ≤ 4) × (length table ≡ length table₀) × (up ≤ i) × (table ≡ counted hash used i table₀) × (up ≡ rose hash used i table₀)
+Inv-loop table₀ used hash words start up₀ i₀ table up i = (i ≤ 4) × (length table ≡ length table₀) × (up ≤ i) × (table ≡ counted hash used i table₀) ×
+    (up ≡ rose hash used i table₀)
 
 abbrev μ-loop : tie.MeasureT-loop
 μ-loop table₀ used hash words start up₀ i₀ table up i = 4 - i
@@ -57,7 +58,8 @@ loop-again c =
       search needs,
       omega (arith, r .ensures .0, rises-le (l .loop .table) (p .result) (4 * (s .args .hash % 4) + l .loop .i)),
       turn-table (s .args .hash) (s .args .used) (l .loop .i) t (l .loop .table) _ _ (l .loop .inv .3) (p .ensures .is) refl _ (r .ensures .1),
-      turn-rose (s .args .hash) (s .args .used) (l .loop .i) t (l .loop .table) _ _ (l .loop .inv .3) (p .ensures .is) refl _ _ (l .loop .inv .4) (r .ensures .0),
+      turn-rose (s .args .hash) (s .args .used) (l .loop .i) t (l .loop .table) _ _ (l .loop .inv .3) (p .ensures .is) refl _ _ (l .loop .inv .4)
+          (r .ensures .0),
     )
 
 same-length : tie.Need-same-length Inv-loop μ-loop

@@ -1,4 +1,4 @@
--- `sketch::unchecked::grown_size` meets its contract. Assumes nothing.
+-- `sketch::unchecked::grown_size` meets its contract.
 use borrow.Author.Tests.{lt-ltb, le-ltb}
 use borrow.Author.Needs.{needs}
 use Rattle.sketch.proofs.unchecked.grown_size.Statement.{statement}

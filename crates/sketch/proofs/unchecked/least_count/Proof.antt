@@ -1,8 +1,8 @@
--- `sketch::unchecked::least_count` meets its contract. The loop's invariant: best is the least at the first i depths. Assumes nothing.
+-- `sketch::unchecked::least_count` meets its contract. The loop's invariant: best is the least at the first i depths.
 use mathlib.Core.Path.{_≡_, refl, ap, _∙_}
-use Prim.Native.Nat.{ℕ, _-_, _≤_, _<_}
+use Prim.Native.Nat.{ℕ, _-_, _≤_}
 use native.Mathlib.Omega.{arith}
-use Rattle.sketch.proofs.Counting.{leastTo, turn-least, least-of-four}
+use Rattle.sketch_rules.proofs.Counting.{leastTo, turn-least, least-of-four}
 use borrow.Author.Needs.{needs}
 use Rattle.sketch.proofs.unchecked.least_count.Statement.{statement}
 use Rattle.sketch.proofs.unchecked.least_count.Tie as tie
@@ -47,14 +47,18 @@ loop-less c = search needs
 loop-again : tie.Need-loop-again Inv-loop μ-loop
 loop-again c =
     let l = c .before .before .before .before .before in
-    let s = l .before .before in
-    (search needs, turn-least (s .args .hash) (s .args .used) (l .loop .i) (s .args .table .now) _ _ (c .before .before .before .word-at .ensures .is) refl _ _ _ (l .loop .inv .1) (c .before .counter-at .ensures) (c .smaller .ensures))
+    let s = l .before .before in (
+      search needs,
+      turn-least (s .args .hash) (s .args .used) (l .loop .i) (s .args .table .now) _ _ (c .before .before .before .word-at .ensures .is) refl _ _
+          _ (l .loop .inv .1) (c .before .counter-at .ensures) (c .smaller .ensures),
+    )
 
 returns : tie.Need-returns Inv-loop μ-loop
 returns c =
     let s = c .before .before .before in
     let e : c .before .loop .i ≡ 4 = omega arith in
-    c .before .loop .inv .1 ∙ ap (λ (i : ℕ). leastTo (s .args .hash) (s .args .used) i (s .args .table .now)) e ∙ least-of-four (s .args .hash) (s .args .used) (s .args .table .now)
+    c .before .loop .inv .1 ∙ ap (λ (i : ℕ). leastTo (s .args .hash) (s .args .used) i (s .args .table .now)) e ∙ least-of-four (s .args .hash) (s .args .used)
+    (s .args .table .now)
 
 pub least-count-spec : {M : Type 1} → statement M
 least-count-spec =

@@ -1,5 +1,5 @@
--- `sketch::unchecked::raise_at` meets its contract. Assumes nothing.
-use Rattle.sketch.proofs.Counting.{word-changed, word-same, table-same}
+-- `sketch::unchecked::raise_at` meets its contract.
+use Rattle.sketch_rules.proofs.Counting.{word-changed, word-same, table-same}
 use borrow.Author.Needs.{needs}
 use Rattle.sketch.proofs.unchecked.raise_at.Statement.{statement}
 use Rattle.sketch.proofs.unchecked.raise_at.Tie as tie

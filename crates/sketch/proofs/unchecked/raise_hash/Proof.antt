@@ -1,5 +1,5 @@
--- `sketch::unchecked::raise_hash` meets its contract. Assumes nothing.
-use Rattle.sketch.proofs.Settling.{still-in-use, raises}
+-- `sketch::unchecked::raise_hash` meets its contract.
+use Rattle.sketch_rules.proofs.Settling.{raises}
 use borrow.Author.Needs.{needs}
 use Rattle.sketch.proofs.unchecked.raise_hash.Statement.{statement}
 use Rattle.sketch.proofs.unchecked.raise_hash.Tie as tie

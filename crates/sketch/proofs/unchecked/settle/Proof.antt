@@ -1,5 +1,5 @@
--- `sketch::unchecked::settle` meets its contract. Assumes nothing.
-use Rattle.sketch.proofs.Settling.{not-full, full}
+-- `sketch::unchecked::settle` meets its contract.
+use Rattle.sketch_rules.proofs.Settling.{not-full, full}
 use borrow.Author.Needs.{needs}
 use Rattle.sketch.proofs.unchecked.settle.Statement.{statement}
 use Rattle.sketch.proofs.unchecked.settle.Tie as tie

@@ -35,7 +35,11 @@ slice-aggregate-set-entry-10 : tie.Need-slice-aggregate-set-entry-10
 slice-aggregate-set-entry-10 c = search needs
 
 slice-aggregate-set-entry-11 : tie.Need-slice-aggregate-set-entry-11
-slice-aggregate-set-entry-11 c = search (needs, c .before .before .before .before .before .before .before .before .before .before .before .before .before .before .before .before .before .before .before .before .before .before .before .good)
+slice-aggregate-set-entry-11 c = search (
+  needs,
+  c .before .before .before .before .before .before .before .before .before .before .before .before .before
+      .before .before .before .before .before .before .before .before .before .before .good,
+)
 
 set-entry-requires : tie.Need-set-entry-requires
 set-entry-requires c κs = search needs

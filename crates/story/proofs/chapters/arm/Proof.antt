@@ -36,7 +36,8 @@ is-handle-requires c κs = search needs
 
 expect-requires-2 : tie.Need-expect-requires-2
 unfolding tick
-expect-requires-2 c κs = c .is-handle .ensures .yes (says (schedule 0 1) _ _ (reached1 (c .before .before .before .before .before)) (c .before .schedule .ensures) _ refl)
+expect-requires-2 c κs = c .is-handle .ensures .yes (says (schedule 0 1) _ _ (reached1 (c .before .before .before .before .before))
+    (c .before .schedule .ensures) _ refl)
 
 returns : tie.Need-returns
 returns c = reached2 (c .before .before .before)

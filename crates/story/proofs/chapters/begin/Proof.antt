@@ -19,10 +19,12 @@ is-done-requires c κs = search needs
 
 expect-requires : tie.Need-expect-requires
 unfolding tick
-expect-requires c κs = c .is-done .ensures .yes (says (enable 168 2) _ _ (beginning 7 (held (c .before .before .create .result)) _ (c .before .before .create .ensures)) (c .before .enable .ensures) _ refl)
+expect-requires c κs = c .is-done .ensures .yes (says (enable 168 2) _ _
+    (beginning 7 (held (c .before .before .create .result)) _ (c .before .before .create .ensures)) (c .before .enable .ensures) _ refl)
 
 returns : tie.Need-returns
-returns c = on (enable 168 2) _ _ (beginning 7 (held (c .before .before .before .before .create .result)) _ (c .before .before .before .before .create .ensures)) (c .before .before .before .enable .ensures)
+returns c = on (enable 168 2) _ _ (beginning 7 (held (c .before .before .before .before .create .result)) _
+    (c .before .before .before .before .create .ensures)) (c .before .before .before .enable .ensures)
 
 pub begin-spec : {M : Type 1} → statement M
 begin-spec =

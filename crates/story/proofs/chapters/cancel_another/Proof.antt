@@ -18,7 +18,8 @@ reached1 c = on (setEntry 1 (some (2 ^ 36)) 3) _ _ (c .before .pre) (c .set .ens
 reached2 : (c : tie.After-schedule) → Reached (armed ++ (setEntry 1 (some (2 ^ 36)) 3 ∷ schedule 1 3 ∷ [])) (held (c .schedule .result .after))
 reached2 c = on (schedule 1 3) _ _ (reached1 (c .before .before .before .before)) (c .schedule .ensures)
 
-reached3 : (c : tie.After-deschedule) → Reached (armed ++ (setEntry 1 (some (2 ^ 36)) 3 ∷ schedule 1 3 ∷ deschedule 166 8 3 ∷ [])) (held (c .deschedule .result .after))
+reached3 : (c : tie.After-deschedule) → Reached (armed ++ (setEntry 1 (some (2 ^ 36)) 3 ∷ schedule 1 3 ∷ deschedule 166 8 3 ∷ []))
+    (held (c .deschedule .result .after))
 reached3 c = on (deschedule 166 8 3) _ _ (reached2 (c .before .before .before .before)) (c .deschedule .ensures)
 
 reached4 : (c : tie.After-deschedule2) → Reached cancelled (held (c .deschedule2 .result .after))
@@ -45,7 +46,8 @@ is-handle-requires c κs = search needs
 
 expect-requires-2 : tie.Need-expect-requires-2
 unfolding tick
-expect-requires-2 c κs = c .is-handle .ensures .yes (says (schedule 1 3) _ _ (reached1 (c .before .before .before .before .before)) (c .before .schedule .ensures) _ refl)
+expect-requires-2 c κs = c .is-handle .ensures .yes (says (schedule 1 3) _ _ (reached1 (c .before .before .before .before .before))
+    (c .before .schedule .ensures) _ refl)
 
 deschedule-requires : tie.Need-deschedule-requires
 deschedule-requires c κs = search needs
@@ -55,7 +57,8 @@ is-done-requires c κs = search needs
 
 expect-requires-3 : tie.Need-expect-requires-3
 unfolding tick
-expect-requires-3 c κs = c .is-done .ensures .yes (says (deschedule 166 8 3) _ _ (reached2 (c .before .before .before .before .before)) (c .before .deschedule .ensures) _ refl)
+expect-requires-3 c κs = c .is-done .ensures .yes (says (deschedule 166 8 3) _ _ (reached2 (c .before .before .before .before .before))
+    (c .before .deschedule .ensures) _ refl)
 
 deschedule-requires-2 : tie.Need-deschedule-requires-2
 deschedule-requires-2 c κs = search needs
@@ -65,7 +68,8 @@ is-refused-requires c κs = search needs
 
 expect-requires-4 : tie.Need-expect-requires-4
 unfolding tick
-expect-requires-4 c κs = c .is-refused .ensures .yes (says (deschedule 166 8 3) _ _ (reached3 (c .before .before .before .before .before)) (c .before .deschedule2 .ensures) _ refl)
+expect-requires-4 c κs = c .is-refused .ensures .yes (says (deschedule 166 8 3) _ _ (reached3 (c .before .before .before .before .before))
+    (c .before .deschedule2 .ensures) _ refl)
 
 returns : tie.Need-returns
 returns c = reached4 (c .before .before .before)

@@ -1,6 +1,6 @@
--- `schedule` meets its promise. Assumes nothing.
-use Rattle.wheel_plain.proofs.Calling.{schedule-no, schedule-yes}
-use Rattle.wheel_plain.proofs.Acting.{arm-ready, due-bytes, due-index}
+-- `schedule` meets its promise.
+use Rattle.wheel_rules.proofs.calls.Calling.{schedule-no, schedule-yes}
+use Rattle.wheel_rules.proofs.calls.Acting.{arm-ready, due-bytes, due-index}
 use borrow.Author.Needs.{needs}
 use Rattle.wheel.proofs.arming.schedule.Statement.{statement}
 use Rattle.wheel.proofs.arming.schedule.Tie as tie
@@ -42,7 +42,8 @@ shared-slice-read-due : tie.Need-shared-slice-read-due
 shared-slice-read-due c = due-index _ _ _ _ _ _ _ _ _ _ _ _ _ _ _ (c .before .before .schedule-refusal .ensures) (c .before .if1 .left)
 
 arm-requires : tie.Need-arm-requires
-arm-requires c κs = arm-ready _ _ _ _ _ _ (c .before .before .before .before .before .before .before .before .before .before .schedule-refusal .ensures) (c .before .before .before .before .before .before .before .before .before .if1 .left)
+arm-requires c κs = arm-ready _ _ _ _ _ _ (c .before .before .before .before .before .before .before .before .before .before .schedule-refusal .ensures)
+    (c .before .before .before .before .before .before .before .before .before .if1 .left)
 
 same-length-9 : tie.Need-same-length-9
 same-length-9 c = search needs

@@ -1,6 +1,6 @@
--- `pull` meets its promise. Assumes nothing.
-use Rattle.wheel_plain.proofs.Calling.{pull-no, pull-yes}
-use Rattle.wheel_plain.proofs.Acting.{turn-ready}
+-- `pull` meets its promise.
+use Rattle.wheel_rules.proofs.calls.Calling.{pull-no, pull-yes}
+use Rattle.wheel_rules.proofs.calls.Acting.{turn-ready}
 use borrow.Author.Needs.{needs}
 use Rattle.wheel.proofs.pulling.pull.Statement.{statement}
 use Rattle.wheel.proofs.pulling.pull.Tie as tie
@@ -36,7 +36,8 @@ returns : tie.Need-returns
 returns c = search pull-no
 
 pull-requires : tie.Need-pull-requires
-pull-requires c κs = turn-ready _ _ _ _ _ _ (c .before .before .before .before .before .before .before .before .before .open-refusal .ensures) (c .before .before .before .before .before .before .before .before .if1 .left)
+pull-requires c κs = turn-ready _ _ _ _ _ _ (c .before .before .before .before .before .before .before .before .before .open-refusal .ensures)
+    (c .before .before .before .before .before .before .before .before .if1 .left)
 
 told-requires : tie.Need-told-requires
 told-requires c κs = search needs

@@ -1,5 +1,5 @@
--- `told` meets its promise. Assumes nothing.
-use Rattle.wheel_plain.proofs.Calling.{tells}
+-- `told` meets its promise.
+use Rattle.wheel_rules.proofs.calls.Calling.{tells}
 use borrow.Author.Needs.{needs}
 use Rattle.wheel.proofs.pulling.told.Statement.{statement}
 use Rattle.wheel.proofs.pulling.told.Tie as tie

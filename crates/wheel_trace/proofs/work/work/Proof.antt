@@ -22,37 +22,48 @@ on-clock-requires : tie.Need-on-clock-requires
 on-clock-requires c κs = tt
 
 same-length : tie.Need-same-length
-same-length c = c .before .before .before .before .before .before .before .before .before .before .before .before .before .before .before .before .before .before .before .before .before .before .before .enable .kept .0
+same-length c = c .before .before .before .before .before .before .before .before .before .before .before .before .before .before .before .before .before
+    .before .before .before .before .before .before .enable .kept .0
 
 same-length-2 : tie.Need-same-length-2
-same-length-2 c = c .before .before .before .before .before .before .before .before .before .before .before .before .before .before .before .before .before .before .before .before .before .before .before .enable .kept .1 .0
+same-length-2 c = c .before .before .before .before .before .before .before .before .before .before .before .before .before .before .before .before .before
+    .before .before .before .before .before .before .enable .kept .1 .0
 
 same-length-3 : tie.Need-same-length-3
-same-length-3 c = c .before .before .before .before .before .before .before .before .before .before .before .before .before .before .before .before .before .before .before .before .before .before .before .enable .kept .1 .1 .0
+same-length-3 c = c .before .before .before .before .before .before .before .before .before .before .before .before .before .before .before .before .before
+    .before .before .before .before .before .before .enable .kept .1 .1 .0
 
 same-length-4 : tie.Need-same-length-4
-same-length-4 c = c .before .before .before .before .before .before .before .before .before .before .before .before .before .before .before .before .before .before .before .before .before .before .before .enable .kept .1 .1 .1 .0
+same-length-4 c = c .before .before .before .before .before .before .before .before .before .before .before .before .before .before .before .before .before
+    .before .before .before .before .before .before .enable .kept .1 .1 .1 .0
 
 same-length-5 : tie.Need-same-length-5
-same-length-5 c = c .before .before .before .before .before .before .before .before .before .before .before .before .before .before .before .before .before .before .before .before .before .before .before .enable .kept .1 .1 .1 .1 .0
+same-length-5 c = c .before .before .before .before .before .before .before .before .before .before .before .before .before .before .before .before .before
+    .before .before .before .before .before .before .enable .kept .1 .1 .1 .1 .0
 
 same-length-6 : tie.Need-same-length-6
-same-length-6 c = c .before .before .before .before .before .before .before .before .before .before .before .before .before .before .before .before .before .before .before .before .before .before .before .enable .kept .1 .1 .1 .1 .1 .0
+same-length-6 c = c .before .before .before .before .before .before .before .before .before .before .before .before .before .before .before .before .before
+    .before .before .before .before .before .before .enable .kept .1 .1 .1 .1 .1 .0
 
 same-length-7 : tie.Need-same-length-7
-same-length-7 c = c .before .before .before .before .before .before .before .before .before .before .before .before .before .before .before .before .before .before .before .before .before .before .before .enable .kept .1 .1 .1 .1 .1 .1 .0
+same-length-7 c = c .before .before .before .before .before .before .before .before .before .before .before .before .before .before .before .before .before
+    .before .before .before .before .before .before .enable .kept .1 .1 .1 .1 .1 .1 .0
 
 same-length-8 : tie.Need-same-length-8
-same-length-8 c = c .before .before .before .before .before .before .before .before .before .before .before .before .before .before .before .before .before .before .before .before .before .before .before .enable .kept .1 .1 .1 .1 .1 .1 .1 .0
+same-length-8 c = c .before .before .before .before .before .before .before .before .before .before .before .before .before .before .before .before .before
+    .before .before .before .before .before .before .enable .kept .1 .1 .1 .1 .1 .1 .1 .0
 
 same-length-9 : tie.Need-same-length-9
-same-length-9 c = c .before .before .before .before .before .before .before .before .before .before .before .before .before .before .before .before .before .before .before .before .before .before .before .enable .kept .1 .1 .1 .1 .1 .1 .1 .1 .0
+same-length-9 c = c .before .before .before .before .before .before .before .before .before .before .before .before .before .before .before .before .before
+    .before .before .before .before .before .before .enable .kept .1 .1 .1 .1 .1 .1 .1 .1 .0
 
 same-length-10 : tie.Need-same-length-10
-same-length-10 c = c .before .before .before .before .before .before .before .before .before .before .before .before .before .before .before .before .before .before .before .before .before .before .before .enable .kept .1 .1 .1 .1 .1 .1 .1 .1 .1 .0
+same-length-10 c = c .before .before .before .before .before .before .before .before .before .before .before .before .before .before .before .before .before
+    .before .before .before .before .before .before .enable .kept .1 .1 .1 .1 .1 .1 .1 .1 .1 .0
 
 same-length-11 : tie.Need-same-length-11
-same-length-11 c = c .before .before .before .before .before .before .before .before .before .before .before .before .before .before .before .before .before .before .before .before .before .before .before .enable .kept .1 .1 .1 .1 .1 .1 .1 .1 .1 .1 .0
+same-length-11 c = c .before .before .before .before .before .before .before .before .before .before .before .before .before .before .before .before .before
+    .before .before .before .before .before .before .enable .kept .1 .1 .1 .1 .1 .1 .1 .1 .1 .1 .0
 
 returns : tie.Need-returns
 returns c = tt
@@ -94,28 +105,36 @@ returns-2 : tie.Need-returns-2
 returns-2 c = tt
 
 same-length-23 : tie.Need-same-length-23
-same-length-23 c = c .before .before .before .before .before .before .before .before .before .before .before .before .before .before .before .before .on-nodes .kept .0
+same-length-23 c = c .before .before .before .before .before .before .before .before .before .before .before .before .before .before .before .before .on-nodes
+    .kept .0
 
 same-length-24 : tie.Need-same-length-24
-same-length-24 c = c .before .before .before .before .before .before .before .before .before .before .before .before .before .before .before .before .on-nodes .kept .1 .0
+same-length-24 c = c .before .before .before .before .before .before .before .before .before .before .before .before .before .before .before .before .on-nodes
+    .kept .1 .0
 
 same-length-25 : tie.Need-same-length-25
-same-length-25 c = c .before .before .before .before .before .before .before .before .before .before .before .before .before .before .before .before .on-nodes .kept .1 .1 .0
+same-length-25 c = c .before .before .before .before .before .before .before .before .before .before .before .before .before .before .before .before .on-nodes
+    .kept .1 .1 .0
 
 same-length-26 : tie.Need-same-length-26
-same-length-26 c = c .before .before .before .before .before .before .before .before .before .before .before .before .before .before .before .before .on-nodes .kept .1 .1 .1 .0
+same-length-26 c = c .before .before .before .before .before .before .before .before .before .before .before .before .before .before .before .before .on-nodes
+    .kept .1 .1 .1 .0
 
 same-length-27 : tie.Need-same-length-27
-same-length-27 c = c .before .before .before .before .before .before .before .before .before .before .before .before .before .before .before .before .on-nodes .kept .1 .1 .1 .1 .0
+same-length-27 c = c .before .before .before .before .before .before .before .before .before .before .before .before .before .before .before .before .on-nodes
+    .kept .1 .1 .1 .1 .0
 
 same-length-28 : tie.Need-same-length-28
-same-length-28 c = c .before .before .before .before .before .before .before .before .before .before .before .before .before .before .before .before .on-nodes .kept .1 .1 .1 .1 .1 .0
+same-length-28 c = c .before .before .before .before .before .before .before .before .before .before .before .before .before .before .before .before .on-nodes
+    .kept .1 .1 .1 .1 .1 .0
 
 same-length-29 : tie.Need-same-length-29
-same-length-29 c = c .before .before .before .before .before .before .before .before .before .before .before .before .before .before .before .before .on-nodes .kept .1 .1 .1 .1 .1 .1 .0
+same-length-29 c = c .before .before .before .before .before .before .before .before .before .before .before .before .before .before .before .before .on-nodes
+    .kept .1 .1 .1 .1 .1 .1 .0
 
 same-length-30 : tie.Need-same-length-30
-same-length-30 c = c .before .before .before .before .before .before .before .before .before .before .before .before .before .before .before .before .on-nodes .kept .1 .1 .1 .1 .1 .1 .1 .0
+same-length-30 c = c .before .before .before .before .before .before .before .before .before .before .before .before .before .before .before .before .on-nodes
+    .kept .1 .1 .1 .1 .1 .1 .1 .0
 
 same-length-31 : tie.Need-same-length-31
 same-length-31 c = refl

@@ -1,3 +1,0 @@
--- What the contracts of `counters` cite. Assumes nothing.
-pub mod Counters
-pub mod Tables

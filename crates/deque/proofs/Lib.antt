@@ -1,5 +1,0 @@
--- The theorems on the public calls.
-pub mod Coincide
-pub mod Laws
-pub mod Cursor
-pub mod Kept

@@ -1,2 +1,0 @@
--- Why the calls that ask meet their promises.
-pub mod Calling

@@ -1,2 +1,0 @@
--- What the contracts of the calls that ask cite.
-pub mod Calls

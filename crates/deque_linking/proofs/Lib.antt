@@ -1,2 +1,0 @@
--- Why the calls that link nodes meet their promises.
-pub mod Calling

@@ -1,2 +1,0 @@
--- Why making meets its promise.
-pub mod Calling

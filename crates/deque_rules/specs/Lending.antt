@@ -1,0 +1,10 @@
+-- The links that five lent slices are, before a call and after it: heads, tails; next, prev, home.
+use denote.Ref.{now}
+use Rattle.numbers.specs.Lending.{Numbers}
+use Rattle.deque_rules.specs.Lists.{Links, links}
+
+abbrev pub linksBefore : Numbers → Numbers → Numbers → Numbers → Numbers → Links
+linksBefore h t n p o = links (now (h .entry)) (now (t .entry)) (now (n .entry)) (now (p .entry)) (now (o .entry))
+
+abbrev pub linksAfter : Numbers → Numbers → Numbers → Numbers → Numbers → Links
+linksAfter h t n p o = links (now (h .exit)) (now (t .exit)) (now (n .exit)) (now (p .exit)) (now (o .exit))

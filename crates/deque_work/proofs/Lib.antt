@@ -1,3 +1,0 @@
--- The laws of the work on sound records.
-pub mod Keeping
-pub mod Working

@@ -1,4 +1,0 @@
--- What the contracts of the unchecked work on links cite.
-pub mod Step
-pub mod Answer
-pub mod Work

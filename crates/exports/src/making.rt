@@ -1,0 +1,37 @@
+// Create, and enable answered in numbers. No `requires`. A refused call leaves every record as found.
+ghost use Rattle.face_rules.specs.exports.Exports.{ExportEnable};
+ghost use Rattle.wheel_rules.specs.calls.Calls.{Create};
+ghost use Rattle.face_rules.specs.nodes.Lending.{before, after};
+use crate::words::tell_noted;
+use face::enable;
+use face_rules::nodes::Node;
+use wheel_rules::calls::Created;
+use wheel_rules::records::Clock;
+
+// Begins a wheel with this first serial: clock, heads and tails by value. Never refused.
+#[no_mangle]
+pub extern "C" fn wheel_create(first: u64) -> Created
+    ensures { λ r. ⌜ Create first (r .clock) (r .heads) (r .tails) ⌝ }
+{
+    wheel::create(first)
+}
+
+// Lays the lent nodes and entries out as a wheel with no timer. Refuses (2, 3).
+#[no_mangle]
+pub extern "C" fn wheel_enable(
+    nodes: &mut [Node],
+    clock: &mut Clock,
+    heads: &mut [usize],
+    tails: &mut [usize],
+    dated: &mut [bool],
+    deadline: &mut [u64],
+    stamp: &mut [u32],
+    answer: &mut [u64; 5],
+) -> u64
+    ensures { λ r. ⌜ ExportEnable
+        (before heads tails nodes dated deadline stamp (now (clock .entry)))
+        (after heads tails nodes dated deadline stamp (now (clock .exit))) (now (answer .exit)) r ⌝ }
+{
+    let told = enable(nodes, clock, heads, tails, dated, deadline, stamp);
+    tell_noted(told, answer)
+}

@@ -1,0 +1,43 @@
+// Set entry, answered in numbers. No `requires`. A refused call leaves every record as found.
+ghost use Rattle.face_rules.specs.exports.Exports.{ExportSetEntry};
+ghost use Rattle.face_rules.specs.nodes.Lending.{before, after};
+use crate::words::tell_noted;
+use face::set_entry;
+use face_rules::nodes::Node;
+use wheel_rules::records::Clock;
+
+// Sets the entry e: whether it has a deadline, which, and its generation. Refuses (1, 4, 5, 7).
+#[no_mangle]
+pub extern "C" fn wheel_set_entry(
+    nodes: &[Node],
+    clock: Clock,
+    heads: &[usize],
+    tails: &[usize],
+    dated: &mut [bool],
+    deadline: &mut [u64],
+    stamp: &mut [u32],
+    e: usize,
+    has: bool,
+    due: u64,
+    h: u32,
+    answer: &mut [u64; 5],
+) -> u64
+    ensures { λ r. ⌜ ExportSetEntry
+        (before heads tails nodes dated deadline stamp clock)
+        (after heads tails nodes dated deadline stamp clock) (now (answer .exit)) e has due h r ⌝ }
+{
+    let told = set_entry(
+        nodes,
+        clock,
+        heads,
+        tails,
+        dated,
+        deadline,
+        stamp,
+        e,
+        has,
+        due,
+        h,
+    );
+    tell_noted(told, answer)
+}

@@ -1,0 +1,28 @@
+// Enable over lent nodes. No `requires`. A refused call leaves every record as found.
+ghost use Rattle.face_rules.specs.Faces.{FaceEnable};
+ghost use Rattle.face_rules.specs.nodes.Lending.{before, after};
+use face_rules::nodes::Node;
+use face_works::making::enable_work;
+use nodes::laying::lay;
+use wheel_rules::calls::Noted;
+use wheel_rules::records::Clock;
+
+// Lays the lent nodes and entries out as a wheel with no timer. Refuses (2, 3).
+pub fn enable(
+    nodes: &mut [Node],
+    clock: &mut Clock,
+    heads: &mut [usize],
+    tails: &mut [usize],
+    dated: &mut [bool],
+    deadline: &mut [u64],
+    stamp: &mut [u32],
+) -> Noted
+    ensures { λ r. ⌜ FaceEnable
+        (before heads tails nodes dated deadline stamp (now (clock .entry)))
+        (after heads tails nodes dated deadline stamp (now (clock .exit))) r ⌝ }
+{
+    let turn = enable_work(nodes.len(), *clock, heads, tails, dated, deadline, stamp);
+    *clock = turn.clock;
+    lay(nodes, turn.laid);
+    turn.answer
+}

@@ -1,2 +1,0 @@
--- What the theorems on histories of the calls over lent nodes speak of. Assumes nothing.
-pub mod History

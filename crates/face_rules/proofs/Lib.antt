@@ -1,0 +1,11 @@
+-- The laws of the face. Determined, Steps and Runs are what a reader looks for.
+pub mod Turning
+pub mod Loading
+pub mod Crowding
+pub mod Facing
+pub mod Enabling
+pub mod Answers
+pub mod Determined
+pub mod Steps
+pub mod Runs
+pub mod exports

@@ -1,0 +1,5 @@
+-- The laws of lent nodes and their columns.
+pub mod Fills
+pub mod Written
+pub mod Using
+pub mod InPlace

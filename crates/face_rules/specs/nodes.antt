@@ -1,0 +1,6 @@
+-- Lent nodes and the six columns that they are read into.
+pub mod Shown
+pub mod Columns
+pub mod Laid
+pub mod Blocks
+pub mod Lending

@@ -1,0 +1,63 @@
+// The face: the wheel's calls over lent nodes. Its promises, the theorems about them, and what the calls answer. No
+// code.
+pub mod nodes;
+
+use wheel_rules::calls::Noted;
+use wheel_rules::records::Clock;
+
+pub struct ScheduledTurn {
+    pub clock: Clock,
+    pub answer: Scheduled,
+}
+
+pub struct RescheduledTurn {
+    pub clock: Clock,
+    pub answer: Rescheduled,
+}
+
+pub struct PulledTurn {
+    pub clock: Clock,
+    pub answer: Pulled,
+}
+
+// Schedule: the handle.
+pub enum Scheduled {
+    Armed { slot: usize, serial: u64 },
+    Refused(u64),
+}
+
+// Reschedule: moved; or removed, since the entry has no deadline.
+pub enum Rescheduled {
+    Moved,
+    Removed,
+    Refused(u64),
+}
+
+// Pull: an event or End.
+pub enum Pulled {
+    Expired {
+        entry: usize,
+        serial: u64,
+        deadline: u64,
+    },
+    Moved {
+        entry: usize,
+        serial: u64,
+        place: u64,
+    },
+    End,
+    Refused(u64),
+}
+
+// What a call leaves beside the nodes: the clock, and the answer. Those of the other answers are in answers.
+pub struct NotedTurn {
+    pub clock: Clock,
+    pub answer: Noted,
+}
+
+// What enable leaves beside the nodes: the same, and whether they are to be laid out.
+pub struct LaidTurn {
+    pub clock: Clock,
+    pub answer: Noted,
+    pub laid: bool,
+}

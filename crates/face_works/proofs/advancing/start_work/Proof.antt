@@ -1,0 +1,67 @@
+-- `start_work` meets its promise.
+use Rattle.face_rules.proofs.Loading.{front-length}
+use Rattle.face_rules.proofs.Facing.{start-crowded, start-done}
+use borrow.Author.Needs.{needs}
+use Rattle.face_works.proofs.advancing.start_work.Statement.{statement}
+use Rattle.face_works.proofs.advancing.start_work.Tie as tie
+
+crowded-requires : tie.Need-crowded-requires
+crowded-requires c κs = search needs
+
+returns : tie.Need-returns
+returns c = start-crowded (c .before .if1 .taken) (c .crowded .ensures)
+
+slice-aggregate-start : tie.Need-slice-aggregate-start
+slice-aggregate-start c =
+    let x = c .before in
+    front-length _ (x .if1 .left) _ (x .before .before .before .before .before .before .before .before .before .before .before .before .pre .next-has)
+
+slice-aggregate-start-2 : tie.Need-slice-aggregate-start-2
+slice-aggregate-start-2 c =
+    let x = c .before .before in
+    front-length _ (x .if1 .left) _ (x .before .before .before .before .before .before .before .before .before .before .before .before .pre .prev-has)
+
+slice-aggregate-start-3 : tie.Need-slice-aggregate-start-3
+slice-aggregate-start-3 c =
+    let x = c .before .before .before in
+    front-length _ (x .if1 .left) _ (x .before .before .before .before .before .before .before .before .before .before .before .before .pre .bucket-has)
+
+slice-aggregate-start-4 : tie.Need-slice-aggregate-start-4
+slice-aggregate-start-4 c =
+    let x = c .before .before .before .before in
+    front-length _ (x .if1 .left) _ (x .before .before .before .before .before .before .before .before .before .before .before .before .pre .entry-has)
+
+slice-aggregate-start-5 : tie.Need-slice-aggregate-start-5
+slice-aggregate-start-5 c =
+    let x = c .before .before .before .before .before in
+    front-length _ (x .if1 .left) _ (x .before .before .before .before .before .before .before .before .before .before .before .before .pre .generation-has)
+
+slice-aggregate-start-6 : tie.Need-slice-aggregate-start-6
+slice-aggregate-start-6 c =
+    let x = c .before .before .before .before .before .before in
+    front-length _ (x .if1 .left) _ (x .before .before .before .before .before .before .before .before .before .before .before .before .pre .serial-has)
+
+start-requires : tie.Need-start-requires
+start-requires c κs = search needs
+
+timed-requires : tie.Need-timed-requires
+timed-requires c κs = search needs
+
+returns-2 : tie.Need-returns-2
+returns-2 c = start-done (c .before .before .before .before .before .before .before .before .if1 .left) (c .before .start .ensures) (c .timed .ensures)
+
+pub start-work-spec : {M : Type 1} → statement M
+start-work-spec =
+    tie.close
+    (tie.spec
+    crowded-requires
+    returns
+    slice-aggregate-start
+    slice-aggregate-start-2
+    slice-aggregate-start-3
+    slice-aggregate-start-4
+    slice-aggregate-start-5
+    slice-aggregate-start-6
+    start-requires
+    timed-requires
+    returns-2)

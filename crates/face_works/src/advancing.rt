@@ -1,0 +1,101 @@
+// The work of start and abandon. For proved code only, unchecked: it hands over columns that are long enough.
+ghost use Rattle.face_rules.specs.nodes.Columns.{Holds, columns};
+ghost use Rattle.face_rules.specs.Works.{StartFor, AbandonFor};
+ghost use Rattle.face_rules.specs.nodes.Lending.{columnsBefore};
+use crate::answers::timed;
+use crate::refusals::crowded;
+use face_rules::NotedTurn;
+use wheel_rules::calls::Noted;
+use wheel_rules::records::Clock;
+
+// Start: opens an advance to q. Refuses (1, 4, 5).
+pub fn start_work(
+    next: &[usize],
+    prev: &[usize],
+    bucket: &[usize],
+    entry: &[usize],
+    generation: &[u32],
+    serial: &[u64],
+    n: usize,
+    clock: Clock,
+    heads: &[usize],
+    tails: &[usize],
+    dated: &[bool],
+    deadline: &[u64],
+    stamp: &[u32],
+    q: u64,
+) -> NotedTurn
+    requires { ⌜ Holds 4096 (columns (now next) (now prev) (now bucket) (now entry) (now generation) (now serial)) ⌝ }
+    ensures { λ r. ⌜ StartFor
+        (columnsBefore next prev bucket entry generation serial) n clock (now (heads .entry)) (now (tails .entry))
+        (now (dated .entry)) (now (deadline .entry)) (now (stamp .entry)) q r ⌝ }
+{
+    if 4096 < n {
+        let no = crowded(clock);
+        return NotedTurn {
+            clock,
+            answer: Noted::Refused(no),
+        };
+    }
+    let told = wheel::start(
+        heads,
+        tails,
+        &next[..n],
+        &prev[..n],
+        &bucket[..n],
+        &entry[..n],
+        &generation[..n],
+        &serial[..n],
+        dated,
+        deadline,
+        stamp,
+        clock,
+        q,
+    );
+    timed(clock, told)
+}
+
+// Abandon: closes the open advance and restores the reading that it started from. Refuses (1, 4, 6).
+pub fn abandon_work(
+    next: &[usize],
+    prev: &[usize],
+    bucket: &[usize],
+    entry: &[usize],
+    generation: &[u32],
+    serial: &[u64],
+    n: usize,
+    clock: Clock,
+    heads: &[usize],
+    tails: &[usize],
+    dated: &[bool],
+    deadline: &[u64],
+    stamp: &[u32],
+) -> NotedTurn
+    requires { ⌜ Holds 4096 (columns (now next) (now prev) (now bucket) (now entry) (now generation) (now serial)) ⌝ }
+    ensures { λ r. ⌜ AbandonFor
+        (columnsBefore next prev bucket entry generation serial) n clock (now (heads .entry)) (now (tails .entry))
+        (now (dated .entry)) (now (deadline .entry)) (now (stamp .entry)) r ⌝ }
+{
+    if 4096 < n {
+        let no = crowded(clock);
+        return NotedTurn {
+            clock,
+            answer: Noted::Refused(no),
+        };
+    }
+    let told = wheel::abandon(
+        heads,
+        tails,
+        &next[..n],
+        &prev[..n],
+        &bucket[..n],
+        &entry[..n],
+        &generation[..n],
+        &serial[..n],
+        dated,
+        deadline,
+        stamp,
+        clock,
+    );
+    timed(clock, told)
+}

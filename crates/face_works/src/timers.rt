@@ -1,0 +1,172 @@
+// The work of schedule, reschedule and deschedule. For proved code only, unchecked: it hands over columns that are long
+// enough.
+ghost use Rattle.face_rules.specs.nodes.Columns.{Holds, columns};
+ghost use Rattle.face_rules.specs.Works.{ScheduleFor, RescheduleFor, DescheduleFor};
+ghost use Rattle.face_rules.specs.nodes.Lending.{columnsBefore, columnsAfter};
+use crate::answers;
+use crate::refusals::crowded;
+use face_rules::NotedTurn;
+use face_rules::Rescheduled;
+use face_rules::RescheduledTurn;
+use face_rules::Scheduled;
+use face_rules::ScheduledTurn;
+use wheel_rules::calls::Noted;
+use wheel_rules::records::Clock;
+
+// Schedule: a new node for the entry e, whose generation is h. Refuses (1, 4, 5, 7 to 11).
+pub fn schedule_work(
+    next: &mut [usize],
+    prev: &mut [usize],
+    bucket: &mut [usize],
+    entry: &mut [usize],
+    generation: &mut [u32],
+    serial: &mut [u64],
+    n: usize,
+    clock: Clock,
+    heads: &mut [usize],
+    tails: &mut [usize],
+    dated: &[bool],
+    deadline: &[u64],
+    stamp: &[u32],
+    e: usize,
+    h: u32,
+) -> ScheduledTurn
+    requires { ⌜ Holds 4096 (columns (now next) (now prev) (now bucket) (now entry) (now generation) (now serial)) ⌝ }
+    ensures { λ r. ⌜ ScheduleFor
+        (columnsBefore next prev bucket entry generation serial)
+        (columnsAfter next prev bucket entry generation serial) n clock (now (heads .entry)) (now (tails .entry))
+        (now (heads .exit)) (now (tails .exit)) (now (dated .entry)) (now (deadline .entry)) (now (stamp .entry)) e h r ⌝ }
+{
+    if 4096 < n {
+        let no = crowded(clock);
+        return ScheduledTurn {
+            clock,
+            answer: Scheduled::Refused(no),
+        };
+    }
+    let told = wheel::schedule(
+        heads,
+        tails,
+        &mut next[..n],
+        &mut prev[..n],
+        &mut bucket[..n],
+        &mut entry[..n],
+        &mut generation[..n],
+        &mut serial[..n],
+        dated,
+        deadline,
+        stamp,
+        clock,
+        e,
+        h,
+    );
+    answers::scheduled(clock, told)
+}
+
+// Reschedule: moves the timer with the handle (slot, number), armed with the generation h, or removes it. Refuses (1,
+// 4, 5, 12, 13).
+pub fn reschedule_work(
+    next: &mut [usize],
+    prev: &mut [usize],
+    bucket: &mut [usize],
+    entry: &mut [usize],
+    generation: &mut [u32],
+    serial: &mut [u64],
+    n: usize,
+    clock: Clock,
+    heads: &mut [usize],
+    tails: &mut [usize],
+    dated: &[bool],
+    deadline: &[u64],
+    stamp: &[u32],
+    slot: usize,
+    number: u64,
+    h: u32,
+) -> RescheduledTurn
+    requires { ⌜ Holds 4096 (columns (now next) (now prev) (now bucket) (now entry) (now generation) (now serial)) ⌝ }
+    ensures { λ r. ⌜ RescheduleFor
+        (columnsBefore next prev bucket entry generation serial)
+        (columnsAfter next prev bucket entry generation serial) n clock (now (heads .entry)) (now (tails .entry))
+        (now (heads .exit)) (now (tails .exit)) (now (dated .entry)) (now (deadline .entry)) (now (stamp .entry)) slot
+        number h r ⌝ }
+{
+    if 4096 < n {
+        let no = crowded(clock);
+        return RescheduledTurn {
+            clock,
+            answer: Rescheduled::Refused(no),
+        };
+    }
+    let told = wheel::reschedule(
+        heads,
+        tails,
+        &mut next[..n],
+        &mut prev[..n],
+        &mut bucket[..n],
+        &mut entry[..n],
+        &mut generation[..n],
+        &mut serial[..n],
+        dated,
+        deadline,
+        stamp,
+        clock,
+        slot,
+        number,
+        h,
+    );
+    answers::rescheduled(clock, told)
+}
+
+// Deschedule: unlinks and frees the timer with the handle (slot, number), armed with the generation h. Refuses (1, 4,
+// 5, 12, 13).
+pub fn deschedule_work(
+    next: &mut [usize],
+    prev: &mut [usize],
+    bucket: &mut [usize],
+    entry: &mut [usize],
+    generation: &mut [u32],
+    serial: &mut [u64],
+    n: usize,
+    clock: Clock,
+    heads: &mut [usize],
+    tails: &mut [usize],
+    dated: &[bool],
+    deadline: &[u64],
+    stamp: &[u32],
+    slot: usize,
+    number: u64,
+    h: u32,
+) -> NotedTurn
+    requires { ⌜ Holds 4096 (columns (now next) (now prev) (now bucket) (now entry) (now generation) (now serial)) ⌝ }
+    ensures { λ r. ⌜ DescheduleFor
+        (columnsBefore next prev bucket entry generation serial)
+        (columnsAfter next prev bucket entry generation serial) n clock (now (heads .entry)) (now (tails .entry))
+        (now (heads .exit)) (now (tails .exit)) (now (dated .entry)) (now (deadline .entry)) (now (stamp .entry)) slot
+        number h r ⌝ }
+{
+    if 4096 < n {
+        let no = crowded(clock);
+        return NotedTurn {
+            clock,
+            answer: Noted::Refused(no),
+        };
+    }
+    let told = wheel::deschedule(
+        heads,
+        tails,
+        &mut next[..n],
+        &mut prev[..n],
+        &mut bucket[..n],
+        &mut entry[..n],
+        &mut generation[..n],
+        &mut serial[..n],
+        dated,
+        deadline,
+        stamp,
+        clock,
+        slot,
+        number,
+        h,
+    );
+    answers::timed(clock, told)
+}

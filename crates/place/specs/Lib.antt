@@ -1,3 +1,0 @@
--- What the contracts of placement cite. Assumes nothing.
-pub mod Levels
-pub mod Promises

@@ -1,3 +1,0 @@
--- What the contracts of arming cite. Assumes nothing.
-pub mod Change
-pub mod Timers

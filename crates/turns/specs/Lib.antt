@@ -1,2 +1,0 @@
--- What the contracts of the turns cite. Assumes nothing.
-pub mod Turns

@@ -1,2 +1,0 @@
--- What the theorems on histories speak of. Assumes nothing.
-pub mod History

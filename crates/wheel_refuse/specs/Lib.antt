@@ -1,3 +1,0 @@
--- What the contracts of the refusals cite. Assumes nothing.
-pub mod Lent
-pub mod Refuse

@@ -1,0 +1,3 @@
+-- The laws of the turns up to a pull's answer.
+pub mod Pulling
+pub mod Skipping

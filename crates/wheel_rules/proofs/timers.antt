@@ -1,0 +1,2 @@
+-- The laws of arming, disarming and rearming.
+pub mod Timing

@@ -1,0 +1,4 @@
+-- The laws of one turn of a pull.
+pub mod Looking
+pub mod Going
+pub mod Taking

@@ -1,0 +1,2 @@
+-- Histories of calls.
+pub mod History

@@ -1,0 +1,3 @@
+-- The records as enabling lays them out.
+pub mod Layout
+pub mod Around

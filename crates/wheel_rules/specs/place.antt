@@ -1,0 +1,3 @@
+-- Where a deadline is placed.
+pub mod Levels
+pub mod Promises

@@ -1,0 +1,3 @@
+-- A popped node, and where an advance goes from a bucket.
+pub mod Position
+pub mod Pop

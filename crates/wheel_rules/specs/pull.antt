@@ -1,0 +1,3 @@
+-- The turns up to a pull's answer.
+pub mod Skips
+pub mod Pull

@@ -1,0 +1,4 @@
+-- Which refusal applies.
+pub mod Lent
+pub mod Refuse
+pub mod Lending

@@ -1,0 +1,3 @@
+-- Arming, disarming and rearming on sound records.
+pub mod Change
+pub mod Timers

@@ -1,0 +1,2 @@
+-- One turn of a pull.
+pub mod Turns

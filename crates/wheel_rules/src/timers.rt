@@ -1,0 +1,9 @@
+// A timer just armed.
+use crate::records::Clock;
+
+// The handle of the timer armed, slot and serial, and the clock then.
+pub struct Armed {
+    pub clock: Clock,
+    pub slot: usize,
+    pub serial: u64,
+}
