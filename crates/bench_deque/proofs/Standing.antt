@@ -5,7 +5,7 @@ use mathlib.Core.Path.{_≡_, refl, sym, ap, subst, _∙_}
 use mathlib.Core.Logic.{inl, ⊎-elim}
 use mathlib.Core.Bool.{Bool, true, false, not}
 use mathlib.Core.List.{List, [], _∷_}
-use lib.ListN.{length, getD}
+use lib.ListN.{length}
 use Rattle.links.specs.Chain.{none, In, first, rest}
 use Rattle.links.specs.Lists.{homeOf}
 use Rattle.deque_sound.specs.State.{State, state, nodes}
@@ -16,15 +16,7 @@ use Rattle.deque_work.specs.Work.{Pushes, Drops, Moves}
 use Rattle.deque_plain.proofs.Keeping.{stepped-shows}
 use Rattle.deque_sound.proofs.Sounding.{sound-shows}
 use Rattle.deque_plain.specs.declared.answer.Looked.{Looked}
-use Rattle.bench_deque.specs.Ready.{Ready, Full, Held, Tested, TestedFull}
-
--- ---- a node of the first deque
-pub not-held : (home : List ℕ) (s : ℕ) → Held home s false
-not-held home s =
-    record {
-      slot = λ t. let z : _≡_ {A = ℕ} 0 1 = cc in absurd (omega (arith, z));
-      first = λ t. let z : _≡_ {A = ℕ} 0 1 = cc in absurd (omega (arith, z));
-    }
+use Rattle.bench_deque.specs.Ready.{Ready, Full, Tested, TestedFull}
 
 module _ (a : State) (free : ℕ) where
   pub not-tested : Tested a free false
@@ -76,15 +68,18 @@ module _ (a : State) (free : ℕ) where
       }
 
   -- ---- a node leaves, and is taken again
-  pub held-asks : (s : ℕ) (good : Bool) → Ready a free → Held (a .links .home) s good → not good ≡ false → NodeReady a free 0 s
-  held-asks s true y h t = record { v = y .v; shows = y .shows; slot = rw (y .shows .rep .home-len) at (h .slot refl); deque = omega (arith, y .one); homed = h .first refl }
-  held-asks s false y h t = let z : _≡_ {A = ℕ} 0 1 = cc in absurd (omega (arith, z))
-
   pub left-asks : (b : State) (s r : ℕ) → NodeReady a free 0 s → Ready a free → Drops a b free 0 s r → PushReady b s 0
   left-asks b s r n y d = record { v = _; shows = d .does (y .v) (y .shows); slot = omega (arith, n .slot, n .shows .rep .next-len, y .shows .rep .next-len); deque = omega (arith, y .one) }
 
-  pub turned-ready : (b c : State) (s e x r : ℕ) → Ready a free → Drops a b free 0 s e → Pushes b c s 0 x r → Ready c r
-  turned-ready b c s e x r y d p = record { v = _; shows = p .does _ (d .does (y .v) (y .shows)); one = y .one }
+  -- ---- a node is pushed, and the front leaves
+  pub push-asks : (n : ℕ) → Ready a free → nodes a ≡ n → free < n → PushReady a free 0
+  push-asks n y i h = record { v = y .v; shows = y .shows; slot = omega (arith, h, i, y .shows .rep .next-len); deque = omega (arith, y .one) }
+
+  pub pushed-asks : (b : State) (x r : ℕ) → PushReady a free 0 → Pushes a b free 0 x r → DequeReady b r 0
+  pushed-asks b x r y p = record { v = _; shows = p .does (y .v) (y .shows); deque = y .deque }
+
+  pub popped-asks : (b : State) (s e : ℕ) → NodeReady a free 0 s → Drops a b free 0 s e → PushReady b s 0
+  popped-asks b s e n d = record { v = _; shows = d .does (n .v) (n .shows); slot = n .slot; deque = n .deque }
 
   -- ---- the test
   pub tested-ready : (good : Bool) → Tested a free good → not good ≡ false → Ready a free

@@ -1,9 +1,5 @@
 // The numbers that drive the workloads: the generator, and the node that a number chooses.
 ghost use Prim.Native.Nat.{_≤_, _<_};
-ghost use mathlib.Core.Path.{_≡_};
-ghost use mathlib.Core.Bool.{true};
-ghost use lib.ListN.{length, getD};
-ghost use Rattle.bench_deque.specs.Ready.{Held};
 
 const HALF: u64 = 0x1_0000_0000;
 
@@ -20,17 +16,4 @@ pub fn chosen(x: u64, nodes: u64) -> usize
     ensures { λ r. ⌜ r < nodes ⌝ }
 {
     ((x / HALF) * nodes / HALF) as usize
-}
-
-// Whether s is a node of the first deque.
-pub fn held(home: &[usize], s: usize) -> bool
-    ensures { λ r. ⌜ Held (now (home .entry)) s r ⌝ }
-{
-    if home.len() <= s {
-        return false;
-    }
-    if home[s] == 0 {
-        return true;
-    }
-    false
 }

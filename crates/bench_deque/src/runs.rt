@@ -3,16 +3,15 @@ ghost use Prim.Native.Nat.{_≤_, _<_};
 ghost use mathlib.Core.Path.{_≡_};
 ghost use lib.ListN.{length};
 ghost use Rattle.deque_sound.specs.State.{state};
+ghost use Rattle.deque_sound.specs.Ready.{PushReady};
 ghost use Rattle.bench_deque.specs.Ready.{Ready, Full};
 use crate::choice::chosen;
 use crate::choice::following;
-use crate::choice::held;
 use crate::digests::digest;
 use deque::answer::Looked;
 use deque_work::unchecked;
 
-// So many times the front is popped, with a push after it: the sum of what was popped, and the digest of what is left.
-// The last push is one too many, and the digest leaves it out.
+// So many times a push, with a pop of the front after it: the sum of what was popped, and the digest of what is left.
 pub fn queue(
     heads: &mut [usize],
     tails: &mut [usize],
@@ -26,7 +25,7 @@ pub fn queue(
     calls: u64,
     first: u64,
 ) -> u64
-    requires { ⌜ Ready (state (now heads) (now tails) (now lens) (now cursors) (now next) (now prev) (now home) (now element)) free ⌝ }
+    requires { ⌜ PushReady (state (now heads) (now tails) (now lens) (now cursors) (now next) (now prev) (now home) (now element)) free 0 ⌝ }
 {
     let mut spare = free;
     let mut sum: u64 = 0;
@@ -35,8 +34,21 @@ pub fn queue(
     while left > 0 {
         left -= 1;
         x = following(x);
-        let s = heads[0];
-        if !held(home, s) {
+        let rest = unchecked::push(
+            heads,
+            tails,
+            lens,
+            cursors,
+            next,
+            prev,
+            home,
+            element,
+            spare,
+            0,
+            x,
+        );
+        spare = heads[0];
+        if next.len() <= spare {
             return 0;
         }
         let e = unchecked::release(
@@ -48,26 +60,13 @@ pub fn queue(
             prev,
             home,
             element,
+            rest,
+            0,
             spare,
-            0,
-            s,
-        );
-        spare = unchecked::push(
-            heads,
-            tails,
-            lens,
-            cursors,
-            next,
-            prev,
-            home,
-            element,
-            s,
-            0,
-            x,
         );
         sum = std::num::wrapping_add_u64(sum, e);
     }
-    std::num::wrapping_add_u64(sum, digest(heads, next, element, next.len() / 2))
+    std::num::wrapping_add_u64(sum, digest(heads, next, element, next.len()))
 }
 
 // So many nodes unlinked at random, each with a push after it, where no node is free: the digest.
