@@ -35,42 +35,6 @@ pub struct Field {
     pub value: u64,
 }
 
-// The kind of a call's first field.
-pub fn first_kind(call: u64) -> u64 {
-    match call {
-        12 => PLACE,
-        22 => LENT,
-        10..=59 => NUMBER,
-        _ => UNREAD,
-    }
-}
-
-// Of its second field.
-pub fn second_kind(call: u64) -> u64 {
-    match call {
-        20 => GENERATION,
-        21 | 31 | 32 => NUMBER,
-        22 => LENT,
-        30 => DEADLINE,
-        60 | 63 => FLAG,
-        69 => LINK,
-        60..=68 => NUMBER,
-        _ => UNREAD,
-    }
-}
-
-// Of its third field.
-pub fn third_kind(call: u64) -> u64 {
-    match call {
-        30..=32 => GENERATION,
-        40..=42 => LINK,
-        43 | 45 => NUMBER,
-        44 => GENERATION,
-        50 | 51 => LINK,
-        _ => UNREAD,
-    }
-}
-
 // Part k of the line as a field of that kind.
 pub fn field_at(line: &[u8], k: usize, kind: u64) -> Field {
     if kind == UNREAD {
