@@ -7,8 +7,8 @@ use crate::requests;
 use crate::requests::Request;
 use crate::state::State;
 use crate::state::answer;
+use crate::state::answered;
 use crate::state::plain;
-use crate::state::timed;
 
 // `lend`, `create`, a poke, `place`, a line that answers nothing, or a bad one.
 pub fn change(
@@ -64,7 +64,7 @@ fn create(heads: &mut [usize; 165], tails: &mut [usize; 165], s: State, first: u
     let ends = made.tails;
     *tails = ends;
     let clock = made.clock;
-    plain(timed(s, clock), answers::GOOD)
+    answered(s, clock, answers::GOOD, 0, 0, 0, 0)
 }
 
 // `place`, `poke-clock`, or a bad line.
@@ -84,6 +84,6 @@ fn placed(s: State, r: Request) -> State {
 }
 
 fn poked(s: State, r: Request) -> State {
-    let clock = s.clock;
-    plain(timed(s, poke_clock(clock, r.call, r.second)), answers::GOOD)
+    let clock = poke_clock(s.clock, r.call, r.second);
+    answered(s, clock, answers::GOOD, 0, 0, 0, 0)
 }
