@@ -1,5 +1,4 @@
 // What a call answers, and the line that says so.
-use crate::state::State;
 
 // An answer is a word, by its place in the table below, and so many numbers after it.
 pub const GOOD: usize = 0;
@@ -30,27 +29,41 @@ pub const NEVER: usize = 21;
 pub const NOTHING: usize = 22;
 
 // Puts the answer after the bytes that wait in out, and answers how many wait then.
-pub fn say(out: &mut [u8; 65536], s: State) -> usize {
-    let word = s.word;
-    let at = s.waiting;
+pub fn say(
+    out: &mut [u8; 65536],
+    at: usize,
+    word: usize,
+    numbers: usize,
+    first: u64,
+    second: u64,
+    third: u64,
+) -> usize {
     match word {
         20 => lines::append(out, at, b"bad line\n"),
         21 => lines::append(out, at, b"due -\n"),
         22 => at,
-        _ => say_word(out, s),
+        _ => say_word(out, at, word, numbers, first, second, third),
     }
 }
 
-fn say_word(out: &mut [u8; 65536], s: State) -> usize {
-    let word = lines::part(
+fn say_word(
+    out: &mut [u8; 65536],
+    at: usize,
+    word: usize,
+    numbers: usize,
+    first: u64,
+    second: u64,
+    third: u64,
+) -> usize {
+    let text = lines::part(
         b"ok rescheduled removed end refused armed expired due place digest",
-        s.word,
+        word,
     );
-    let worded = lines::append(out, s.waiting, word);
-    let first = say_number(out, worded, s.numbers > 0, s.first);
-    let second = say_number(out, first, s.numbers > 1, s.second);
-    let third = say_number(out, second, s.numbers > 2, s.third);
-    lines::append(out, third, b"\n")
+    let worded = lines::append(out, at, text);
+    let one = say_number(out, worded, numbers > 0, first);
+    let two = say_number(out, one, numbers > 1, second);
+    let three = say_number(out, two, numbers > 2, third);
+    lines::append(out, three, b"\n")
 }
 
 // A space and the number, if it is one of the answer's.

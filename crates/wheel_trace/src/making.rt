@@ -71,19 +71,15 @@ fn create(heads: &mut [usize; 165], tails: &mut [usize; 165], s: State, first: u
 fn aside(s: State, r: Request) -> State {
     let call = r.call;
     match call {
-        requests::PLACE => placed(s, r),
-        60..=69 => poked(s, r),
+        requests::PLACE => {
+            let at = place::wheel_place(r.index as u64, r.second);
+            answer(s, answers::PLACE, 1, at, 0, 0)
+        }
+        60..=69 => {
+            let clock = poke_clock(s.clock, call, r.second);
+            answered(s, clock, answers::GOOD, 0, 0, 0, 0)
+        }
         requests::BAD => plain(s, answers::BAD),
         _ => s,
     }
-}
-
-fn placed(s: State, r: Request) -> State {
-    let at = place::wheel_place(r.index as u64, r.second);
-    answer(s, answers::PLACE, 1, at, 0, 0)
-}
-
-fn poked(s: State, r: Request) -> State {
-    let clock = poke_clock(s.clock, r.call, r.second);
-    answered(s, clock, answers::GOOD, 0, 0, 0, 0)
 }

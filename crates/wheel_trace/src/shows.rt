@@ -140,49 +140,32 @@ fn node_row(
 }
 
 // Of the entry e: `E DEADLINE GENERATION` in the dump; in the digest the deadline is two numbers.
-fn entry_row(
-    dated: &[bool; 4100],
-    deadline: &[u64; 4100],
-    stamp: &[u32; 4100],
-    sums: bool,
-    e: usize,
-) -> Row {
-    if 4100 <= e {
-        return bucket_row(e, 0, 0);
-    }
+fn entry_row(e: usize, dated: bool, due: u64, stamp: u32, sums: bool) -> Row {
     if sums {
-        return summed_entry(e, dated[e], deadline[e], stamp[e]);
+        let kept = if dated { due } else { 0 };
+        let values = [
+            e as u64,
+            number_of(dated),
+            kept,
+            wide(stamp),
+            0,
+            0,
+            0,
+            0,
+            0,
+            0,
+        ];
+        return Row {
+            word: 3,
+            values,
+            count: 4,
+            from: 0,
+            upto: 0,
+        };
     }
-    shown_entry(e, dated[e], deadline[e], stamp[e])
-}
-
-fn summed_entry(e: usize, dated: bool, due: u64, stamp: u32) -> Row {
-    let kept = if dated { due } else { 0 };
-    let values = [
-        e as u64,
-        number_of(dated),
-        kept,
-        stamp as u64,
-        0,
-        0,
-        0,
-        0,
-        0,
-        0,
-    ];
-    Row {
-        word: 3,
-        values,
-        count: 4,
-        from: 0,
-        upto: 0,
-    }
-}
-
-fn shown_entry(e: usize, dated: bool, due: u64, stamp: u32) -> Row {
     let kept = if dated { due } else { NONE };
     let upto = if dated { 1 } else { 2 };
-    let values = [e as u64, kept, stamp as u64, 0, 0, 0, 0, 0, 0, 0];
+    let values = [e as u64, kept, wide(stamp), 0, 0, 0, 0, 0, 0, 0];
     Row {
         word: 3,
         values,
@@ -221,7 +204,11 @@ fn row_at(
     if x < nodes {
         return node_row(next, prev, bucket, entry, generation, serial, x);
     }
-    entry_row(dated, deadline, stamp, sums, x - nodes)
+    let e = x - nodes;
+    if 4100 <= e {
+        return bucket_row(e, 0, 0);
+    }
+    entry_row(e, dated[e], deadline[e], stamp[e], sums)
 }
 
 // How many rows there are: one if the clock is all.

@@ -81,6 +81,14 @@ pub fn shown(s: State, waiting: usize) -> State {
 
 // Says the answer, and writes out what waits where more has to be read.
 pub fn said(out: &mut [u8; 65536], s: State, source: Source) -> State {
-    let waits = say(out, s);
+    let waits = say(
+        out,
+        s.waiting,
+        s.word,
+        s.numbers,
+        s.first,
+        s.second,
+        s.third,
+    );
     shown(s, lines::settle(out, waits, source))
 }
