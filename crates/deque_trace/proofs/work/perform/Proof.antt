@@ -168,77 +168,41 @@ same-length-40 c = refl
 returns-5 : tie.Need-returns-5
 returns-5 c = tt
 
-put-requires : tie.Need-put-requires
-put-requires c κs = tt
+poke-node-requires : tie.Need-poke-node-requires
+poke-node-requires c κs = tt
 
 same-length-41 : tie.Need-same-length-41
-same-length-41 c = c .before .before .put .kept .0
+same-length-41 c = c .before .before .before .before .before .before .before .before .poke-node .kept .0
+
+same-length-42 : tie.Need-same-length-42
+same-length-42 c = c .before .before .before .before .before .before .before .before .poke-node .kept .1 .0
+
+same-length-43 : tie.Need-same-length-43
+same-length-43 c = c .before .before .before .before .before .before .before .before .poke-node .kept .1 .1 .0
+
+same-length-44 : tie.Need-same-length-44
+same-length-44 c = c .before .before .before .before .before .before .before .before .poke-node .kept .1 .1 .1 .0
 
 returns-6 : tie.Need-returns-6
 returns-6 c = tt
 
-put-requires-2 : tie.Need-put-requires-2
-put-requires-2 c κs = tt
+poke-deque-requires : tie.Need-poke-deque-requires
+poke-deque-requires c κs = tt
 
-same-length-42 : tie.Need-same-length-42
-same-length-42 c = c .before .before .put2 .kept .0
+same-length-45 : tie.Need-same-length-45
+same-length-45 c = c .before .before .before .before .before .before .before .before .poke-deque .kept .0
+
+same-length-46 : tie.Need-same-length-46
+same-length-46 c = c .before .before .before .before .before .before .before .before .poke-deque .kept .1 .0
+
+same-length-47 : tie.Need-same-length-47
+same-length-47 c = c .before .before .before .before .before .before .before .before .poke-deque .kept .1 .1 .0
+
+same-length-48 : tie.Need-same-length-48
+same-length-48 c = c .before .before .before .before .before .before .before .before .poke-deque .kept .1 .1 .1 .0
 
 returns-7 : tie.Need-returns-7
 returns-7 c = tt
-
-put-requires-3 : tie.Need-put-requires-3
-put-requires-3 c κs = tt
-
-same-length-43 : tie.Need-same-length-43
-same-length-43 c = c .before .before .put3 .kept .0
-
-returns-8 : tie.Need-returns-8
-returns-8 c = tt
-
-put-element-requires : tie.Need-put-element-requires
-put-element-requires c κs = tt
-
-same-length-44 : tie.Need-same-length-44
-same-length-44 c = c .before .before .put-element .kept .0
-
-returns-9 : tie.Need-returns-9
-returns-9 c = tt
-
-put-requires-4 : tie.Need-put-requires-4
-put-requires-4 c κs = tt
-
-same-length-45 : tie.Need-same-length-45
-same-length-45 c = c .before .before .put4 .kept .0
-
-returns-10 : tie.Need-returns-10
-returns-10 c = tt
-
-put-requires-5 : tie.Need-put-requires-5
-put-requires-5 c κs = tt
-
-same-length-46 : tie.Need-same-length-46
-same-length-46 c = c .before .before .put5 .kept .0
-
-returns-11 : tie.Need-returns-11
-returns-11 c = tt
-
-put-requires-6 : tie.Need-put-requires-6
-put-requires-6 c κs = tt
-
-same-length-47 : tie.Need-same-length-47
-same-length-47 c = c .before .before .put6 .kept .0
-
-returns-12 : tie.Need-returns-12
-returns-12 c = tt
-
-put-requires-7 : tie.Need-put-requires-7
-put-requires-7 c κs = tt
-
-same-length-48 : tie.Need-same-length-48
-same-length-48 c = c .before .before .put7 .kept .0
-
-returns-13 : tie.Need-returns-13
-returns-13 c = tt
 
 ask-requires : tie.Need-ask-requires
 ask-requires c κs = tt
@@ -267,8 +231,8 @@ same-length-55 c = refl
 same-length-56 : tie.Need-same-length-56
 same-length-56 c = refl
 
-returns-14 : tie.Need-returns-14
-returns-14 c = tt
+returns-8 : tie.Need-returns-8
+returns-8 c = tt
 
 pub perform-spec : {M : Type 1} → statement M
 perform-spec =
@@ -329,30 +293,18 @@ perform-spec =
     same-length-39
     same-length-40
     returns-5
-    put-requires
+    poke-node-requires
     same-length-41
-    returns-6
-    put-requires-2
     same-length-42
-    returns-7
-    put-requires-3
     same-length-43
-    returns-8
-    put-element-requires
     same-length-44
-    returns-9
-    put-requires-4
+    returns-6
+    poke-deque-requires
     same-length-45
-    returns-10
-    put-requires-5
     same-length-46
-    returns-11
-    put-requires-6
     same-length-47
-    returns-12
-    put-requires-7
     same-length-48
-    returns-13
+    returns-7
     ask-requires
     same-length-49
     same-length-50
@@ -362,4 +314,4 @@ perform-spec =
     same-length-54
     same-length-55
     same-length-56
-    returns-14)
+    returns-8)
