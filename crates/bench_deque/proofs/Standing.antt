@@ -96,8 +96,15 @@ module _ (a : State) (free : ℕ) where
     deque = omega (arith, y .one);
   }
 
-  pub turned-ready : (b c : State) (s e x r : ℕ) → Ready a free → Drops a b free 0 s e → Pushes b c s 0 x r → Ready c r
-  turned-ready b c s e x r y d p = record { v = _; shows = p .does _ (d .does (y .v) (y .shows)); one = y .one }
+  -- ---- a node is pushed, and the front leaves
+  pub push-asks : (n : ℕ) → Ready a free → nodes a ≡ n → free < n → PushReady a free 0
+  push-asks n y i h = record { v = y .v; shows = y .shows; slot = omega (arith, h, i, y .shows .rep .next-len); deque = omega (arith, y .one) }
+
+  pub pushed-asks : (b : State) (x r : ℕ) → PushReady a free 0 → Pushes a b free 0 x r → DequeReady b r 0
+  pushed-asks b x r y p = record { v = _; shows = p .does (y .v) (y .shows); deque = y .deque }
+
+  pub popped-asks : (b : State) (s e : ℕ) → NodeReady a free 0 s → Drops a b free 0 s e → PushReady b s 0
+  popped-asks b s e n d = record { v = _; shows = d .does (n .v) (n .shows); slot = n .slot; deque = n .deque }
 
   -- ---- the test
   pub tested-ready : (good : Bool) → Tested a free good → not good ≡ false → Ready a free

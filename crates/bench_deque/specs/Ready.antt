@@ -1,5 +1,5 @@
 -- What the workloads keep from call to call: the records stand for one deque.
-use Prim.Native.Nat.{ℕ, _<_}
+use Prim.Native.Nat.{ℕ}
 use mathlib.Core.Path.{_≡_}
 use mathlib.Core.Bool.{Bool, true}
 use mathlib.Core.List.{List, []}
@@ -27,8 +27,3 @@ pub record Tested (a : State) (free : ℕ) (good : Bool) : Type 0 where
 -- and no node is free
 pub record TestedFull (a : State) (free : ℕ) (good : Bool) : Type 0 where
   pub full : good ≡ true → Full a free
-
--- where it says so, s is a node of the first deque
-pub record Held (home : List ℕ) (s : ℕ) (good : Bool) : Type 0 where
-  pub slot : good ≡ true → s < length home
-  pub first : good ≡ true → getD home s 0 ≡ 0

@@ -19,16 +19,3 @@ pub fn chosen(x: u64, nodes: u64) -> usize
 {
     ((x / HALF) * nodes / HALF) as usize
 }
-
-// Whether s is a node of the first deque.
-pub fn held(home: &[usize], s: usize) -> bool
-    ensures { λ r. ⌜ Held (now (home .entry)) s r ⌝ }
-{
-    if home.len() <= s {
-        return false;
-    }
-    if home[s] == 0 {
-        return true;
-    }
-    false
-}

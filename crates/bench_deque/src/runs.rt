@@ -3,13 +3,11 @@ ghost use Rattle.deque_rules.specs.alone.State.{state};
 ghost use Rattle.bench_deque.specs.Ready.{Ready, Full};
 use crate::choice::chosen;
 use crate::choice::following;
-use crate::choice::held;
 use crate::digests::digest;
 use deque_alone::unchecked;
 use deque_rules::alone::Looked;
 
-// So many times the front is popped, with a push after it: the sum of what was popped, and the digest of what is left.
-// The last push is one too many, and the digest leaves it out.
+// So many times a push, with a pop of the front after it: the sum of what was popped, and the digest of what is left.
 pub fn queue(
     heads: &mut [usize],
     tails: &mut [usize],
@@ -23,7 +21,7 @@ pub fn queue(
     calls: u64,
     first: u64,
 ) -> u64
-    requires { ⌜ Ready (state (now heads) (now tails) (now lens) (now cursors) (now next) (now prev) (now home) (now element)) free ⌝ }
+    requires { ⌜ PushReady (state (now heads) (now tails) (now lens) (now cursors) (now next) (now prev) (now home) (now element)) free 0 ⌝ }
 {
     let mut spare = free;
     let mut sum: u64 = 0;
@@ -32,8 +30,21 @@ pub fn queue(
     while left > 0 {
         left -= 1;
         x = following(x);
-        let s = heads[0];
-        if !held(home, s) {
+        let rest = unchecked::push(
+            heads,
+            tails,
+            lens,
+            cursors,
+            next,
+            prev,
+            home,
+            element,
+            spare,
+            0,
+            x,
+        );
+        spare = heads[0];
+        if next.len() <= spare {
             return 0;
         }
         let e = unchecked::release(
@@ -45,26 +56,13 @@ pub fn queue(
             prev,
             home,
             element,
+            rest,
+            0,
             spare,
-            0,
-            s,
-        );
-        spare = unchecked::push(
-            heads,
-            tails,
-            lens,
-            cursors,
-            next,
-            prev,
-            home,
-            element,
-            s,
-            0,
-            x,
         );
         sum = std::num::wrapping_add_u64(sum, e);
     }
-    std::num::wrapping_add_u64(sum, digest(heads, next, element, next.len() / 2))
+    std::num::wrapping_add_u64(sum, digest(heads, next, element, next.len()))
 }
 
 // So many nodes unlinked at random, each with a push after it, where no node is free: the digest.

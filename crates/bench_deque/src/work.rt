@@ -36,7 +36,7 @@ pub const NO_WORKLOAD: u64 = 5;
 pub extern "C" fn run_workload(workload: u64, nodes: u64, calls: u64, x: u64) -> u64 {
     let n = at_most_all(nodes as usize);
     match workload {
-        QUEUE => run_queue(n, queue_count(n, calls), calls, x),
+        QUEUE => run_queue(n, n / 2, calls, x),
         MOVE => run_full(n, calls, x, true),
         UNLINK => run_full(n, calls, x, false),
         WALK => run_looks(n, calls, x, true),
@@ -45,15 +45,7 @@ pub extern "C" fn run_workload(workload: u64, nodes: u64, calls: u64, x: u64) ->
     }
 }
 
-// How many of the nodes a queue fills: a half, and one more since its first push comes before the first pop.
-fn queue_count(n: usize, calls: u64) -> usize {
-    if calls == 0 {
-        return n / 2;
-    }
-    n / 2 + 1
-}
-
-// The queue.
+// The queue, on a deque that has so many nodes at first.
 fn run_queue(n: usize, count: usize, calls: u64, x: u64) -> u64
     requires { ⌜ n ≤ 4096 ⌝ }
 {
@@ -77,6 +69,9 @@ fn run_queue(n: usize, count: usize, calls: u64, x: u64) -> u64
         &element[..n],
         free,
     ) {
+        return 0;
+    }
+    if free >= n {
         return 0;
     }
     queue(

@@ -104,17 +104,23 @@ fn numbered(asks: u64, first: Number, second: Number) -> Call {
 
 // `poke-free V`, `poke-node S FIELD V` and `poke-deque D FIELD V`.
 fn poke_of(line: &[u8], parts: usize) -> u64 {
-    if parts == 2 && lines::is_part(line, 0, b"poke-free") {
-        return POKE_FREE;
+    if parts == 2 {
+        if lines::is_part(line, 0, b"poke-free") {
+            return POKE_FREE;
+        }
+        return BAD;
     }
     if parts != 4 {
         return BAD;
     }
     let column = column_of(packed(lines::part(line, 2)));
-    if column < POKE_HEAD && lines::is_part(line, 0, b"poke-node") {
-        return column;
+    if column < POKE_HEAD {
+        if lines::is_part(line, 0, b"poke-node") {
+            return column;
+        }
+        return BAD;
     }
-    if column >= POKE_HEAD && lines::is_part(line, 0, b"poke-deque") {
+    if lines::is_part(line, 0, b"poke-deque") {
         return column;
     }
     BAD

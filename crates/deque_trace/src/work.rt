@@ -14,7 +14,6 @@ use crate::answers::pushed;
 use crate::answers::refused;
 use crate::answers::told;
 use crate::parse::Call;
-use crate::parse::POKE_CURSOR;
 use crate::parse::POKE_ELEMENT;
 use crate::parse::POKE_FREE;
 use crate::parse::POKE_HEAD;
@@ -119,39 +118,6 @@ pub fn perform(
             ),
         );
     }
-    arrange(
-        heads,
-        tails,
-        lens,
-        cursors,
-        next,
-        prev,
-        home,
-        element,
-        out,
-        at,
-        free,
-        call,
-    )
-}
-
-// Making, moving, poking, and the calls that write no more than a cursor.
-fn arrange(
-    heads: &mut [usize],
-    tails: &mut [usize],
-    lens: &mut [usize],
-    cursors: &mut [usize],
-    next: &mut [usize],
-    prev: &mut [usize],
-    home: &mut [usize],
-    element: &mut [u64],
-    out: &mut [u8; 65536],
-    at: usize,
-    free: usize,
-    call: Call,
-) -> Called {
-    let asks = call.asks;
-    let i = call.i;
     if asks == MAKE {
         return made(
             free,
@@ -178,30 +144,75 @@ fn arrange(
             ),
         );
     }
-    match asks {
-        POKE_NEXT => put(next, free, at, call),
-        POKE_PREV => put(prev, free, at, call),
-        POKE_HOME => put(home, free, at, call),
-        POKE_ELEMENT => put_element(element, free, at, call),
-        POKE_HEAD => put(heads, free, at, call),
-        POKE_TAIL => put(tails, free, at, call),
-        POKE_LENGTH => put(lens, free, at, call),
-        POKE_CURSOR => put(cursors, free, at, call),
-        _ => ask(
-            heads,
-            tails,
-            lens,
-            cursors,
-            next,
-            prev,
-            home,
-            element,
-            out,
-            at,
-            free,
-            call,
-        ),
+    if asks < POKE_HEAD {
+        return poke_node(next, prev, home, element, free, at, call);
     }
+    if asks < POKE_FREE {
+        return poke_deque(heads, tails, lens, cursors, free, at, call);
+    }
+    ask(
+        heads,
+        tails,
+        lens,
+        cursors,
+        next,
+        prev,
+        home,
+        element,
+        out,
+        at,
+        free,
+        call,
+    )
+}
+
+// Writes a field of a node; a line that is no call comes here too.
+fn poke_node(
+    next: &mut [usize],
+    prev: &mut [usize],
+    home: &mut [usize],
+    element: &mut [u64],
+    free: usize,
+    at: usize,
+    call: Call,
+) -> Called {
+    let asks = call.asks;
+    if asks == POKE_NEXT {
+        return put(next, free, at, call);
+    }
+    if asks == POKE_PREV {
+        return put(prev, free, at, call);
+    }
+    if asks == POKE_HOME {
+        return put(home, free, at, call);
+    }
+    if asks == POKE_ELEMENT {
+        return put_element(element, free, at, call);
+    }
+    told(free, at, BAD_LINE, 0, 0)
+}
+
+// Writes a field of a deque.
+fn poke_deque(
+    heads: &mut [usize],
+    tails: &mut [usize],
+    lens: &mut [usize],
+    cursors: &mut [usize],
+    free: usize,
+    at: usize,
+    call: Call,
+) -> Called {
+    let asks = call.asks;
+    if asks == POKE_HEAD {
+        return put(heads, free, at, call);
+    }
+    if asks == POKE_TAIL {
+        return put(tails, free, at, call);
+    }
+    if asks == POKE_LENGTH {
+        return put(lens, free, at, call);
+    }
+    put(cursors, free, at, call)
 }
 
 // Writes a field of a record, if there is such a record.

@@ -1,14 +1,6 @@
 // What a call answers, and the line that says so.
 
-// A word, by its place in the table below, and so many numbers after it.
-pub struct Reply {
-    pub word: usize,
-    pub numbers: usize,
-    pub first: u64,
-    pub second: u64,
-    pub third: u64,
-}
-
+// An answer is a word, by its place in the table below, and so many numbers after it.
 pub const GOOD: usize = 0;
 
 pub const RESCHEDULED: usize = 1;
@@ -36,37 +28,42 @@ pub const NEVER: usize = 21;
 
 pub const NOTHING: usize = 22;
 
-pub fn reply_of(word: usize, numbers: usize, first: u64, second: u64, third: u64) -> Reply {
-    Reply {
-        word,
-        numbers,
-        first,
-        second,
-        third,
-    }
-}
-
 // Puts the answer after the bytes that wait in out, and answers how many wait then.
-pub fn say(out: &mut [u8; 65536], at: usize, r: Reply) -> usize {
-    let word = r.word;
+pub fn say(
+    out: &mut [u8; 65536],
+    at: usize,
+    word: usize,
+    numbers: usize,
+    first: u64,
+    second: u64,
+    third: u64,
+) -> usize {
     match word {
         20 => lines::append(out, at, b"bad line\n"),
         21 => lines::append(out, at, b"due -\n"),
         22 => at,
-        _ => say_word(out, at, r),
+        _ => say_word(out, at, word, numbers, first, second, third),
     }
 }
 
-fn say_word(out: &mut [u8; 65536], at: usize, r: Reply) -> usize {
-    let word = lines::part(
+fn say_word(
+    out: &mut [u8; 65536],
+    at: usize,
+    word: usize,
+    numbers: usize,
+    first: u64,
+    second: u64,
+    third: u64,
+) -> usize {
+    let text = lines::part(
         b"ok rescheduled removed end refused armed expired due place digest",
-        r.word,
+        word,
     );
-    let worded = lines::append(out, at, word);
-    let first = say_number(out, worded, r.numbers > 0, r.first);
-    let second = say_number(out, first, r.numbers > 1, r.second);
-    let third = say_number(out, second, r.numbers > 2, r.third);
-    lines::append(out, third, b"\n")
+    let worded = lines::append(out, at, text);
+    let one = say_number(out, worded, numbers > 0, first);
+    let two = say_number(out, one, numbers > 1, second);
+    let three = say_number(out, two, numbers > 2, third);
+    lines::append(out, three, b"\n")
 }
 
 // A space and the number, if it is one of the answer's.

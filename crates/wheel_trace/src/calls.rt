@@ -2,6 +2,7 @@
 use crate::answers;
 use crate::state::State;
 use crate::state::answer;
+use crate::state::answered;
 use crate::state::plain;
 use crate::state::timed;
 use wheel_rules::calls::Counted;
@@ -19,7 +20,7 @@ fn refused(s: State, n: u64) -> State {
 // Of the calls that answer `ok` and may change the clock.
 pub fn done(s: State, r: Timed) -> State {
     match r {
-        Timed::Done(after) => plain(timed(s, after), answers::GOOD),
+        Timed::Done(after) => answered(s, after, answers::GOOD, 0, 0, 0, 0),
         Timed::Refused(n) => refused(s, n),
     }
 }
@@ -37,7 +38,7 @@ pub fn scheduled(s: State, r: Scheduled) -> State {
             slot,
             serial,
             clock: after,
-        } => answer(timed(s, after), answers::ARMED, 2, slot as u64, serial, 0),
+        } => answered(s, after, answers::ARMED, 2, slot as u64, serial, 0),
         Scheduled::Refused(n) => refused(s, n),
     }
 }
@@ -45,7 +46,7 @@ pub fn scheduled(s: State, r: Scheduled) -> State {
 pub fn rescheduled(s: State, r: Rescheduled) -> State {
     match r {
         Rescheduled::Moved => plain(s, answers::RESCHEDULED),
-        Rescheduled::Removed(after) => plain(timed(s, after), answers::REMOVED),
+        Rescheduled::Removed(after) => answered(s, after, answers::REMOVED, 0, 0, 0, 0),
         Rescheduled::Refused(n) => refused(s, n),
     }
 }
@@ -57,8 +58,9 @@ pub fn pulled(s: State, r: Pulled) -> State {
             serial,
             deadline,
             clock: after,
-        } => answer(
-            timed(s, after),
+        } => answered(
+            s,
+            after,
             answers::EXPIRED,
             3,
             entry as u64,
@@ -70,15 +72,16 @@ pub fn pulled(s: State, r: Pulled) -> State {
             serial,
             place,
             clock: after,
-        } => answer(
-            timed(s, after),
+        } => answered(
+            s,
+            after,
             answers::RESCHEDULED,
             3,
             entry as u64,
             serial,
             place,
         ),
-        Pulled::End(after) => plain(timed(s, after), answers::END),
+        Pulled::End(after) => answered(s, after, answers::END, 0, 0, 0, 0),
         Pulled::Refused(n) => refused(s, n),
     }
 }

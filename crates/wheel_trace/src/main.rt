@@ -10,7 +10,7 @@ mod shows; // clock, dump, digest
 mod state; // what goes from line to line
 mod timers; // pull, schedule, reschedule, deschedule
 mod turns; // start, abandon, armed, due
-mod words; // a word's place in a table of words
+mod words; // a line's words as a call
 mod work; // the wheel's calls on the records that are lent
 
 use crate::making::change;

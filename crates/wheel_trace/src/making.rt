@@ -7,8 +7,8 @@ use crate::requests;
 use crate::requests::Request;
 use crate::state::State;
 use crate::state::answer;
+use crate::state::answered;
 use crate::state::plain;
-use crate::state::timed;
 
 // `lend`, `create`, a poke, `place`, a line that answers nothing, or a bad one.
 pub fn change(
@@ -64,15 +64,21 @@ fn create(heads: &mut [usize; 165], tails: &mut [usize; 165], s: State, first: u
     let ends = made.tails;
     *tails = ends;
     let clock = made.clock;
-    plain(timed(s, clock), answers::GOOD)
+    answered(s, clock, answers::GOOD, 0, 0, 0, 0)
 }
 
 // `place`, `poke-clock`, or a bad line.
 fn aside(s: State, r: Request) -> State {
     let call = r.call;
     match call {
-        requests::PLACE => placed(s, r),
-        60..=69 => poked(s, r),
+        requests::PLACE => {
+            let at = place::wheel_place(r.index as u64, r.second);
+            answer(s, answers::PLACE, 1, at, 0, 0)
+        }
+        60..=69 => {
+            let clock = poke_clock(s.clock, call, r.second);
+            answered(s, clock, answers::GOOD, 0, 0, 0, 0)
+        }
         requests::BAD => plain(s, answers::BAD),
         _ => s,
     }

@@ -22,33 +22,18 @@ pub fn poke_node(
     if s.nodes <= x {
         return plain(s, answers::BAD);
     }
+    if 4100 <= x {
+        return s;
+    }
     match call {
-        40 => put(next, x, v),
-        41 => put(prev, x, v),
-        42 => put(bucket, x, v),
-        43 => put(entry, x, v),
-        44 => put_generation(generation, x, r.generation),
-        _ => put_serial(serial, x, v),
+        40 => next[x] = v as usize,
+        41 => prev[x] = v as usize,
+        42 => bucket[x] = v as usize,
+        43 => entry[x] = v as usize,
+        44 => generation[x] = r.generation,
+        _ => serial[x] = v,
     }
     plain(s, answers::GOOD)
-}
-
-fn put(field: &mut [usize; 4100], x: usize, v: u64) {
-    if x < 4100 {
-        field[x] = v as usize;
-    }
-}
-
-fn put_generation(field: &mut [u32; 4100], x: usize, v: u32) {
-    if x < 4100 {
-        field[x] = v;
-    }
-}
-
-fn put_serial(field: &mut [u64; 4100], x: usize, v: u64) {
-    if x < 4100 {
-        field[x] = v;
-    }
 }
 
 // `poke-bucket B FIELD V`.

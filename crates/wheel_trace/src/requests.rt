@@ -1,10 +1,7 @@
 // A line of the trace as what it asks for: the call's number and its fields.
 use crate::fields::field_at;
-use crate::fields::first_kind;
 use crate::fields::narrow;
-use crate::fields::second_kind;
-use crate::fields::third_kind;
-use crate::words::found;
+use crate::words::form_of;
 use lines::Kind;
 use lines::Source;
 
@@ -51,26 +48,14 @@ pub const PLACE: u64 = 21;
 
 pub const LEND: u64 = 22;
 
-const POKE_CLOCK: u64 = 23;
-
 pub const SET: u64 = 30;
 
 pub const RESCHEDULE: u64 = 31;
 
 pub const DESCHEDULE: u64 = 32;
 
-const POKE_NODE: u64 = 33;
-
-const POKE_BUCKET: u64 = 34;
-
-// next, prev, bucket, entry, generation, serial
-pub const NODE_FIELDS: u64 = 40;
-
-// head, tail
-pub const BUCKET_FIELDS: u64 = 50;
-
-// enabled, reading, serial, open, previous, level, step, nodes, entries, free
-pub const CLOCK_FIELDS: u64 = 60;
+// A poke's by the field: 40 to 45 for next, prev, bucket, entry, generation and serial of a node, 50 and 51 for head and
+// tail of a bucket, 60 to 69 for enabled, reading, serial, open, previous, level, step, nodes, entries and free.
 
 // No line, or one that answers nothing.
 pub const SILENT: u64 = 98;
@@ -86,19 +71,11 @@ pub fn request_of(line: &[u8], source: Source, lent: bool) -> Request {
         return bare(SILENT);
     }
     let text = lines::first(line, source.held);
-    let call = called(text);
-    if early(call, lent) {
-        return bare(BAD);
+    match lines::kind_of(text) {
+        Kind::Silent => bare(SILENT),
+        Kind::Long => bare(BAD),
+        Kind::Call => called(text, form_of(text), lent),
     }
-    fields_of(text, call)
-}
-
-// Whether the call has to wait for the first lend.
-fn early(call: u64, lent: bool) -> bool {
-    if lent {
-        return false;
-    }
-    call != PLACE && call != LEND && call != SILENT
 }
 
 // A call without fields.
@@ -113,63 +90,17 @@ fn bare(call: u64) -> Request {
     }
 }
 
-// The line's call.
-fn called(line: &[u8]) -> u64 {
-    match lines::kind_of(line) {
-        Kind::Silent => SILENT,
-        Kind::Long => BAD,
-        Kind::Call => poked(line, worded(line)),
+// The call of that form, with its fields read.
+fn called(line: &[u8], form: u64, lent: bool) -> Request {
+    let parts = lines::count(line) as u64;
+    if (form >> 12) % 16 != parts || (!lent && form < ANY_TIME) {
+        return bare(BAD);
     }
-}
-
-// By the number of its parts and the first of them.
-fn worded(line: &[u8]) -> u64 {
-    let word = lines::part(line, 0);
-    match lines::count(line) {
-        1 => found(
-            b"pull enable abandon armed due clock dump digest",
-            word,
-            PULL,
-        ),
-        2 => found(b"start create bucket", word, START),
-        3 => found(b"schedule place lend poke-clock", word, SCHEDULE),
-        4 => found(
-            b"set reschedule deschedule poke-node poke-bucket",
-            word,
-            SET,
-        ),
-        _ => BAD,
-    }
-}
-
-// A poke's call by the field that is poked, any other as it is.
-fn poked(line: &[u8], call: u64) -> u64 {
-    if call == POKE_CLOCK {
-        return found(
-            b"enabled reading serial open previous level step nodes entries free",
-            lines::part(line, 1),
-            CLOCK_FIELDS,
-        );
-    }
-    if call == POKE_NODE {
-        return found(
-            b"next prev bucket entry generation serial",
-            lines::part(line, 2),
-            NODE_FIELDS,
-        );
-    }
-    if call == POKE_BUCKET {
-        return found(b"head tail", lines::part(line, 2), BUCKET_FIELDS);
-    }
-    call
-}
-
-// The call with its fields read.
-fn fields_of(line: &[u8], call: u64) -> Request {
-    let a = field_at(line, 1, first_kind(call));
-    let b = field_at(line, 2, second_kind(call));
-    let c = field_at(line, 3, third_kind(call));
+    let a = field_at(line, 1, (form >> 8) % 16);
+    let b = field_at(line, 2, (form >> 4) % 16);
+    let c = field_at(line, 3, form % 16);
     if a.good && b.good && c.good {
+        let call = (form >> 16) % 256;
         return Request {
             call,
             index: a.value as usize,

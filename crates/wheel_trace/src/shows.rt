@@ -27,27 +27,26 @@ pub fn look(
     r: Request,
 ) -> State {
     let call = r.call;
-    match call {
-        requests::CLOCK => show_clock(out, s),
-        requests::BUCKET => show_bucket(heads, next, out, s, r.index),
-        requests::DUMP | requests::DIGEST => tell(
-            heads,
-            tails,
-            next,
-            prev,
-            bucket,
-            entry,
-            generation,
-            serial,
-            dated,
-            deadline,
-            stamp,
-            out,
-            s,
-            call == requests::DIGEST,
-        ),
-        _ => s,
+    if call == requests::BUCKET {
+        return show_bucket(heads, next, out, s, r.index);
     }
+    tell(
+        heads,
+        tails,
+        next,
+        prev,
+        bucket,
+        entry,
+        generation,
+        serial,
+        dated,
+        deadline,
+        stamp,
+        out,
+        s,
+        call == requests::DIGEST,
+        call == requests::CLOCK,
+    )
 }
 
 // A line of the dump: its word, and how many of the values it has. Those from `from` up to `upto` are links, which may
@@ -58,12 +57,6 @@ pub struct Row {
     pub count: usize,
     pub from: usize,
     pub upto: usize,
-}
-
-// How far the telling is: how many bytes wait, and the digest of what was told.
-pub struct Told {
-    pub waiting: usize,
-    pub digest: u64,
 }
 
 // A flag as a number.
@@ -145,49 +138,32 @@ fn node_row(
 }
 
 // Of the entry e: `E DEADLINE GENERATION` in the dump; in the digest the deadline is two numbers.
-fn entry_row(
-    dated: &[bool; 4100],
-    deadline: &[u64; 4100],
-    stamp: &[u32; 4100],
-    sums: bool,
-    e: usize,
-) -> Row {
-    if 4100 <= e {
-        return bucket_row(e, 0, 0);
-    }
+fn entry_row(e: usize, dated: bool, due: u64, stamp: u32, sums: bool) -> Row {
     if sums {
-        return summed_entry(e, dated[e], deadline[e], stamp[e]);
+        let kept = if dated { due } else { 0 };
+        let values = [
+            e as u64,
+            number_of(dated),
+            kept,
+            wide(stamp),
+            0,
+            0,
+            0,
+            0,
+            0,
+            0,
+        ];
+        return Row {
+            word: 3,
+            values,
+            count: 4,
+            from: 0,
+            upto: 0,
+        };
     }
-    shown_entry(e, dated[e], deadline[e], stamp[e])
-}
-
-fn summed_entry(e: usize, dated: bool, due: u64, stamp: u32) -> Row {
-    let kept = if dated { due } else { 0 };
-    let values = [
-        e as u64,
-        number_of(dated),
-        kept,
-        stamp as u64,
-        0,
-        0,
-        0,
-        0,
-        0,
-        0,
-    ];
-    Row {
-        word: 3,
-        values,
-        count: 4,
-        from: 0,
-        upto: 0,
-    }
-}
-
-fn shown_entry(e: usize, dated: bool, due: u64, stamp: u32) -> Row {
     let kept = if dated { due } else { NONE };
     let upto = if dated { 1 } else { 2 };
-    let values = [e as u64, kept, stamp as u64, 0, 0, 0, 0, 0, 0, 0];
+    let values = [e as u64, kept, wide(stamp), 0, 0, 0, 0, 0, 0, 0];
     Row {
         word: 3,
         values,
@@ -226,15 +202,22 @@ fn row_at(
     if x < nodes {
         return node_row(next, prev, bucket, entry, generation, serial, x);
     }
-    entry_row(dated, deadline, stamp, sums, x - nodes)
+    let e = x - nodes;
+    if 4100 <= e {
+        return bucket_row(e, 0, 0);
+    }
+    entry_row(e, dated[e], deadline[e], stamp[e], sums)
 }
 
-// How many rows there are.
-fn rows_of(nodes: usize, entries: usize) -> usize {
+// How many rows there are: one if the clock is all.
+fn rows_of(nodes: usize, entries: usize, one: bool) -> usize {
+    if one {
+        return 1;
+    }
     std::num::wrapping_add_usize(166, std::num::wrapping_add_usize(nodes, entries))
 }
 
-// `dump`, or `digest` if it sums.
+// `dump`, `digest` if it sums, `clock` if it is one row. What was told is the digest, or how many bytes wait.
 fn tell(
     heads: &[usize; 165],
     tails: &[usize; 165],
@@ -250,14 +233,12 @@ fn tell(
     out: &mut [u8; 65536],
     s: State,
     sums: bool,
+    one: bool,
 ) -> State {
     let clock = s.clock;
     let nodes = s.nodes;
-    let rows = rows_of(nodes, s.entries);
-    let mut told = Told {
-        waiting: s.waiting,
-        digest: lines::digest_start(),
-    };
+    let rows = rows_of(nodes, s.entries, one);
+    let mut told = begun(s.waiting, sums);
     let mut i: usize = 0;
     while i < rows {
         let row = row_at(
@@ -283,28 +264,33 @@ fn tell(
     ended(s, told, sums)
 }
 
-// What there is to say when all is told: the digest, or no more.
-fn ended(s: State, told: Told, sums: bool) -> State {
+// Nothing is told yet.
+fn begun(waiting: usize, sums: bool) -> u64 {
     if sums {
-        return answer(s, answers::DIGEST, 1, told.digest, 0, 0);
+        return lines::digest_start();
     }
-    shown(s, told.waiting)
+    waiting as u64
 }
 
-// `clock`.
-fn show_clock(out: &mut [u8; 65536], s: State) -> State {
-    let clock = s.clock;
-    shown(s, show_row(out, s.waiting, clock_row(clock)))
+// All is told: the digest is still to be said.
+fn ended(s: State, told: u64, sums: bool) -> State {
+    if sums {
+        return answer(s, answers::DIGEST, 1, told, 0, 0);
+    }
+    shown(s, told as usize)
 }
 
-fn tell_row(out: &mut [u8; 65536], told: Told, row: Row, sums: bool) -> Told {
-    let mut after = told;
-    if sums {
-        after.digest = sum_row(told.digest, row);
-        return after;
+// The row's line, or the digest with its values.
+fn tell_row(out: &mut [u8; 65536], told: u64, row: Row, sums: bool) -> u64 {
+    let values = row.values;
+    let mut after = tell_word(out, told, row.word, sums);
+    let mut k: usize = 0;
+    while k < 10 {
+        let v = values[k];
+        after = tell_value(out, after, v, form(row, k, v), sums);
+        k += 1;
     }
-    after.waiting = show_row(out, told.waiting, row);
-    after
+    tell_word(out, after, LINE_END, sums)
 }
 
 // How a row's value v at k is told: not at all, as a number, or as none.
@@ -318,40 +304,27 @@ fn form(row: Row, k: usize, v: u64) -> u64 {
     1
 }
 
-fn show_row(out: &mut [u8; 65536], at: usize, row: Row) -> usize {
-    let values = row.values;
-    let mut waits = lines::append(out, at, lines::part(b"clock bucket node entry", row.word));
-    let mut k: usize = 0;
-    while k < 10 {
-        waits = show_value(out, waits, values[k], form(row, k, values[k]));
-        k += 1;
+// A row's first word, by its place in the table, or the end of its line; the digest has none.
+fn tell_word(out: &mut [u8; 65536], told: u64, word: usize, sums: bool) -> u64 {
+    if sums {
+        return told;
     }
-    lines::append(out, waits, b"\n")
+    if word == LINE_END {
+        return lines::append(out, told as usize, b"\n") as u64;
+    }
+    let text = lines::part(b"clock bucket node entry", word);
+    lines::append(out, told as usize, text) as u64
 }
 
-fn show_value(out: &mut [u8; 65536], at: usize, v: u64, form: u64) -> usize {
-    match form {
-        0 => at,
-        1 => lines::append_field(out, at, v),
-        _ => lines::append(out, at, b" -"),
+fn tell_value(out: &mut [u8; 65536], told: u64, v: u64, form: u64, sums: bool) -> u64 {
+    if form == 0 {
+        return told;
     }
-}
-
-fn sum_row(h: u64, row: Row) -> u64 {
-    let values = row.values;
-    let mut d = h;
-    let mut k: usize = 0;
-    while k < 10 {
-        d = sum_value(d, values[k], form(row, k, values[k]));
-        k += 1;
+    if sums {
+        return lines::digest_step(told, if form == 2 { u64::MAX } else { v });
     }
-    d
-}
-
-fn sum_value(h: u64, v: u64, form: u64) -> u64 {
-    match form {
-        0 => h,
-        1 => lines::digest_step(h, v),
-        _ => lines::digest_step(h, u64::MAX),
+    if form == 2 {
+        return lines::append(out, told as usize, b" -") as u64;
     }
+    lines::append_field(out, told as usize, v) as u64
 }

@@ -1,7 +1,5 @@
 // What goes from line to line.
-use crate::answers;
-use crate::answers::Reply;
-use crate::answers::reply_of;
+use crate::answers::NOTHING;
 use crate::answers::say;
 use lines::Source;
 use wheel_rules::records::Clock;
@@ -15,53 +13,83 @@ pub struct State {
     pub entries: usize,
     pub clock: Clock,
     pub waiting: usize,
-    pub reply: Reply,
+    pub word: usize,
+    pub numbers: usize,
+    pub first: u64,
+    pub second: u64,
+    pub third: u64,
 }
 
 // Before the first lend.
 pub fn at_start() -> State {
     let made = wheel::create(0);
     let clock = made.clock;
-    let nothing = reply_of(answers::NOTHING, 0, 0, 0, 0);
     State {
         lent: false,
         nodes: 0,
         entries: 0,
         clock,
         waiting: 0,
-        reply: nothing,
+        word: NOTHING,
+        numbers: 0,
+        first: 0,
+        second: 0,
+        third: 0,
     }
 }
 
 // The same with an answer to say.
 pub fn answer(s: State, word: usize, numbers: usize, first: u64, second: u64, third: u64) -> State {
     let mut after = s;
-    after.reply = reply_of(word, numbers, first, second, third);
+    after.word = word;
+    after.numbers = numbers;
+    after.first = first;
+    after.second = second;
+    after.third = third;
     after
 }
 
 // The same with an answer that has no number.
 pub fn plain(s: State, word: usize) -> State {
-    answer(s, word, 0, 0, 0, 0)
+    let mut after = s;
+    after.word = word;
+    after.numbers = 0;
+    after
 }
 
-// The same with another clock.
-pub fn timed(s: State, clock: Clock) -> State {
-    let mut after = s;
+// The same with another clock and an answer to say.
+pub fn answered(
+    s: State,
+    clock: Clock,
+    word: usize,
+    numbers: usize,
+    first: u64,
+    second: u64,
+    third: u64,
+) -> State {
+    let mut after = answer(s, word, numbers, first, second, third);
     after.clock = clock;
     after
 }
 
 // The same with another number of bytes that wait, and nothing to say.
 pub fn shown(s: State, waiting: usize) -> State {
-    let mut after = plain(s, answers::NOTHING);
+    let mut after = s;
+    after.word = NOTHING;
     after.waiting = waiting;
     after
 }
 
 // Says the answer, and writes out what waits where more has to be read.
 pub fn said(out: &mut [u8; 65536], s: State, source: Source) -> State {
-    let answer = s.reply;
-    let waits = say(out, s.waiting, answer);
+    let waits = say(
+        out,
+        s.waiting,
+        s.word,
+        s.numbers,
+        s.first,
+        s.second,
+        s.third,
+    );
     shown(s, lines::settle(out, waits, source))
 }

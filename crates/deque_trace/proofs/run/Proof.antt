@@ -20,16 +20,16 @@ abbrev μ-loop : tie.MeasureT-loop
     turns
 
 begin-requires : tie.Need-begin-requires Inv-loop μ-loop
-begin-requires c κs = search needs
+begin-requires c κs = tt
 
 loop-holds : tie.Need-loop-holds Inv-loop μ-loop
 loop-holds c = search needs
 
 next-line-requires : tie.Need-next-line-requires Inv-loop μ-loop
-next-line-requires c κs = search needs
+next-line-requires c κs = tt
 
 found-requires : tie.Need-found-requires Inv-loop μ-loop
-found-requires c κs = search needs
+found-requires c κs = tt
 
 planned-requires : tie.Need-planned-requires Inv-loop μ-loop
 planned-requires c κs = search needs
@@ -83,13 +83,13 @@ slice-aggregate-perform-8 : tie.Need-slice-aggregate-perform-8 Inv-loop μ-loop
 slice-aggregate-perform-8 c = sym (length-take-le _ _ (omega arith))
 
 perform-requires : tie.Need-perform-requires Inv-loop μ-loop
-perform-requires c κs = search needs
+perform-requires c κs = tt
 
 say-requires : tie.Need-say-requires Inv-loop μ-loop
-say-requires c κs = search needs
+say-requires c κs = tt
 
 settle-requires : tie.Need-settle-requires Inv-loop μ-loop
-settle-requires c κs = search needs
+settle-requires c κs = tt
 
 after-requires : tie.Need-after-requires Inv-loop μ-loop
 after-requires c κs =
@@ -133,7 +133,7 @@ loop-again c =
     )
 
 flush-requires : tie.Need-flush-requires Inv-loop μ-loop
-flush-requires c κs = search needs
+flush-requires c κs = tt
 
 same-length : tie.Need-same-length Inv-loop μ-loop
 same-length c = search needs
@@ -160,7 +160,7 @@ same-length-8 : tie.Need-same-length-8 Inv-loop μ-loop
 same-length-8 c = search needs
 
 returns : tie.Need-returns Inv-loop μ-loop
-returns c = search needs
+returns c = tt
 
 pub run-spec : {M : Type 1} → statement M
 run-spec =

@@ -1,4 +1,4 @@
--- `queue` keeps the records those of one deque. The measure is the number of calls that are left.
+-- `queue` keeps the records those of a deque with a node to spare. The measure is the number of calls that are left.
 use native.Mathlib.Omega.{arith}
 use mathlib.Core.Path.{_≡_, _∙_}
 use lib.ListN.{length}
@@ -30,11 +30,12 @@ sub-left c = search needs
 following-requires : tie.Need-following-requires Inv-loop μ-loop
 following-requires c κs = search needs
 
-slice-read-s : tie.Need-slice-read-s Inv-loop μ-loop
-slice-read-s c = search needs
+push-requires : tie.Need-push-requires Inv-loop μ-loop
+push-requires c κs = c .before .before .before .before .before .before .before .before .before .before .loop .inv .0
 
-held-requires : tie.Need-held-requires Inv-loop μ-loop
-held-requires c κs = search needs
+slice-read-spare : tie.Need-slice-read-spare Inv-loop μ-loop
+slice-read-spare c =
+    omega (arith, c .before .before .before .before .before .before .before .before .before .before .before .before .before .before .heads .given, c .before .before .before .before .before .before .before .before .before .before .before .before .before .before .before .before .before .before .before .before .before .before .before .before .before .before .loop .inv .0 .shows .lent .deques .some)
 
 same-length : tie.Need-same-length Inv-loop μ-loop
 same-length c = search needs
@@ -164,8 +165,8 @@ queue-spec =
     loop-holds
     sub-left
     following-requires
-    slice-read-s
-    held-requires
+    push-requires
+    slice-read-spare
     same-length
     same-length-2
     same-length-3
@@ -176,7 +177,6 @@ queue-spec =
     same-length-8
     returns
     release-requires
-    push-requires
     wrapping-add-u64-requires
     loop-less
     loop-again

@@ -3,7 +3,7 @@ use borrow.Author.Needs.{needs}
 use native.Mathlib.Omega.{arith}
 use mathlib.Core.Path.{sym}
 use lib.Seq.{length-take-le}
-use Rattle.bench_deque.proofs.Standing.{tested-ready}
+use Rattle.bench_deque.proofs.Standing.{tested-ready, push-asks}
 use Rattle.bench_deque.proofs.work.run_queue.Statement.{statement}
 use Rattle.bench_deque.proofs.work.run_queue.Tie as tie
 
@@ -70,6 +70,9 @@ test-requires c κs = search needs
 returns : tie.Need-returns
 returns c = search needs
 
+returns-2 : tie.Need-returns-2
+returns-2 c = search needs
+
 slice-aggregate-queue : tie.Need-slice-aggregate-queue
 slice-aggregate-queue c = search needs
 
@@ -111,11 +114,12 @@ number-after-requires c κs = search needs
 
 queue-requires : tie.Need-queue-requires
 queue-requires c κs =
-    let e = c .before .before .before .before .before .before .before .before .before in
-    tested-ready _ _ _ (e .before .test .ensures) (e .if1 .left)
+    let f = c .before .before .before .before .before .before .before .before .before in
+    let e = f .before in
+    push-asks _ _ _ (tested-ready _ _ _ (e .before .test .ensures) (e .if1 .left)) (sym (slice-aggregate-queue-5 (c .before .before .before .before))) (f .if2 .left)
 
-returns-2 : tie.Need-returns-2
-returns-2 c = search needs
+returns-3 : tie.Need-returns-3
+returns-3 c = search needs
 
 pub run-queue-spec : {M : Type 1} → statement M
 run-queue-spec =
@@ -142,6 +146,7 @@ run-queue-spec =
     slice-aggregate-test-8
     test-requires
     returns
+    returns-2
     slice-aggregate-queue
     slice-aggregate-queue-2
     slice-aggregate-queue-3
@@ -156,4 +161,4 @@ run-queue-spec =
     slice-aggregate-queue-8
     number-after-requires
     queue-requires
-    returns-2)
+    returns-3)

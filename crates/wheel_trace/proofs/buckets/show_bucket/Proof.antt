@@ -15,25 +15,25 @@ slice-aggregate-append : tie.Need-slice-aggregate-append Inv-loop μ-loop
 slice-aggregate-append c = search needs
 
 append-requires : tie.Need-append-requires Inv-loop μ-loop
-append-requires c κs = search needs
+append-requires c κs = tt
 
 head-of-requires : tie.Need-head-of-requires Inv-loop μ-loop
-head-of-requires c κs = search needs
+head-of-requires c κs = tt
 
 loop-holds : tie.Need-loop-holds Inv-loop μ-loop
 loop-holds c = search needs
 
 show-slot-requires : tie.Need-show-slot-requires Inv-loop μ-loop
-show-slot-requires c κs = search needs
+show-slot-requires c κs = tt
 
 after-requires : tie.Need-after-requires Inv-loop μ-loop
-after-requires c κs = search needs
+after-requires c κs = tt
 
 is-slot-requires : tie.Need-is-slot-requires Inv-loop μ-loop
-is-slot-requires c κs = search needs
+is-slot-requires c κs = tt
 
 turns-left-requires : tie.Need-turns-left-requires Inv-loop μ-loop
-turns-left-requires c κs = search needs
+turns-left-requires c κs = tt
 
 loop-less : tie.Need-loop-less Inv-loop μ-loop
 loop-less c = c .turns-left .ensures .less (omega arith)
@@ -45,13 +45,13 @@ slice-aggregate-append-2 : tie.Need-slice-aggregate-append-2 Inv-loop μ-loop
 slice-aggregate-append-2 c = search needs
 
 append-requires-2 : tie.Need-append-requires-2 Inv-loop μ-loop
-append-requires-2 c κs = search needs
+append-requires-2 c κs = tt
 
 shown-requires : tie.Need-shown-requires Inv-loop μ-loop
-shown-requires c κs = search needs
+shown-requires c κs = tt
 
 returns : tie.Need-returns Inv-loop μ-loop
-returns c = search needs
+returns c = tt
 
 pub show-bucket-spec : {M : Type 1} → statement M
 show-bucket-spec =

@@ -5,27 +5,27 @@ use Rattle.wheel_trace.proofs.shows.tell.Statement.{statement}
 use Rattle.wheel_trace.proofs.shows.tell.Tie as tie
 
 abbrev Inv-loop : tie.InvT-loop
-Inv-loop heads tails next prev bucket entry generation serial dated deadline stamp out₀ s sums clock nodes rows told₀ i₀ out told i =
+Inv-loop heads tails next prev bucket entry generation serial dated deadline stamp out₀ s sums one clock nodes rows told₀ i₀ out told i =
     i ≤ rows
 
 abbrev μ-loop : tie.MeasureT-loop
-μ-loop heads tails next prev bucket entry generation serial dated deadline stamp out₀ s sums clock nodes rows told₀ i₀ out told i =
+μ-loop heads tails next prev bucket entry generation serial dated deadline stamp out₀ s sums one clock nodes rows told₀ i₀ out told i =
     rows - i
 
 rows-of-requires : tie.Need-rows-of-requires Inv-loop μ-loop
-rows-of-requires c κs = search needs
+rows-of-requires c κs = tt
 
-digest-start-requires : tie.Need-digest-start-requires Inv-loop μ-loop
-digest-start-requires c κs = search needs
+begun-requires : tie.Need-begun-requires Inv-loop μ-loop
+begun-requires c κs = tt
 
 loop-holds : tie.Need-loop-holds Inv-loop μ-loop
 loop-holds c = search needs
 
 row-at-requires : tie.Need-row-at-requires Inv-loop μ-loop
-row-at-requires c κs = search needs
+row-at-requires c κs = tt
 
 tell-row-requires : tie.Need-tell-row-requires Inv-loop μ-loop
-tell-row-requires c κs = search needs
+tell-row-requires c κs = tt
 
 add-i : tie.Need-add-i Inv-loop μ-loop
 add-i c = search needs
@@ -37,10 +37,10 @@ loop-again : tie.Need-loop-again Inv-loop μ-loop
 loop-again c = search needs
 
 ended-requires : tie.Need-ended-requires Inv-loop μ-loop
-ended-requires c κs = search needs
+ended-requires c κs = tt
 
 returns : tie.Need-returns Inv-loop μ-loop
-returns c = search needs
+returns c = tt
 
 pub tell-spec : {M : Type 1} → statement M
 tell-spec =
@@ -49,7 +49,7 @@ tell-spec =
     Inv-loop
     μ-loop
     rows-of-requires
-    digest-start-requires
+    begun-requires
     loop-holds
     row-at-requires
     tell-row-requires
