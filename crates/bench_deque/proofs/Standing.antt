@@ -16,15 +16,7 @@ use Rattle.deque_rules.specs.alone.Work.{Pushes, Drops, Moves}
 use Rattle.deque_rules.proofs.alone.Keeping.{stepped-shows}
 use Rattle.deque_rules.proofs.alone.Sounding.{sound-shows}
 use Rattle.deque_rules.specs.declared.alone.Looked.{Looked}
-use Rattle.bench_deque.specs.Ready.{Ready, Full, Held, Tested, TestedFull}
-
--- ---- a node of the first deque
-pub not-held : (home : List ℕ) (s : ℕ) → Held home s false
-not-held home s =
-    record {
-      slot = λ t. let z : _≡_ {A = ℕ} 0 1 = cc in absurd (omega (arith, z));
-      first = λ t. let z : _≡_ {A = ℕ} 0 1 = cc in absurd (omega (arith, z));
-    }
+use Rattle.bench_deque.specs.Ready.{Ready, Full, Tested, TestedFull}
 
 module _ (a : State) (free : ℕ) where
   pub not-tested : Tested a free false
@@ -77,17 +69,6 @@ module _ (a : State) (free : ℕ) where
       }
 
   -- ---- a node leaves, and is taken again
-  pub held-asks : (s : ℕ) (good : Bool) → Ready a free → Held (a .links .home) s good → not good ≡ false → NodeReady a free 0 s
-  held-asks s true y h t = record {
-    v = y .v;
-    shows = y .shows;
-    slot = rw (y .shows .rep .home-len) at (h .slot refl);
-    deque = omega (arith, y .one);
-    homed = h
-        .first refl;
-  }
-  held-asks s false y h t = let z : _≡_ {A = ℕ} 0 1 = cc in absurd (omega (arith, z))
-
   pub left-asks : (b : State) (s r : ℕ) → NodeReady a free 0 s → Ready a free → Drops a b free 0 s r → PushReady b s 0
   left-asks b s r n y d = record {
     v = _;

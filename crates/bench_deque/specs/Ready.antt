@@ -2,8 +2,7 @@
 use Prim.Native.Nat.{ℕ}
 use mathlib.Core.Path.{_≡_}
 use mathlib.Core.Bool.{Bool, true}
-use mathlib.Core.List.{List, []}
-use lib.ListN.{length, getD}
+use mathlib.Core.List.{[]}
 use Rattle.deque_rules.specs.Lists.{Lists}
 use Rattle.deque_rules.specs.alone.State.{State, Shows}
 

@@ -1,7 +1,5 @@
 // The numbers that drive the workloads: the generator, and the node that a number chooses.
 ghost use Prim.Native.Nat.{_≤_, _<_};
-ghost use mathlib.Core.Bool.{true};
-ghost use Rattle.bench_deque.specs.Ready.{Held};
 
 const HALF: u64 = 0x1_0000_0000;
 

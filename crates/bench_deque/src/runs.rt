@@ -1,6 +1,8 @@
 // For proved code only, unchecked: runs of calls on one deque whose records are sound.
 ghost use Rattle.deque_rules.specs.alone.State.{state};
+ghost use Rattle.deque_rules.specs.alone.Ready.{PushReady};
 ghost use Rattle.bench_deque.specs.Ready.{Ready, Full};
+ghost use Rattle.deque_rules.specs.alone.Lending.{after};
 use crate::choice::chosen;
 use crate::choice::following;
 use crate::digests::digest;
@@ -172,7 +174,7 @@ fn step(
     free: usize,
 ) -> u64
     requires { ⌜ Ready (state (now heads) (now tails) (now lens) (now cursors) (now next) (now prev) (now home) (now element)) free ⌝ }
-    ensures { λ r. ⌜ Ready (state (now (heads .entry)) (now (tails .entry)) (now (lens .entry)) (now (cursors .exit)) (now (next .entry)) (now (prev .entry)) (now (home .entry)) (now (element .entry))) free ⌝ }
+    ensures { λ r. ⌜ Ready (after heads tails lens cursors next prev home element) free ⌝ }
 {
     match unchecked::step(
         heads,

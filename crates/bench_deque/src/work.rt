@@ -1,7 +1,7 @@
 // The workloads: records are made, tested once, filled, and worked on.
 ghost use Prim.Native.Nat.{_≤_};
-ghost use Rattle.deque_rules.specs.alone.State.{state};
 ghost use Rattle.bench_deque.specs.Ready.{Tested, TestedFull};
+ghost use Rattle.deque_rules.specs.alone.Lending.{before};
 use crate::laying::at_most_all;
 use crate::laying::first_free;
 use crate::laying::first_node;
@@ -212,7 +212,7 @@ fn test(
     element: &[u64],
     free: usize,
 ) -> bool
-    ensures { λ r. ⌜ Tested (state (now (heads .entry)) (now (tails .entry)) (now (lens .entry)) (now (cursors .entry)) (now (next .entry)) (now (prev .entry)) (now (home .entry)) (now (element .entry))) free r ⌝ }
+    ensures { λ r. ⌜ Tested (before heads tails lens cursors next prev home element) free r ⌝ }
 {
     if heads.len() != 1 {
         return false;
@@ -232,7 +232,7 @@ fn test_full(
     element: &[u64],
     free: usize,
 ) -> bool
-    ensures { λ r. ⌜ TestedFull (state (now (heads .entry)) (now (tails .entry)) (now (lens .entry)) (now (cursors .entry)) (now (next .entry)) (now (prev .entry)) (now (home .entry)) (now (element .entry))) free r ⌝ }
+    ensures { λ r. ⌜ TestedFull (before heads tails lens cursors next prev home element) free r ⌝ }
 {
     if free < next.len() {
         return false;

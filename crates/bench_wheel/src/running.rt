@@ -1,7 +1,7 @@
 // The turns of a workload: records are tested once and worked on.
 ghost use Prim.Native.Nat.{_<_};
-ghost use Rattle.wheel_rules.specs.refusals.Lent.{lent};
 ghost use Rattle.bench_wheel.specs.Kept.{Works};
+ghost use Rattle.wheel_rules.specs.refusals.Lending.{before};
 use crate::course::begun;
 use crate::course::note;
 use crate::course::plan;
@@ -108,7 +108,7 @@ fn first_turns(
     stamp: &[u32],
     clock: Clock,
 ) -> u64
-    ensures { λ r. ⌜ (0 < r → Works (lent (now (heads .entry)) (now (tails .entry)) (now (next .entry)) (now (prev .entry)) (now (bucket .entry)) (now (entry .entry)) (now (generation .entry)) (now (serial .entry)) (now (dated .entry)) (now (deadline .entry)) (now (stamp .entry)) clock)) ⌝ }
+    ensures { λ r. ⌜ (0 < r → Works (before heads tails next prev bucket entry generation serial dated deadline stamp clock)) ⌝ }
 {
     if !clock.enabled {
         return 0;

@@ -3,6 +3,7 @@ ghost use mathlib.Core.Path.{_≡_};
 ghost use lib.ListN.{length};
 ghost use Rattle.wheel_rules.specs.refusals.Lent.{lent};
 ghost use Rattle.bench_wheel.specs.Kept.{Works, Arming, IsArmed, Fit, Opens};
+ghost use Rattle.wheel_rules.specs.refusals.Lending.{after};
 use crate::course::Course;
 use crate::course::Wish;
 use crate::course::after_count;
@@ -124,8 +125,10 @@ pub fn take(
     x: usize,
     due: u64,
 ) -> Turned
-    requires { ⌜ Works (lent (now heads) (now tails) (now next) (now prev) (now bucket) (now entry) (now generation) (now serial) (now dated) (now deadline) (now stamp) clock) × Fit (now heads) (now bucket) clock (length (now next)) (length (now dated)) e x turn ⌝ }
-    ensures { λ r. ⌜ Works (lent (now (heads .exit)) (now (tails .exit)) (now (next .exit)) (now (prev .exit)) (now (bucket .exit)) (now (entry .exit)) (now (generation .exit)) (now (serial .exit)) (now (dated .exit)) (now (deadline .exit)) (now (stamp .exit)) (r .clock)) ⌝ }
+    requires { ⌜ Works
+        (lent (now heads) (now tails) (now next) (now prev) (now bucket) (now entry) (now generation) (now serial) (now dated) (now deadline) (now stamp) clock)
+        × Fit (now heads) (now bucket) clock (length (now next)) (length (now dated)) e x turn ⌝ }
+    ensures { λ r. ⌜ Works (after heads tails next prev bucket entry generation serial dated deadline stamp (r .clock)) ⌝ }
 {
     match turn {
         Turn::Arm => {

@@ -59,7 +59,10 @@ fn run(
     line: &mut [u8; 257],
     out: &mut [u8; 65536],
 )
-    requires { ⌜ (length (now heads) ≡ 256) × (length (now tails) ≡ 256) × (length (now lens) ≡ 256) × (length (now cursors) ≡ 256) × (length (now next) ≡ 4096) × (length (now prev) ≡ 4096) × (length (now home) ≡ 4096) × (length (now element) ≡ 4096) ⌝ }
+    requires { ⌜ (length (now heads) ≡ 256)
+        × (length (now tails) ≡ 256) × (length (now lens) ≡ 256) × (length (now cursors) ≡ 256) ×
+        (length (now next) ≡ 4096) × (length (now prev) ≡ 4096) × (length (now home) ≡ 4096) ×
+        (length (now element) ≡ 4096) ⌝ }
 {
     let mut source = lines::begin();
     let mut state = State {

@@ -4,7 +4,6 @@ use crate::state::State;
 use crate::state::answer;
 use crate::state::answered;
 use crate::state::plain;
-use crate::state::timed;
 use wheel_rules::calls::Counted;
 use wheel_rules::calls::Due;
 use wheel_rules::calls::Noted;

@@ -72,7 +72,7 @@ fn aside(s: State, r: Request) -> State {
     let call = r.call;
     match call {
         requests::PLACE => {
-            let at = place::wheel_place(r.index as u64, r.second);
+            let at = wheel_timers::place::wheel_place(r.index as u64, r.second);
             answer(s, answers::PLACE, 1, at, 0, 0)
         }
         60..=69 => {
@@ -82,14 +82,4 @@ fn aside(s: State, r: Request) -> State {
         requests::BAD => plain(s, answers::BAD),
         _ => s,
     }
-}
-
-fn placed(s: State, r: Request) -> State {
-    let at = wheel_timers::place::wheel_place(r.index as u64, r.second);
-    answer(s, answers::PLACE, 1, at, 0, 0)
-}
-
-fn poked(s: State, r: Request) -> State {
-    let clock = s.clock;
-    plain(timed(s, poke_clock(clock, r.call, r.second)), answers::GOOD)
 }

@@ -17,9 +17,7 @@ pub struct Request {
     pub dated: bool,
 }
 
-// The calls' numbers. Those with one part stand in the first ten, those with two in the second, and so on; a field that
-// is
-// poked is a call of its own.
+// The calls' numbers; a field that is poked is a call of its own.
 pub const PULL: u64 = 0;
 
 pub const ENABLE: u64 = 1;
@@ -54,7 +52,8 @@ pub const RESCHEDULE: u64 = 31;
 
 pub const DESCHEDULE: u64 = 32;
 
-// A poke's by the field: 40 to 45 for next, prev, bucket, entry, generation and serial of a node, 50 and 51 for head and
+// A poke's by the field: 40 to 45 for next, prev, bucket, entry, generation and serial of a node, 50 and 51 for head
+// and
 // tail of a bucket, 60 to 69 for enabled, reading, serial, open, previous, level, step, nodes, entries and free.
 
 // No line, or one that answers nothing.
@@ -62,6 +61,9 @@ pub const SILENT: u64 = 98;
 
 // No call of the table.
 pub const BAD: u64 = 99;
+
+// The forms from here on may come before the first lend.
+const ANY_TIME: u64 = 0x1_00_0_000;
 
 // What the line that was found asks for, if there was one. Before the first lend every call but `place` and `lend` is
 // none.

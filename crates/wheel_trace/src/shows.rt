@@ -49,6 +49,9 @@ pub fn look(
     )
 }
 
+// In a row's word's place: the end of its line.
+const LINE_END: usize = 4;
+
 // A line of the dump: its word, and how many of the values it has. Those from `from` up to `upto` are links, which may
 // be none.
 pub struct Row {

@@ -6,7 +6,7 @@ use wheel_rules::records::Clock;
 
 // Whether records were lent, how many node records and entries, the clock, how many bytes of answers wait, and the
 // answer
-// that is to be said.
+// that is to be said: its word, how many numbers follow, and these.
 pub struct State {
     pub lent: bool,
     pub nodes: usize,

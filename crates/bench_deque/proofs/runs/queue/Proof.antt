@@ -4,15 +4,16 @@ use mathlib.Core.Path.{_≡_, _∙_}
 use lib.ListN.{length}
 use borrow.Author.Needs.{needs}
 use Rattle.deque_rules.specs.alone.State.{state}
-use Rattle.bench_deque.specs.Ready.{Ready}
-use Rattle.bench_deque.proofs.Standing.{held-asks, left-asks, turned-ready}
+use Rattle.deque_rules.specs.alone.Ready.{PushReady}
+use Rattle.deque_rules.proofs.alone.Working.{pop-asks}
+use Rattle.bench_deque.proofs.Standing.{pushed-asks, popped-asks}
 use Rattle.bench_deque.proofs.runs.queue.Statement.{statement}
 use Rattle.bench_deque.proofs.runs.queue.Tie as tie
 
 abbrev Inv-loop : tie.InvT-loop
 Inv-loop heads₀ tails₀ lens₀ cursors₀ next₀ prev₀ home₀ element₀ free calls first spare₀ sum₀ x₀ left₀ heads tails lens cursors next prev home element spare
     sum x left =
-    Ready (state heads tails lens cursors next prev home element) spare ×
+    PushReady (state heads tails lens cursors next prev home element) spare 0 ×
     ((length heads ≡ length heads₀) × (length tails ≡ length tails₀) × (length lens ≡ length lens₀) × (length cursors ≡ length cursors₀) ×
     (length next ≡ length next₀) × (length prev ≡ length prev₀) × (length home ≡ length home₀) × (length element ≡ length element₀))
 
@@ -35,7 +36,13 @@ push-requires c κs = c .before .before .before .before .before .before .before 
 
 slice-read-spare : tie.Need-slice-read-spare Inv-loop μ-loop
 slice-read-spare c =
-    omega (arith, c .before .before .before .before .before .before .before .before .before .before .before .before .before .before .heads .given, c .before .before .before .before .before .before .before .before .before .before .before .before .before .before .before .before .before .before .before .before .before .before .before .before .before .before .loop .inv .0 .shows .lent .deques .some)
+    omega (
+      arith,
+      c .before .before .before .before .before .before .before .before .before .before .before .before .before .before .heads .given,
+      c .before
+          .before .before .before .before .before .before .before .before .before .before .before .before .before .before .before .before .before .before .before
+          .before .before .before .before .before .before .loop .inv .0 .shows .lent .deques .some,
+    )
 
 same-length : tie.Need-same-length Inv-loop μ-loop
 same-length c = search needs
@@ -67,59 +74,49 @@ returns c = search needs
 release-requires : tie.Need-release-requires Inv-loop μ-loop
 release-requires c κs =
     let e = c .before .before .before .before .before .before .before .before in
-    let h = e .before in
-    held-asks _ _ _ _ (h .before .before .before .before .before .loop .inv .0) (h .held .ensures) (e .if1 .left)
-
-push-requires : tie.Need-push-requires Inv-loop μ-loop
-push-requires c κs =
-    let r = c .before .before .before .before .before .before .before .before .before .before .before .before .before .before .before .before .before .before
-    .before .before .before .before .before .before in
-    let e = r .before .before .before .before .before .before .before .before .before in
-    let h = e .before in
-    let l = h .before .before .before .before .before .loop .inv .0 in
-    left-asks _ _ _ _ _ (held-asks _ _ _ _ l (h .held .ensures) (e .if1 .left)) l (r .release .ensures)
+    let p = e .before .before .before .before .before .before .before .before .before .before .before .before .before .before .before .before in
+    pop-asks _ _ _ _ _ _ _ _ _ _ (pushed-asks _ _ _ _ _
+    (p .before .before .before .before .before .before .before .before .before .before .before .loop .inv .0) (p .push .ensures)) (e .if1 .left)
 
 wrapping-add-u64-requires : tie.Need-wrapping-add-u64-requires Inv-loop μ-loop
 wrapping-add-u64-requires c κs = search needs
 
 loop-less : tie.Need-loop-less Inv-loop μ-loop
 loop-less c =
-    let r = c .before .before .before .before .before .before .before .before .before .before .before .before .before .before .before .before .before .before
-    .before .before .before .before .before .before .before .before .before .before .before .before .before .before .before .before .before .before .before
-    .before .before .before in
-    let t = r .before .before .before .before .before .before .before .before .before .before .before .before .before .before in
-    omega (arith, t .loop-test .taken)
+    omega (
+      arith,
+      c .before .before .before .before .before .before .before .before .before .before .before .before .before .before .before .before .before
+          .before .before .before .before .before .before .before .before .before .before .before .before .before .before .before .before .before .before .before
+          .before .before .before .before .before .before .before .before .before .before .before .before .before .before .before .before .loop-test .taken,
+    )
 
 loop-again : tie.Need-loop-again Inv-loop μ-loop
 loop-again c =
-    let p = c .before .before .before .before .before .before .before .before .before .before .before .before .before .before .before in
-    let r = p .before .before .before .before .before .before .before .before .before .before .before .before .before .before .before .before .before .before
-    .before .before .before .before .before .before .before in
-    let l = r .before .before .before .before .before .before .before .before .before .before .before .before .before .before .before .loop .inv in (
-      turned-ready _ _ _ _ _ _ _ _ (l .0) (r .release .ensures) (p .push .ensures),
+    let r = c .before .before .before .before .before .before .before .before .before .before .before .before .before .before .before .before .before in
+    let e = r .before .before .before .before .before .before .before .before .before in
+    let k = e .before in
+    let p = k .before .before .before .before .before .before .before .before .before .before .before .before .before .before .before in
+    let l = p .before .before .before .before .before .before .before .before .before .before .before .loop .inv in
+    let n = pop-asks _ _ _ _ _ _ _ _ _ _ (pushed-asks _ _ _ _ _ (l .0) (p .push .ensures)) (e .if1 .left) in (
+      popped-asks _ _ _ _ _ n (r .release .ensures),
       (
-        c .before .before .before .before .before .before .before .before .before .before .before .before .before .before .heads2 .given ∙
-            (p .before .before .before .before .before .before .before .before .before .before .before .before .before .before .before .before .before .before
-            .before .before .before .before .before .before .heads .given ∙ l .1 .0),
-        c .before .before .before .before .before .before .before .before .before
-            .before .before .before .tails2 .given ∙ (p .before .before .before .before .before .before .before .before .before .before .before .before .before
-            .before .before .before .before .before .before .before .before .before .tails .given ∙ l .1 .1),
-        c .before .before .before .before .before .before
-            .before .before .before .before .lens2 .given ∙
-            (p .before .before .before .before .before .before .before .before .before .before .before .before .before .before .before .before .before .before
-            .before .before .lens .given ∙ l .1 .2),
-        p .before .before .before .before .before .before .before .before .before .before .before .before .before
+        c .before .before .before .before .before .before .before .before .before .before .before .before .before
+            .before .before .before .heads2 .given ∙ (k .before .before .before .before .before .before .before .before .before .before .before .before .before
+            .before .heads .given ∙ l .1 .0),
+        c .before .before .before .before .before .before .before .before .before .before .before .before .before .before
+            .tails2 .given ∙ (k .before .before .before .before .before .before .before .before .before .before .before .before .tails .given ∙ l .1 .1),
+        c .before
+            .before .before .before .before .before .before .before .before .before .before .before .lens2 .given ∙
+            (k .before .before .before .before .before .before .before .before .before .before .lens .given ∙ l .1 .2),
+        c .before .before .before .before .before
             .before .before .before .before .before .cursors .given ∙ l .1 .3,
         c .before .before .before .before .before .before .before .before .next2 .given ∙
-            (p .before .before .before .before .before .before .before .before .before .before .before .before .before .before .before .before .next .given ∙ l .1
-            .4),
-        c .before .before .before .before .before .before .prev2 .given ∙
-            (p .before .before .before .before .before .before .before .before .before .before .before .before .before .before .prev .given ∙ l .1 .5),
-        c .before
-            .before .before .before .home2 .given ∙ (p .before .before .before .before .before .before .before .before .before .before .before .before .home .given
-            ∙ l .1 .6),
-        c .before .before .element2 .given ∙
-            (p .before .before .before .before .before .before .before .before .before .before .element .given ∙ l .1 .7),
+            (k .before .before .before .before .before .before .before .before .next .given ∙ l .1 .4),
+        c .before .before .before .before .before .before .prev2
+            .given ∙ (k .before .before .before .before .before .before .prev .given ∙ l .1 .5),
+        c .before .before .before .before .home2 .given ∙
+            (k .before .before .before .before .home .given ∙ l .1 .6),
+        c .before .before .element2 .given ∙ (k .before .before .element .given ∙ l .1 .7),
       ),
     )
 

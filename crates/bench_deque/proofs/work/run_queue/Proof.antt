@@ -116,7 +116,8 @@ queue-requires : tie.Need-queue-requires
 queue-requires c κs =
     let f = c .before .before .before .before .before .before .before .before .before in
     let e = f .before in
-    push-asks _ _ _ (tested-ready _ _ _ (e .before .test .ensures) (e .if1 .left)) (sym (slice-aggregate-queue-5 (c .before .before .before .before))) (f .if2 .left)
+    push-asks _ _ _ (tested-ready _ _ _ (e .before .test .ensures) (e .if1 .left)) (sym (slice-aggregate-queue-5 (c .before .before .before .before)))
+    (f .if2 .left)
 
 returns-3 : tie.Need-returns-3
 returns-3 c = search needs
