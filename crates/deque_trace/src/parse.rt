@@ -3,13 +3,10 @@ use crate::words::column_of;
 use crate::words::packed;
 use crate::words::parts_of;
 use lines::Kind;
+use lines::NONE;
 use lines::Number;
-
-// No node in the records, and a cursor at none.
-pub const NONE: u64 = 4096;
-
-// A cursor past the end.
-pub const PAST_END: u64 = 4097;
+use lines::PAST_END;
+use lines::Source;
 
 // What is no word's number: a line that is no call, the pokes by their columns, the poke of the first free node, a line
 // that answers nothing, and a making beyond the records.
@@ -44,21 +41,22 @@ pub struct Call {
     pub x: u64,
 }
 
-// The call that the line is.
-pub fn call_of(line: &[u8]) -> Call {
-    match lines::kind_of(line) {
-        Kind::Silent => Call {
-            asks: SILENT,
-            i: 0,
-            x: 0,
-        },
-        Kind::Long => Call {
-            asks: BAD,
-            i: 0,
-            x: 0,
-        },
-        Kind::Call => spoken(line, lines::count(line)),
+// The call of the line that was found: nothing is asked where there was none.
+pub fn found(line: &[u8; 257], source: Source) -> Call {
+    if !source.more {
+        return bare(SILENT);
     }
+    let held = lines::first(line, source.held);
+    match lines::kind_of(held) {
+        Kind::Silent => bare(SILENT),
+        Kind::Long => bare(BAD),
+        Kind::Call => spoken(held, lines::count(held)),
+    }
+}
+
+// A call without numbers.
+fn bare(asks: u64) -> Call {
+    Call { asks, i: 0, x: 0 }
 }
 
 // A line of so many parts: a word with its numbers, or a poke.
@@ -84,16 +82,11 @@ fn operand(line: &[u8], k: usize, parts: usize) -> Number {
 
 // The call, if both are numbers.
 fn numbered(asks: u64, first: Number, second: Number) -> Call {
-    let bad = Call {
-        asks: BAD,
-        i: 0,
-        x: 0,
-    };
     let Number::Is(i) = first else {
-        return bad;
+        return bare(BAD);
     };
     let Number::Is(x) = second else {
-        return bad;
+        return bare(BAD);
     };
     Call {
         asks,

@@ -1,6 +1,5 @@
 // What goes from line to line beside the records: how many there are, and the first free node.
 ghost use Prim.Native.Nat.{_≤_};
-use crate::answers::Called;
 use crate::answers::REFUSED;
 use crate::parse::BAD;
 use crate::parse::Call;
@@ -10,7 +9,7 @@ use crate::words::MAKE;
 
 const MOST_DEQUES: usize = 256;
 
-const MOST_NODES: u64 = 4096;
+const MOST_NODES: usize = 4096;
 
 // How many deques over how many nodes were made (none before the first making), and the first free node.
 pub struct State {
@@ -26,44 +25,58 @@ pub struct Plan {
     pub nodes: usize,
 }
 
-// What the call does in the state. Before the first making every other call is a bad line, and more records than there
-// are cannot be lent.
+// What the call does in the state, on no more records than there are.
 pub fn planned(s: State, call: Call) -> Plan
-    requires { ⌜ (s .deques ≤ 256) × (s .nodes ≤ 4096) ⌝ }
     ensures { λ r. ⌜ (r .deques ≤ 256) × (r .nodes ≤ 4096) ⌝ }
 {
-    let mut meant = call;
-    let asks = call.asks;
-    if asks == MAKE {
-        if call.i <= MOST_DEQUES && call.x <= MOST_NODES {
-            return Plan {
-                call,
-                deques: call.i,
-                nodes: call.x as usize,
-            };
-        }
-        meant.asks = TOO_MANY;
-    } else if s.deques == 0 && asks != SILENT {
-        meant.asks = BAD;
-    }
+    let plan = meant(s, call);
+    let call = plan.call;
     Plan {
-        call: meant,
-        deques: s.deques,
-        nodes: s.nodes,
+        call,
+        deques: within(plan.deques, MOST_DEQUES),
+        nodes: within(plan.nodes, MOST_NODES),
     }
 }
 
-// The state that the call leaves.
-pub fn after(s: State, plan: Plan, called: Called) -> State
-    requires { ⌜ (s .deques ≤ 256) × (s .nodes ≤ 4096) × (plan .deques ≤ 256) × (plan .nodes ≤ 4096) ⌝ }
-    ensures { λ r. ⌜ (r .deques ≤ 256) × (r .nodes ≤ 4096) ⌝ }
+// So many, and no more than there are.
+fn within(n: usize, most: usize) -> usize
+    ensures { λ r. ⌜ r ≤ most ⌝ }
 {
-    if called.word == REFUSED {
+    if n < most { n } else { most }
+}
+
+// Before the first making every other call is a bad line, and more records than there are cannot be lent.
+fn meant(s: State, call: Call) -> Plan {
+    let mut plan = Plan {
+        call,
+        deques: s.deques,
+        nodes: s.nodes,
+    };
+    let asks = call.asks;
+    if asks == MAKE {
+        if call.i <= MOST_DEQUES && call.x <= 4096 {
+            plan.deques = call.i;
+            plan.nodes = call.x as usize;
+            return plan;
+        }
+        plan.call.asks = TOO_MANY;
+        return plan;
+    }
+    if s.deques == 0 && asks != SILENT {
+        plan.call.asks = BAD;
+    }
+    plan
+}
+
+// The state that the call leaves, by what it told: a refused call leaves the state, and the last number is the first
+// free node.
+pub fn after(s: State, plan: Plan, told: &[u64; 6]) -> State {
+    if told[0] == REFUSED {
         return s;
     }
     State {
         deques: plan.deques,
         nodes: plan.nodes,
-        free: called.free,
+        free: told[5] as usize,
     }
 }

@@ -1,9 +1,8 @@
-// The calls of the trace, on the lent records.
-use crate::answers::BAD_LINE;
-use crate::answers::Called;
+// The calls of the trace, on the lent records. These are the call's to its end, so it hands back what it told and
+// nothing else.
 use crate::answers::DIGESTED;
 use crate::answers::OK;
-use crate::answers::SILENCE;
+use crate::answers::answer;
 use crate::answers::counted;
 use crate::answers::done;
 use crate::answers::dropped;
@@ -12,8 +11,8 @@ use crate::answers::made;
 use crate::answers::popped;
 use crate::answers::pushed;
 use crate::answers::refused;
-use crate::answers::told;
 use crate::parse::Call;
+use crate::parse::POKE_CURSOR;
 use crate::parse::POKE_ELEMENT;
 use crate::parse::POKE_FREE;
 use crate::parse::POKE_HEAD;
@@ -24,13 +23,9 @@ use crate::parse::POKE_PREV;
 use crate::parse::POKE_TAIL;
 use crate::parse::SILENT;
 use crate::parse::TOO_MANY;
-use crate::records::digest_deques;
-use crate::records::digest_nodes;
-use crate::records::field;
-use crate::records::list;
-use crate::records::say_deques;
-use crate::records::say_free;
-use crate::records::say_nodes;
+use crate::pokes::put;
+use crate::pokes::put_element;
+use crate::shows::show;
 use crate::words::BACK;
 use crate::words::DIGEST;
 use crate::words::DUMP;
@@ -44,28 +39,33 @@ use crate::words::POP;
 use crate::words::PUSH;
 use crate::words::RESET;
 use crate::words::UNLINK;
+use lines::BAD_LINE;
+use lines::NO_LINE;
+use lines::SHOWN;
 
 // A call on the lent records. A list and a dump go to out, after the bytes that wait there.
-pub fn perform(
-    heads: &mut [usize],
-    tails: &mut [usize],
-    lens: &mut [usize],
-    cursors: &mut [usize],
-    next: &mut [usize],
-    prev: &mut [usize],
-    home: &mut [usize],
-    element: &mut [u64],
-    out: &mut [u8; 65536],
+pub fn perform<'a>(
+    heads: &'a mut [usize],
+    tails: &'a mut [usize],
+    lens: &'a mut [usize],
+    cursors: &'a mut [usize],
+    next: &'a mut [usize],
+    prev: &'a mut [usize],
+    home: &'a mut [usize],
+    element: &'a mut [u64],
+    out: &'a mut [u8; 65536],
+    told: &'a mut [u64; 6],
     at: usize,
     free: usize,
     call: Call,
-) -> Called {
+) -> &'a mut [u64; 6] {
     let asks = call.asks;
     let i = call.i;
-    if asks == PUSH {
-        return pushed(
+    let x = call.x;
+    match asks {
+        PUSH => pushed(
+            told,
             free,
-            at,
             deque_alone::push_back(
                 heads,
                 tails,
@@ -77,14 +77,12 @@ pub fn perform(
                 element,
                 free,
                 i,
-                call.x,
+                x,
             ),
-        );
-    }
-    if asks == POP {
-        return popped(
+        ),
+        POP => popped(
+            told,
             free,
-            at,
             deque_alone::pop_front(
                 heads,
                 tails,
@@ -97,12 +95,10 @@ pub fn perform(
                 free,
                 i,
             ),
-        );
-    }
-    if asks == UNLINK {
-        return dropped(
+        ),
+        UNLINK => dropped(
+            told,
             free,
-            at,
             deque_alone::unlink_and_drop(
                 heads,
                 tails,
@@ -114,21 +110,12 @@ pub fn perform(
                 element,
                 free,
                 i,
-                call.x as usize,
+                x as usize,
             ),
-        );
-    }
-    if asks == MAKE {
-        return made(
+        ),
+        MOVE => done(
+            told,
             free,
-            at,
-            deque_alone::make(heads, tails, lens, cursors, next, prev, home, element),
-        );
-    }
-    if asks == MOVE {
-        return done(
-            free,
-            at,
             deque_alone::move_to_back(
                 heads,
                 tails,
@@ -140,150 +127,22 @@ pub fn perform(
                 element,
                 free,
                 i,
-                call.x as usize,
-            ),
-        );
-    }
-    if asks < POKE_HEAD {
-        return poke_node(next, prev, home, element, free, at, call);
-    }
-    if asks < POKE_FREE {
-        return poke_deque(heads, tails, lens, cursors, free, at, call);
-    }
-    ask(
-        heads,
-        tails,
-        lens,
-        cursors,
-        next,
-        prev,
-        home,
-        element,
-        out,
-        at,
-        free,
-        call,
-    )
-}
-
-// Writes a field of a node; a line that is no call comes here too.
-fn poke_node(
-    next: &mut [usize],
-    prev: &mut [usize],
-    home: &mut [usize],
-    element: &mut [u64],
-    free: usize,
-    at: usize,
-    call: Call,
-) -> Called {
-    let asks = call.asks;
-    if asks == POKE_NEXT {
-        return put(next, free, at, call);
-    }
-    if asks == POKE_PREV {
-        return put(prev, free, at, call);
-    }
-    if asks == POKE_HOME {
-        return put(home, free, at, call);
-    }
-    if asks == POKE_ELEMENT {
-        return put_element(element, free, at, call);
-    }
-    told(free, at, BAD_LINE, 0, 0)
-}
-
-// Writes a field of a deque.
-fn poke_deque(
-    heads: &mut [usize],
-    tails: &mut [usize],
-    lens: &mut [usize],
-    cursors: &mut [usize],
-    free: usize,
-    at: usize,
-    call: Call,
-) -> Called {
-    let asks = call.asks;
-    if asks == POKE_HEAD {
-        return put(heads, free, at, call);
-    }
-    if asks == POKE_TAIL {
-        return put(tails, free, at, call);
-    }
-    if asks == POKE_LENGTH {
-        return put(lens, free, at, call);
-    }
-    put(cursors, free, at, call)
-}
-
-// Writes a field of a record, if there is such a record.
-fn put(fields: &mut [usize], free: usize, at: usize, call: Call) -> Called {
-    let i = call.i;
-    if fields.len() <= i {
-        return told(free, at, BAD_LINE, 0, 0);
-    }
-    fields[i] = call.x as usize;
-    told(free, at, OK, 0, 0)
-}
-
-// The same for an element.
-fn put_element(element: &mut [u64], free: usize, at: usize, call: Call) -> Called {
-    let s = call.i;
-    if element.len() <= s {
-        return told(free, at, BAD_LINE, 0, 0);
-    }
-    element[s] = call.x;
-    told(free, at, OK, 0, 0)
-}
-
-// The calls that write no more than a cursor.
-fn ask(
-    heads: &[usize],
-    tails: &[usize],
-    lens: &[usize],
-    cursors: &mut [usize],
-    next: &[usize],
-    prev: &[usize],
-    home: &[usize],
-    element: &[u64],
-    out: &mut [u8; 65536],
-    at: usize,
-    free: usize,
-    call: Call,
-) -> Called {
-    let asks = call.asks;
-    match asks {
-        NEXT => looked(
-            free,
-            at,
-            deque_alone::next_by_cursor(
-                heads,
-                tails,
-                lens,
-                cursors,
-                next,
-                prev,
-                home,
-                element,
-                free,
-                call.i,
+                x as usize,
             ),
         ),
-        RESET => done(
+        MAKE => made(
+            told,
             free,
-            at,
-            deque_alone::reset_cursor(
-                heads,
-                tails,
-                lens,
-                cursors,
-                next,
-                prev,
-                home,
-                element,
-                free,
-                call.i,
-            ),
+            deque_alone::make(heads, tails, lens, cursors, next, prev, home, element),
         ),
+        POKE_NEXT => put(next, told, free, call),
+        POKE_PREV => put(prev, told, free, call),
+        POKE_HOME => put(home, told, free, call),
+        POKE_ELEMENT => put_element(element, told, free, call),
+        POKE_HEAD => put(heads, told, free, call),
+        POKE_TAIL => put(tails, told, free, call),
+        POKE_LENGTH => put(lens, told, free, call),
+        POKE_CURSOR => put(cursors, told, free, call),
         _ => look(
             heads,
             tails,
@@ -294,6 +153,7 @@ fn ask(
             home,
             element,
             out,
+            told,
             at,
             free,
             call,
@@ -301,27 +161,60 @@ fn ask(
     }
 }
 
-// The calls that only read.
-fn look(
-    heads: &[usize],
-    tails: &[usize],
-    lens: &[usize],
-    cursors: &[usize],
-    next: &[usize],
-    prev: &[usize],
-    home: &[usize],
-    element: &[u64],
-    out: &mut [u8; 65536],
+// The calls that write no more than a cursor.
+fn look<'a>(
+    heads: &'a [usize],
+    tails: &'a [usize],
+    lens: &'a [usize],
+    cursors: &'a mut [usize],
+    next: &'a [usize],
+    prev: &'a [usize],
+    home: &'a [usize],
+    element: &'a [u64],
+    out: &'a mut [u8; 65536],
+    told: &'a mut [u64; 6],
     at: usize,
     free: usize,
     call: Call,
-) -> Called {
+) -> &'a mut [u64; 6] {
     let asks = call.asks;
     let d = call.i;
     match asks {
-        FRONT => looked(
+        NEXT => looked(
+            told,
             free,
-            at,
+            deque_alone::next_by_cursor(
+                heads,
+                tails,
+                lens,
+                cursors,
+                next,
+                prev,
+                home,
+                element,
+                free,
+                d,
+            ),
+        ),
+        RESET => done(
+            told,
+            free,
+            deque_alone::reset_cursor(
+                heads,
+                tails,
+                lens,
+                cursors,
+                next,
+                prev,
+                home,
+                element,
+                free,
+                d,
+            ),
+        ),
+        FRONT => looked(
+            told,
+            free,
             deque_alone::look_front(
                 heads,
                 tails,
@@ -336,8 +229,8 @@ fn look(
             ),
         ),
         BACK => looked(
+            told,
             free,
-            at,
             deque_alone::look_back(
                 heads,
                 tails,
@@ -352,8 +245,8 @@ fn look(
             ),
         ),
         LENGTH => counted(
+            told,
             free,
-            at,
             deque_alone::length_of(
                 heads,
                 tails,
@@ -367,26 +260,69 @@ fn look(
                 d,
             ),
         ),
-        LIST => list(out, at, heads, next, free, d),
+        LIST => list(heads, next, out, told, at, free, d),
         DUMP => {
-            let dumped = say_deques(out, at, heads, tails, lens, cursors);
-            let all = say_nodes(out, dumped, next, prev, home, element);
-            told(free, say_free(out, all, free), SILENCE, 0, 0)
+            let waiting = show(
+                heads,
+                tails,
+                lens,
+                cursors,
+                next,
+                prev,
+                home,
+                element,
+                out,
+                at,
+                free,
+                false,
+            );
+            answer(told, free, SHOWN, 0, waiting, 0)
         }
         DIGEST => {
-            let deques = digest_deques(lines::digest_start(), heads, tails, lens, cursors);
-            let nodes = digest_nodes(deques, next, prev, home, element);
-            told(
-                free,
+            let digest = show(
+                heads,
+                tails,
+                lens,
+                cursors,
+                next,
+                prev,
+                home,
+                element,
+                out,
                 at,
-                DIGESTED,
-                1,
-                lines::digest_step(nodes, field(free as u64)),
-            )
+                free,
+                true,
+            );
+            answer(told, free, DIGESTED, 1, digest, 0)
         }
-        POKE_FREE => told(call.x as usize, at, OK, 0, 0),
-        SILENT => told(free, at, SILENCE, 0, 0),
-        TOO_MANY => refused(free, at, 3),
-        _ => told(free, at, BAD_LINE, 0, 0),
+        _ => aside(told, free, call),
+    }
+}
+
+// `list D`: the nodes from the deque's head on.
+fn list<'a>(
+    heads: &'a [usize],
+    next: &'a [usize],
+    out: &'a mut [u8; 65536],
+    told: &'a mut [u64; 6],
+    at: usize,
+    free: usize,
+    d: usize,
+) -> &'a mut [u64; 6] {
+    if heads.len() <= d {
+        return answer(told, free, BAD_LINE, 0, 0, 0);
+    }
+    let waiting = lines::say_chain(out, at, b"list", heads[d], next);
+    answer(told, free, SHOWN, 0, waiting as u64, 0)
+}
+
+// What touches no record.
+fn aside(told: &mut [u64; 6], free: usize, call: Call) -> &mut [u64; 6] {
+    let asks = call.asks;
+    match asks {
+        POKE_FREE => answer(told, call.x as usize, OK, 0, 0, 0),
+        SILENT => answer(told, free, NO_LINE, 0, 0, 0),
+        TOO_MANY => refused(told, free, 3),
+        _ => answer(told, free, BAD_LINE, 0, 0, 0),
     }
 }

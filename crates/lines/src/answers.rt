@@ -8,18 +8,24 @@ use crate::collecting::Source;
 use crate::parts::first;
 use libc::STDOUT_FILENO;
 
-// Writes the first n bytes of out to standard output, all of them where it has fewer, and answers
-// how many wait then: none.
-pub fn flush(out: &[u8], n: usize) -> usize
+// Writes the first n bytes of out to standard output, and answers how many wait then: none.
+pub fn flush(out: &[u8; 65536], n: usize) -> usize
+    ensures { λ r. ⌜ r ≡ 0 ⌝ }
+{
+    write_out(out, n)
+}
+
+// The same for a buffer of any length: all of it where it has fewer bytes than n.
+fn write_out(out: &[u8], n: usize) -> usize
     ensures { λ r. ⌜ r ≡ 0 ⌝ }
 {
     io::write_all(STDOUT_FILENO, first(out, n));
     0
 }
 
-// Writes out the `at` bytes that wait in out where all of the block is answered, so that nothing
-// waits while more is read; answers how many wait then.
-pub fn settle(out: &[u8], at: usize, s: Source) -> usize
+// Writes out the `at` bytes that wait in out where all of the block is answered, so that nothing waits while more is
+// read; answers how many wait then.
+pub fn settle(out: &[u8; 65536], at: usize, s: Source) -> usize
     ensures { λ r. ⌜ r ≡ settled at s ⌝ }
 {
     let from = s.from;
@@ -30,9 +36,16 @@ pub fn settle(out: &[u8], at: usize, s: Source) -> usize
     flush(out, at)
 }
 
-// Puts text after the `at` bytes that wait in out, and answers how many wait then. Where there is
-// no room for it those are written out first, and where it is longer than out it is written too.
-pub fn append(out: &mut [u8], at: usize, text: &[u8]) -> usize
+// Puts text after the `at` bytes that wait in out, and answers how many wait then. Where there is no room for it those
+// are written out first, and where it is longer than out it is written too.
+pub fn append(out: &mut [u8; 65536], at: usize, text: &[u8]) -> usize
+    ensures { λ r. ⌜ Appended (now (out .entry)) at (now (text .entry)) (now (out .exit)) r ⌝ }
+{
+    append_to(out, at, text)
+}
+
+// The same for a buffer of any length.
+fn append_to(out: &mut [u8], at: usize, text: &[u8]) -> usize
     ensures { λ r. ⌜ Appended (now (out .entry)) at (now (text .entry)) (now (out .exit)) r ⌝ }
 {
     let n = text.len();
@@ -46,7 +59,7 @@ pub fn append(out: &mut [u8], at: usize, text: &[u8]) -> usize
 }
 
 // Puts n in decimal after the `at` bytes that wait in out, as `append` does.
-pub fn append_decimal(out: &mut [u8], at: usize, n: u64) -> usize
+fn append_decimal(out: &mut [u8; 65536], at: usize, n: u64) -> usize
     ensures { λ r. ⌜ AppendedNumber (now (out .entry)) at n (now (out .exit)) r ⌝ }
 {
     let mut text = [0u8; 20];
@@ -55,7 +68,7 @@ pub fn append_decimal(out: &mut [u8], at: usize, n: u64) -> usize
 }
 
 // Puts a space and n in decimal after the `at` bytes that wait in out, as `append` does.
-pub fn append_field(out: &mut [u8], at: usize, n: u64) -> usize
+pub fn append_field(out: &mut [u8; 65536], at: usize, n: u64) -> usize
     ensures { λ r. ⌜ AppendedField (now (out .entry)) at n (now (out .exit)) r ⌝ }
 {
     let spaced = append(out, at, b" ");
@@ -67,10 +80,10 @@ fn room(out: &[u8], at: usize, n: usize) -> usize
     ensures { λ r. ⌜ r ≡ placeOf at n (length (now (out .entry))) ⌝ }
 {
     if out.len() < at {
-        return flush(out, at);
+        return write_out(out, at);
     }
     if out.len() - at < n {
-        return flush(out, at);
+        return write_out(out, at);
     }
     at
 }

@@ -54,10 +54,9 @@ pub fn begin() -> Source
     }
 }
 
-// Puts the next line of standard input into line, or as much of it as there is room for, and reads
-// as much into block for that as it needs. A last line that no line end follows counts, unless it
-// is empty.
-pub fn next_line(block: &mut [u8], line: &mut [u8], s: Source) -> Source
+// Puts the next line of standard input into line, or as much of it as there is room for, and reads as much into block
+// for that as it needs. A last line that no line end follows counts, unless it is empty.
+pub fn next_line(block: &mut [u8; 65536], line: &mut [u8; 257], s: Source) -> Source
     ensures { λ r. ⌜ NextLine (now (block .entry)) (now (line .entry)) s (now (block .exit)) (now (line .exit)) r ⌝ }
 {
     let from = s.from;

@@ -1,8 +1,7 @@
 // The fields of a call: what kind each is, and a part of a line read as one.
+use crate::requests::SCHEDULE;
+use lines::NONE;
 use lines::Number;
-
-// None, for a link.
-pub const NONE: u64 = 4096;
 
 // A field that is not read. Kind 1 is any number.
 const UNREAD: u64 = 0;
@@ -74,6 +73,6 @@ fn fits(kind: u64, n: u64) -> bool {
 
 // The generation among a call's fields: schedule's second, the third of others.
 pub fn narrow(call: u64, second: u64, third: u64) -> u32 {
-    let n = if call == 20 { second } else { third };
+    let n = if call == SCHEDULE { second } else { third };
     if n <= 0xffff_ffff { n as u32 } else { 0 }
 }

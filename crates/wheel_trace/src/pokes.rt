@@ -1,75 +1,88 @@
-// Pokes: a field of a lent record, or of the clock, is written.
-use crate::answers;
+// Pokes: a field of a lent record, or of the clock, is written, if there is such a record.
+use crate::answers::GOOD;
+use crate::answers::plain;
 use crate::requests::Request;
-use crate::state::State;
-use crate::state::plain;
-use wheel_rules::records::Clock;
+use lines::BAD_LINE;
 
 // `poke-node S FIELD V`.
-pub fn poke_node(
-    next: &mut [usize; 4100],
-    prev: &mut [usize; 4100],
-    bucket: &mut [usize; 4100],
-    entry: &mut [usize; 4100],
-    generation: &mut [u32; 4100],
-    serial: &mut [u64; 4100],
-    s: State,
+pub fn poke_node<'a>(
+    next: &'a mut [usize],
+    prev: &'a mut [usize],
+    bucket: &'a mut [usize],
+    entry: &'a mut [usize],
+    generation: &'a mut [u32],
+    serial: &'a mut [u64],
+    told: &'a mut [u64; 6],
     r: Request,
-) -> State {
+) -> &'a mut [u64; 6] {
     let x = r.index;
-    let v = r.third;
     let call = r.call;
-    if s.nodes <= x {
-        return plain(s, answers::BAD);
-    }
-    if 4100 <= x {
-        return s;
-    }
     match call {
-        40 => next[x] = v as usize,
-        41 => prev[x] = v as usize,
-        42 => bucket[x] = v as usize,
-        43 => entry[x] = v as usize,
-        44 => generation[x] = r.generation,
-        _ => serial[x] = v,
+        0x40 => put(next, told, x, r.third),
+        0x41 => put(prev, told, x, r.third),
+        0x42 => put(bucket, told, x, r.third),
+        0x43 => put(entry, told, x, r.third),
+        0x44 => put_generation(generation, told, x, r.generation),
+        _ => put_serial(serial, told, x, r.third),
     }
-    plain(s, answers::GOOD)
 }
 
 // `poke-bucket B FIELD V`.
-pub fn poke_bucket(
-    heads: &mut [usize; 165],
-    tails: &mut [usize; 165],
-    s: State,
+pub fn poke_bucket<'a>(
+    heads: &'a mut [usize],
+    tails: &'a mut [usize],
+    told: &'a mut [u64; 6],
     r: Request,
-) -> State {
-    let b = r.index;
-    let v = r.third as usize;
-    if 165 <= b {
-        return plain(s, answers::BAD);
+) -> &'a mut [u64; 6] {
+    if r.call == 0x50 {
+        return put(heads, told, r.index, r.third);
     }
-    if r.call == 50 {
-        heads[b] = v;
-    } else {
-        tails[b] = v;
-    }
-    plain(s, answers::GOOD)
+    put(tails, told, r.index, r.third)
 }
 
-// `poke-clock FIELD V`: the clock with that field written.
-pub fn poke_clock(clock: Clock, field: u64, v: u64) -> Clock {
-    let mut after = clock;
-    match field {
-        60 => after.enabled = v == 1,
-        61 => after.reading = v,
-        62 => after.serial = v,
-        63 => after.open = v == 1,
-        64 => after.previous = v,
-        65 => after.level = v as usize,
-        66 => after.step = v as usize,
-        67 => after.nodes = v as usize,
-        68 => after.entries = v as usize,
-        _ => after.free = v as usize,
+// `poke-clock FIELD V`.
+pub fn poke_clock<'a>(
+    clock: &'a mut [u64; 10],
+    told: &'a mut [u64; 6],
+    r: Request,
+) -> &'a mut [u64; 6] {
+    let k = r.call % 16;
+    if k < 10 {
+        clock[k as usize] = r.second;
     }
-    after
+    plain(told, GOOD)
+}
+
+fn put<'a>(column: &'a mut [usize], told: &'a mut [u64; 6], i: usize, v: u64) -> &'a mut [u64; 6] {
+    if column.len() <= i {
+        return plain(told, BAD_LINE);
+    }
+    column[i] = v as usize;
+    plain(told, GOOD)
+}
+
+fn put_generation<'a>(
+    generation: &'a mut [u32],
+    told: &'a mut [u64; 6],
+    i: usize,
+    v: u32,
+) -> &'a mut [u64; 6] {
+    if generation.len() <= i {
+        return plain(told, BAD_LINE);
+    }
+    generation[i] = v;
+    plain(told, GOOD)
+}
+
+fn put_serial<'a>(
+    serial: &'a mut [u64],
+    told: &'a mut [u64; 6],
+    i: usize,
+    v: u64,
+) -> &'a mut [u64; 6] {
+    if serial.len() <= i {
+        return plain(told, BAD_LINE);
+    }
+    serial[i] = v;
+    plain(told, GOOD)
 }

@@ -6,8 +6,7 @@ use lines::Kind;
 use lines::Source;
 
 // What a line asks for: a call, its first field as an index, the numbers of the second and the third, the generation
-// among
-// them, and whether the second is no dash.
+// among them, and whether the second is no dash.
 pub struct Request {
     pub call: u64,
     pub index: usize,
@@ -17,57 +16,57 @@ pub struct Request {
     pub dated: bool,
 }
 
-// The calls' numbers; a field that is poked is a call of its own.
-pub const PULL: u64 = 0;
+// The calls' numbers, by sixteens: the timers' calls, those that write entries or lay out nodes, those that change the
+// clock alone or nothing, and what is shown.
+pub const PULL: u64 = 0x00;
 
-pub const ENABLE: u64 = 1;
+pub const SCHEDULE: u64 = 0x01;
 
-pub const ABANDON: u64 = 2;
+pub const RESCHEDULE: u64 = 0x02;
 
-pub const ARMED: u64 = 3;
+pub const DESCHEDULE: u64 = 0x03;
 
-pub const DUE: u64 = 4;
+pub const ENABLE: u64 = 0x10;
 
-pub const CLOCK: u64 = 5;
+pub const SET: u64 = 0x11;
 
-pub const DUMP: u64 = 6;
+pub const START: u64 = 0x20;
 
-pub const DIGEST: u64 = 7;
+pub const ABANDON: u64 = 0x21;
 
-pub const START: u64 = 10;
+pub const ARMED: u64 = 0x22;
 
-pub const CREATE: u64 = 11;
+pub const DUE: u64 = 0x23;
 
-pub const BUCKET: u64 = 12;
+pub const CLOCK: u64 = 0x30;
 
-pub const SCHEDULE: u64 = 20;
+pub const DUMP: u64 = 0x31;
 
-pub const PLACE: u64 = 21;
+pub const DIGEST: u64 = 0x32;
 
-pub const LEND: u64 = 22;
+pub const BUCKET: u64 = 0x33;
 
-pub const SET: u64 = 30;
+// A field that is poked is a call of its own: 0x40 to 0x45 for next, prev, bucket, entry, generation and serial of a
+// node, 0x50 and 0x51 for head and tail of a bucket, 0x60 to 0x69 for enabled, reading, serial, open, previous, level,
+// step, nodes, entries and free of the clock.
 
-pub const RESCHEDULE: u64 = 31;
+// What touches no lent node or entry; no line or one that answers nothing; no call of the table.
+pub const CREATE: u64 = 0x70;
 
-pub const DESCHEDULE: u64 = 32;
+pub const PLACE: u64 = 0x71;
 
-// A poke's by the field: 40 to 45 for next, prev, bucket, entry, generation and serial of a node, 50 and 51 for head
-// and
-// tail of a bucket, 60 to 69 for enabled, reading, serial, open, previous, level, step, nodes, entries and free.
+pub const LEND: u64 = 0x72;
 
-// No line, or one that answers nothing.
-pub const SILENT: u64 = 98;
+pub const SILENT: u64 = 0x73;
 
-// No call of the table.
-pub const BAD: u64 = 99;
+pub const BAD: u64 = 0x74;
 
 // The forms from here on may come before the first lend.
 const ANY_TIME: u64 = 0x1_00_0_000;
 
 // What the line that was found asks for, if there was one. Before the first lend every call but `place` and `lend` is
 // none.
-pub fn request_of(line: &[u8], source: Source, lent: bool) -> Request {
+pub fn request_of(line: &[u8; 257], source: Source, lent: bool) -> Request {
     let more = source.more;
     if !more {
         return bare(SILENT);

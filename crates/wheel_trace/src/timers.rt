@@ -1,33 +1,35 @@
 // The calls that may change node records.
-use crate::calls::done;
-use crate::calls::pulled;
-use crate::calls::rescheduled;
-use crate::calls::scheduled;
+use crate::answers::done;
+use crate::answers::pulled;
+use crate::answers::rescheduled;
+use crate::answers::scheduled;
+use crate::clocks::clock_of;
 use crate::requests;
 use crate::requests::Request;
-use crate::state::State;
 
 // pull, schedule, reschedule and deschedule on the records that are lent.
-pub fn on_nodes(
-    heads: &mut [usize],
-    tails: &mut [usize],
-    next: &mut [usize],
-    prev: &mut [usize],
-    bucket: &mut [usize],
-    entry: &mut [usize],
-    generation: &mut [u32],
-    serial: &mut [u64],
-    dated: &[bool],
-    deadline: &[u64],
-    stamp: &[u32],
-    s: State,
+pub fn on_timers<'a>(
+    heads: &'a mut [usize],
+    tails: &'a mut [usize],
+    next: &'a mut [usize],
+    prev: &'a mut [usize],
+    bucket: &'a mut [usize],
+    entry: &'a mut [usize],
+    generation: &'a mut [u32],
+    serial: &'a mut [u64],
+    dated: &'a [bool],
+    deadline: &'a [u64],
+    stamp: &'a [u32],
+    clock: &'a mut [u64; 10],
+    told: &'a mut [u64; 6],
     r: Request,
-) -> State {
-    let clock = s.clock;
+) -> &'a mut [u64; 6] {
+    let now = clock_of(clock);
     let call = r.call;
     match call {
         requests::PULL => pulled(
-            s,
+            clock,
+            told,
             wheel::pull(
                 heads,
                 tails,
@@ -40,11 +42,12 @@ pub fn on_nodes(
                 dated,
                 deadline,
                 stamp,
-                clock,
+                now,
             ),
         ),
         requests::SCHEDULE => scheduled(
-            s,
+            clock,
+            told,
             wheel::schedule(
                 heads,
                 tails,
@@ -57,13 +60,14 @@ pub fn on_nodes(
                 dated,
                 deadline,
                 stamp,
-                clock,
+                now,
                 r.index,
                 r.generation,
             ),
         ),
         requests::RESCHEDULE => rescheduled(
-            s,
+            clock,
+            told,
             wheel::reschedule(
                 heads,
                 tails,
@@ -76,14 +80,15 @@ pub fn on_nodes(
                 dated,
                 deadline,
                 stamp,
-                clock,
+                now,
                 r.index,
                 r.second,
                 r.generation,
             ),
         ),
         _ => done(
-            s,
+            clock,
+            told,
             wheel::deschedule(
                 heads,
                 tails,
@@ -96,7 +101,7 @@ pub fn on_nodes(
                 dated,
                 deadline,
                 stamp,
-                clock,
+                now,
                 r.index,
                 r.second,
                 r.generation,

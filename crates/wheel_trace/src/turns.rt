@@ -1,33 +1,34 @@
 // The calls that change the clock alone, or nothing.
-use crate::calls::counted;
-use crate::calls::done;
-use crate::calls::next_due;
-use crate::requests::ABANDON;
-use crate::requests::ARMED;
+use crate::answers::counted;
+use crate::answers::done;
+use crate::answers::next_due;
+use crate::clocks::clock_of;
+use crate::requests;
 use crate::requests::Request;
-use crate::requests::START;
-use crate::state::State;
 
 // start, abandon, armed and due on the records that are lent.
-pub fn on_clock(
-    heads: &[usize],
-    tails: &[usize],
-    next: &[usize],
-    prev: &[usize],
-    bucket: &[usize],
-    entry: &[usize],
-    generation: &[u32],
-    serial: &[u64],
-    dated: &[bool],
-    deadline: &[u64],
-    stamp: &[u32],
-    s: State,
+pub fn on_clock<'a>(
+    heads: &'a [usize],
+    tails: &'a [usize],
+    next: &'a [usize],
+    prev: &'a [usize],
+    bucket: &'a [usize],
+    entry: &'a [usize],
+    generation: &'a [u32],
+    serial: &'a [u64],
+    dated: &'a [bool],
+    deadline: &'a [u64],
+    stamp: &'a [u32],
+    clock: &'a mut [u64; 10],
+    told: &'a mut [u64; 6],
     r: Request,
-) -> State {
-    let clock = s.clock;
-    if r.call == START {
-        return done(
-            s,
+) -> &'a mut [u64; 6] {
+    let now = clock_of(clock);
+    let call = r.call;
+    match call {
+        requests::START => done(
+            clock,
+            told,
             wheel::start(
                 heads,
                 tails,
@@ -40,14 +41,13 @@ pub fn on_clock(
                 dated,
                 deadline,
                 stamp,
-                clock,
+                now,
                 r.index as u64,
             ),
-        );
-    }
-    if r.call == ABANDON {
-        return done(
-            s,
+        ),
+        requests::ABANDON => done(
+            clock,
+            told,
             wheel::abandon(
                 heads,
                 tails,
@@ -60,13 +60,11 @@ pub fn on_clock(
                 dated,
                 deadline,
                 stamp,
-                clock,
+                now,
             ),
-        );
-    }
-    if r.call == ARMED {
-        return counted(
-            s,
+        ),
+        requests::ARMED => counted(
+            told,
             wheel::armed_count(
                 heads,
                 tails,
@@ -79,25 +77,25 @@ pub fn on_clock(
                 dated,
                 deadline,
                 stamp,
-                clock,
+                now,
             ),
-        );
-    }
-    next_due(
-        s,
-        wheel::next_due(
-            heads,
-            tails,
-            next,
-            prev,
-            bucket,
-            entry,
-            generation,
-            serial,
-            dated,
-            deadline,
-            stamp,
-            clock,
         ),
-    )
+        _ => next_due(
+            told,
+            wheel::next_due(
+                heads,
+                tails,
+                next,
+                prev,
+                bucket,
+                entry,
+                generation,
+                serial,
+                dated,
+                deadline,
+                stamp,
+                now,
+            ),
+        ),
+    }
 }

@@ -1,85 +1,132 @@
-// The wheel's calls on as many records as are lent.
-ghost use Prim.Native.Nat.{_≤_};
-use crate::calls::done;
-use crate::calls::noted;
+// The calls on the records that are lent. These are the call's to its end, so it hands back what it told and nothing
+// else.
+use crate::answers::done;
+use crate::answers::noted;
+use crate::asides::aside;
+use crate::clocks::clock_of;
+use crate::pokes::poke_bucket;
+use crate::pokes::poke_node;
 use crate::requests;
 use crate::requests::Request;
-use crate::state::State;
-use crate::timers::on_nodes;
+use crate::shows::show;
+use crate::timers::on_timers;
 use crate::turns::on_clock;
 
-// As many as are lent, and no more than there are.
-fn within(n: usize, most: usize) -> usize
-    ensures { λ r. ⌜ r ≤ most ⌝ }
-{
-    if n < most { n } else { most }
+// A call: what is shown goes to out, after the bytes that wait there.
+pub fn perform<'a>(
+    heads: &'a mut [usize],
+    tails: &'a mut [usize],
+    next: &'a mut [usize],
+    prev: &'a mut [usize],
+    bucket: &'a mut [usize],
+    entry: &'a mut [usize],
+    generation: &'a mut [u32],
+    serial: &'a mut [u64],
+    dated: &'a mut [bool],
+    deadline: &'a mut [u64],
+    stamp: &'a mut [u32],
+    out: &'a mut [u8; 65536],
+    clock: &'a mut [u64; 10],
+    told: &'a mut [u64; 6],
+    at: usize,
+    r: Request,
+) -> &'a mut [u64; 6] {
+    let group = r.call / 16;
+    match group {
+        0 => on_timers(
+            heads,
+            tails,
+            next,
+            prev,
+            bucket,
+            entry,
+            generation,
+            serial,
+            dated,
+            deadline,
+            stamp,
+            clock,
+            told,
+            r,
+        ),
+        1 => on_entries(
+            heads,
+            tails,
+            next,
+            prev,
+            bucket,
+            entry,
+            generation,
+            serial,
+            dated,
+            deadline,
+            stamp,
+            clock,
+            told,
+            r,
+        ),
+        2 => on_clock(
+            heads,
+            tails,
+            next,
+            prev,
+            bucket,
+            entry,
+            generation,
+            serial,
+            dated,
+            deadline,
+            stamp,
+            clock,
+            told,
+            r,
+        ),
+        3 => show(
+            heads,
+            tails,
+            next,
+            prev,
+            bucket,
+            entry,
+            generation,
+            serial,
+            dated,
+            deadline,
+            stamp,
+            out,
+            clock,
+            told,
+            at,
+            r,
+        ),
+        4 => poke_node(next, prev, bucket, entry, generation, serial, told, r),
+        5 => poke_bucket(heads, tails, told, r),
+        _ => aside(heads, tails, clock, told, r),
+    }
 }
 
-// A wheel call on the records that are lent: the first of each slice.
-pub fn work_lent(
-    heads: &mut [usize],
-    tails: &mut [usize],
-    next: &mut [usize],
-    prev: &mut [usize],
-    bucket: &mut [usize],
-    entry: &mut [usize],
-    generation: &mut [u32],
-    serial: &mut [u64],
-    dated: &mut [bool],
-    deadline: &mut [u64],
-    stamp: &mut [u32],
-    nodes: usize,
-    entries: usize,
-    s: State,
+// enable and set on the records that are lent.
+fn on_entries<'a>(
+    heads: &'a mut [usize],
+    tails: &'a mut [usize],
+    next: &'a mut [usize],
+    prev: &'a mut [usize],
+    bucket: &'a mut [usize],
+    entry: &'a mut [usize],
+    generation: &'a mut [u32],
+    serial: &'a mut [u64],
+    dated: &'a mut [bool],
+    deadline: &'a mut [u64],
+    stamp: &'a mut [u32],
+    clock: &'a mut [u64; 10],
+    told: &'a mut [u64; 6],
     r: Request,
-) -> State {
-    let next_lent = within(nodes, next.len());
-    let prev_lent = within(nodes, prev.len());
-    let bucket_lent = within(nodes, bucket.len());
-    let entry_lent = within(nodes, entry.len());
-    let generation_lent = within(nodes, generation.len());
-    let serial_lent = within(nodes, serial.len());
-    let dated_lent = within(entries, dated.len());
-    let deadline_lent = within(entries, deadline.len());
-    let stamp_lent = within(entries, stamp.len());
-    work(
-        heads,
-        tails,
-        &mut next[..next_lent],
-        &mut prev[..prev_lent],
-        &mut bucket[..bucket_lent],
-        &mut entry[..entry_lent],
-        &mut generation[..generation_lent],
-        &mut serial[..serial_lent],
-        &mut dated[..dated_lent],
-        &mut deadline[..deadline_lent],
-        &mut stamp[..stamp_lent],
-        s,
-        r,
-    )
-}
-
-// A wheel call on lent records.
-fn work(
-    heads: &mut [usize],
-    tails: &mut [usize],
-    next: &mut [usize],
-    prev: &mut [usize],
-    bucket: &mut [usize],
-    entry: &mut [usize],
-    generation: &mut [u32],
-    serial: &mut [u64],
-    dated: &mut [bool],
-    deadline: &mut [u64],
-    stamp: &mut [u32],
-    s: State,
-    r: Request,
-) -> State {
-    let clock = s.clock;
-    let call = r.call;
-    match call {
-        requests::ENABLE => done(
-            s,
+) -> &'a mut [u64; 6] {
+    let now = clock_of(clock);
+    if r.call == requests::ENABLE {
+        return done(
+            clock,
+            told,
             wheel::enable(
                 heads,
                 tails,
@@ -92,59 +139,29 @@ fn work(
                 dated,
                 deadline,
                 stamp,
-                clock,
+                now,
             ),
-        ),
-        requests::SET => noted(
-            s,
-            wheel::set_entry(
-                heads,
-                tails,
-                next,
-                prev,
-                bucket,
-                entry,
-                generation,
-                serial,
-                dated,
-                deadline,
-                stamp,
-                clock,
-                r.index,
-                r.dated,
-                r.second,
-                r.generation,
-            ),
-        ),
-        requests::START | requests::ABANDON | requests::ARMED | requests::DUE => on_clock(
-            heads,
-            tails,
-            next,
-            prev,
-            bucket,
-            entry,
-            generation,
-            serial,
-            dated,
-            deadline,
-            stamp,
-            s,
-            r,
-        ),
-        _ => on_nodes(
-            heads,
-            tails,
-            next,
-            prev,
-            bucket,
-            entry,
-            generation,
-            serial,
-            dated,
-            deadline,
-            stamp,
-            s,
-            r,
-        ),
+        );
     }
+    noted(
+        told,
+        wheel::set_entry(
+            heads,
+            tails,
+            next,
+            prev,
+            bucket,
+            entry,
+            generation,
+            serial,
+            dated,
+            deadline,
+            stamp,
+            now,
+            r.index,
+            r.dated,
+            r.second,
+            r.generation,
+        ),
+    )
 }

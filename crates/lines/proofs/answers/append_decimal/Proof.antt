@@ -19,14 +19,11 @@ slice-aggregate-append c = search needs
 append-requires : tie.Need-append-requires
 append-requires c κs = search needs
 
-same-length : tie.Need-same-length
-same-length c = search needs
-
 returns : tie.Need-returns
 returns c =
-    let a = c .before .before .before .before .before .before .before .before .args in
-    let d = c .before .before .before .before .before .decimal in
-    let p = c .before .before .append in
+    let a = c .before .before .before .before .before .args in
+    let d = c .before .before .before .decimal in
+    let p = c .append in
     record {
       places = d .result;
       fewest = d .ensures .1 .0;
@@ -42,5 +39,4 @@ append-decimal-spec =
     array-share-prefix-text
     slice-aggregate-append
     append-requires
-    same-length
     returns)

@@ -7,28 +7,28 @@ use borrow.Author.Needs.{needs}
 use Rattle.lines.proofs.answers.room.Statement.{statement}
 use Rattle.lines.proofs.answers.room.Tie as tie
 
-flush-requires : tie.Need-flush-requires
-flush-requires c κs = search needs
+write-out-requires : tie.Need-write-out-requires
+write-out-requires c κs = search needs
 
 returns : tie.Need-returns
 returns c =
     let a = c .before .before .before .args in
-    c .flush .ensures ∙ sym (place-start (a .at) (a .n) (length (a .out .now)) (omega arith))
+    c .write-out .ensures ∙ sym (place-start (a .at) (a .n) (length (a .out .now)) (omega arith))
 
 sub-if2 : tie.Need-sub-if2
 sub-if2 c = search needs
 
-flush-requires-2 : tie.Need-flush-requires-2
-flush-requires-2 c κs = search needs
+write-out-requires-2 : tie.Need-write-out-requires-2
+write-out-requires-2 c κs = search needs
 
 returns-2 : tie.Need-returns-2
 returns-2 c =
     let a = c .before .before .before .before .args in
-    c .flush2 .ensures ∙ sym (place-start (a .at) (a .n) (length (a .out .now)) (omega arith))
+    c .write-out2 .ensures ∙ sym (place-start (a .at) (a .n) (length (a .out .now)) (omega arith))
 
 returns-3 : tie.Need-returns-3
 returns-3 c = sym (place-after _ _ _ (omega arith))
 
 pub room-spec : {M : Type 1} → statement M
 room-spec =
-    tie.close (tie.spec flush-requires returns sub-if2 flush-requires-2 returns-2 returns-3)
+    tie.close (tie.spec write-out-requires returns sub-if2 write-out-requires-2 returns-2 returns-3)

@@ -10,30 +10,18 @@ first-requires c κs = search needs
 collect-requires : tie.Need-collect-requires
 collect-requires c κs = search needs
 
-same-length : tie.Need-same-length
-same-length c = search needs
-
-same-length-2 : tie.Need-same-length-2
-same-length-2 c = search needs
-
 returns : tie.Need-returns
 returns c =
-    let k = c .before .before .before in
+    let k = c .before in
     line-found _ _ _ _ _ _ (k .before .before .first .ensures) (k .collect .ensures) (c .if1 .taken)
 
 read-on-requires : tie.Need-read-on-requires
 read-on-requires c κs = search needs
 
-same-length-3 : tie.Need-same-length-3
-same-length-3 c = search needs
-
-same-length-4 : tie.Need-same-length-4
-same-length-4 c = search needs
-
 returns-2 : tie.Need-returns-2
 returns-2 c =
-    let d = c .before .before .before .before .before .before .before in
-    let k = d .before .before .before in
+    let d = c .before .before .before in
+    let k = d .before in
     line-not-there _ _ _ _ _ _ (k .before .before .first .ensures) (k .collect .ensures) (d .if1 .left) _ _ _
 
 pub next-line-spec : {M : Type 1} → statement M
@@ -42,10 +30,6 @@ next-line-spec =
     (tie.spec
     first-requires
     collect-requires
-    same-length
-    same-length-2
     returns
     read-on-requires
-    same-length-3
-    same-length-4
     returns-2)
