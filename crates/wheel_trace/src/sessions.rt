@@ -61,6 +61,11 @@ fn after_line(source: Source, waiting: usize, lent: bool, r: Request) -> Stand {
     }
 }
 
+// Whether the line is not the last of its wheel.
+fn goes_on(source: Source, r: Request) -> bool {
+    source.more && r.call != LEND
+}
+
 // Answers the lend, and line by line up to the next one or the end of the input. The records are lent to a call and are
 // its to the end of it: it hands back what it told.
 pub fn session(
@@ -111,7 +116,7 @@ pub fn session(
             r,
         );
         stand = after_line(source, said, lent, r);
-        turns = lines::turns_left(turns, source.more && r.call != LEND);
+        turns = lines::turns_left(turns, goes_on(source, r));
     }
     stand
 }

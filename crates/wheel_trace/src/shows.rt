@@ -254,9 +254,13 @@ fn wide(column: &[u64], i: usize) -> u64 {
 
 fn narrow(column: &[u32], i: usize) -> u64 {
     if i < column.len() {
-        return column[i] as u64;
+        return widened(column[i]);
     }
     0
+}
+
+fn widened(n: u32) -> u64 {
+    n as u64
 }
 
 fn flag(column: &[bool], i: usize) -> bool {
