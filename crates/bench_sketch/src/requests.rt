@@ -1,92 +1,87 @@
-// The requests: `increase WORDS CALLS SEED`, `estimate WORDS CALLS SEED`, `index WORDS CALLS SEED`,
-// and their answers.
+// The requests: `increase WORDS CALLS SEED`, `estimate WORDS CALLS SEED`, `index WORDS CALLS SEED`, and their answers.
+ghost use Prim.Native.Nat.{_≤_};
 use crate::work;
-use lines::Kind;
-use lines::Number;
+use lines::Asked;
+use lines::BAD_LINE;
+use lines::NO_LINE;
 use lines::Source;
 
-// An answer.
-pub enum Reply {
-    Nothing,
-    Bad,
-    Digest(u64),
+// The workloads, in the order of their names in the table below; then a line that is none, and one that asks nothing.
+const INCREASE: usize = 0;
+
+const ESTIMATE: usize = 1;
+
+const INDEX: usize = 2;
+
+const BAD: usize = 3;
+
+// A workload, how many words are lent to it, its calls and the generator's first number.
+pub struct Plan {
+    pub workload: usize,
+    pub words: usize,
+    pub calls: u64,
+    pub x: u64,
 }
 
-// Answers the line that was found last, if there was one.
-pub fn answer(table: &mut [u64], line: &[u8], source: Source) -> Reply {
-    if !source.more {
-        return Reply::Nothing;
-    }
-    let held = lines::first(line, source.held);
-    match lines::kind_of(held) {
-        Kind::Silent => Reply::Nothing,
-        Kind::Long => Reply::Bad,
-        Kind::Call => request(table, held),
-    }
-}
-
-// A request: a word and three numbers, of which the first is a power of two up to 65,536.
-fn request(table: &mut [u64], line: &[u8]) -> Reply {
-    if lines::count(line) != 4 {
-        return Reply::Bad;
-    }
-    let Number::Is(words) = lines::number_at(line, 1) else {
-        return Reply::Bad;
-    };
-    let Number::Is(calls) = lines::number_at(line, 2) else {
-        return Reply::Bad;
-    };
-    let Number::Is(seed) = lines::number_at(line, 3) else {
-        return Reply::Bad;
-    };
-    if !numbers::is_power(words) {
-        return Reply::Bad;
-    }
-    workload(
-        lines::part(line, 0),
-        table,
-        words,
-        calls,
-        work::first_number(seed),
-    )
-}
-
-// The workload of that name, on a table of so many words.
-fn workload(word: &[u8], table: &mut [u64], words: u64, calls: u64, x: u64) -> Reply {
-    if lines::same(word, b"index") {
-        return Reply::Digest(work::sum_of_indexes(words, calls, x));
-    }
-    let n = words as usize;
-    if table.len() < n {
-        return Reply::Bad;
-    }
-    let lent = &mut table[..n];
-    if lines::same(word, b"increase") {
-        return Reply::Digest(work::digest_of_increases(lent, calls, x));
-    }
-    if lines::same(word, b"estimate") {
-        return Reply::Digest(work::sum_of_estimates(lent, calls, x));
-    }
-    Reply::Bad
-}
-
-// Writes the answer's line.
-pub fn say(reply: Reply) {
-    match reply {
-        Reply::Nothing => (),
-        Reply::Bad => say_bad(),
-        Reply::Digest(n) => say_digest(n),
+// What the line that was found last asks for: the words are a power of two up to 65,536.
+pub fn planned(line: &[u8; 257], source: Source) -> Plan
+    ensures { λ r. ⌜ r .words ≤ 65536 ⌝ }
+{
+    let asked = asked_of(line, source);
+    Plan {
+        workload: workload_of(asked),
+        words: lent_to(asked.a),
+        calls: asked.b,
+        x: work::first_number(asked.c),
     }
 }
 
-fn say_bad() {
-    lines::flush(b"bad line\n", 9);
+fn asked_of(line: &[u8; 257], source: Source) -> Asked {
+    lines::requested(line, source, b"increase estimate index")
 }
 
-fn say_digest(n: u64) {
-    let mut out = [0u8; 32];
-    let worded = lines::append(&mut out, 0, b"digest");
-    let last = lines::append_field(&mut out, worded, n);
-    let end = lines::append(&mut out, last, b"\n");
-    lines::flush(&out, end);
+fn workload_of(asked: Asked) -> usize {
+    let word = asked.word;
+    if word == lines::SILENT {
+        return word;
+    }
+    if asked.parts != 4 || !numbers::is_power(asked.a) {
+        return BAD;
+    }
+    word
+}
+
+fn lent_to(words: u64) -> usize
+    ensures { λ r. ⌜ r ≤ 65536 ⌝ }
+{
+    if words <= 65536 { words as usize } else { 0 }
+}
+
+// Runs the workload on the words that are lent.
+pub fn perform<'a>(table: &'a mut [u64], told: &'a mut [u64; 6], plan: Plan) -> &'a mut [u64; 6] {
+    let workload = plan.workload;
+    match workload {
+        INCREASE => digest(told, work::digest_of_increases(table, plan.calls, plan.x)),
+        ESTIMATE => digest(told, work::sum_of_estimates(table, plan.calls, plan.x)),
+        INDEX => digest(
+            told,
+            work::sum_of_indexes(table.len() as u64, plan.calls, plan.x),
+        ),
+        lines::SILENT => answer(told, NO_LINE, 0, 0),
+        _ => answer(told, BAD_LINE, 0, 0),
+    }
+}
+
+fn digest(told: &mut [u64; 6], n: u64) -> &mut [u64; 6] {
+    answer(told, 0, 1, n)
+}
+
+fn answer(told: &mut [u64; 6], word: u64, numbers: u64, n: u64) -> &mut [u64; 6] {
+    lines::tell(told, word, numbers, n, 0, 0);
+    told
+}
+
+// Puts the line of what was told after the bytes that wait in out, and answers how many wait then.
+pub fn say(out: &mut [u8; 65536], at: usize, told: &[u64; 6], source: Source) -> usize {
+    lines::say(out, at, b"digest", told, source)
 }

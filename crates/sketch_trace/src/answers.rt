@@ -1,38 +1,75 @@
-// The line that says an answer.
-use crate::calls;
-use crate::calls::State;
+// What a call answers, as it is told: a word's place in the table and up to three numbers. A call that may change the
+// record writes it.
 use lines::Source;
+use sketch_rules::Ensured;
+use sketch_rules::Estimated;
+use sketch_rules::Increased;
+use sketch_rules::Sketch;
 
-// Puts the last answer's line after the bytes that wait in out, writes all out where all of the
-// block is answered, and answers how many wait then.
-pub fn say(out: &mut [u8], at: usize, s: State, source: Source) -> usize {
-    let answer = s.answer;
-    let words = b"ok refused index record digest estimate word bad";
-    let worded = lines::append(out, at, lines::part(words, answer));
-    let said = append_rest(out, worded, s);
-    lines::settle(out, said, source)
+// The words of the table below, in its order.
+pub const OK: u64 = 0;
+
+const REFUSED: u64 = 1;
+
+pub const INDEX: u64 = 2;
+
+pub const RECORD: u64 = 3;
+
+pub const DIGEST: u64 = 4;
+
+const ESTIMATE: u64 = 5;
+
+pub const WORD: u64 = 6;
+
+// Puts the line of what was told after the bytes that wait in out, and answers how many wait then.
+pub fn say(out: &mut [u8; 65536], at: usize, told: &[u64; 6], source: Source) -> usize {
+    let words = b"ok refused index record digest estimate word";
+    lines::say(out, at, words, told, source)
 }
 
-// What follows an answer's word: `bad` has another, all others but `ok` a number.
-fn append_rest(out: &mut [u8], at: usize, s: State) -> usize {
-    let answer = s.answer;
-    match answer {
-        calls::NOTHING => at,
-        calls::BAD => lines::append(out, at, b" line\n"),
-        calls::OK => lines::append(out, at, b"\n"),
-        _ => append_numbers(out, at, s),
+// Tells a word and one number, if it has one.
+pub fn answer(told: &mut [u64; 6], word: u64, numbers: u64, n: u64) -> &mut [u64; 6] {
+    lines::tell(told, word, numbers, n, 0, 0);
+    told
+}
+
+// Writes the record, and tells `ok`.
+pub fn recorded<'a>(
+    record: &mut [u64; 3],
+    told: &'a mut [u64; 6],
+    used: u64,
+    sample: u64,
+    size: u64,
+) -> &'a mut [u64; 6] {
+    *record = [used, sample, size];
+    answer(told, OK, 0, 0)
+}
+
+fn done<'a>(record: &mut [u64; 3], told: &'a mut [u64; 6], after: Sketch) -> &'a mut [u64; 6] {
+    recorded(record, told, after.used as u64, after.sample, after.size)
+}
+
+pub fn increased<'a>(
+    record: &mut [u64; 3],
+    told: &'a mut [u64; 6],
+    r: Increased,
+) -> &'a mut [u64; 6] {
+    match r {
+        Increased::Done(after) => done(record, told, after),
+        Increased::Refused(n) => answer(told, REFUSED, 1, n),
     }
 }
 
-// One number, and for `record` two more.
-fn append_numbers(out: &mut [u8], at: usize, s: State) -> usize {
-    let answer = s.answer;
-    let first = lines::append_field(out, at, s.number);
-    if answer != calls::RECORD {
-        return lines::append(out, first, b"\n");
+pub fn ensured<'a>(record: &mut [u64; 3], told: &'a mut [u64; 6], r: Ensured) -> &'a mut [u64; 6] {
+    match r {
+        Ensured::Done(after) => done(record, told, after),
+        Ensured::Refused(n) => answer(told, REFUSED, 1, n),
     }
-    let k = s.sketch;
-    let second = lines::append_field(out, first, k.sample);
-    let last = lines::append_field(out, second, k.size);
-    lines::append(out, last, b"\n")
+}
+
+pub fn estimated(told: &mut [u64; 6], r: Estimated) -> &mut [u64; 6] {
+    match r {
+        Estimated::Least(n) => answer(told, ESTIMATE, 1, n),
+        Estimated::Refused(n) => answer(told, REFUSED, 1, n),
+    }
 }

@@ -1,169 +1,103 @@
-// The calls of the trace, on a lent table and the sketch's record.
+// The calls of the trace, on the lent words and the sketch's record, which is three numbers here: the words in use, the
+// sample and the size.
+use crate::answers;
+use crate::answers::answer;
+use crate::answers::ensured;
+use crate::answers::estimated;
+use crate::answers::increased;
+use crate::answers::recorded;
 use crate::requests;
-use crate::requests::Request;
-use sketch_rules::Ensured;
-use sketch_rules::Estimated;
-use sketch_rules::Increased;
+use crate::requests::Plan;
+use lines::BAD_LINE;
+use lines::NO_LINE;
 use sketch_rules::Sketch;
 
-// The answers, in the order of their words in `answers`; the last is no line.
-pub const OK: usize = 0;
-
-pub const REFUSED: usize = 1;
-
-pub const INDEX: usize = 2;
-
-pub const RECORD: usize = 3;
-
-pub const DIGEST: usize = 4;
-
-pub const ESTIMATE: usize = 5;
-
-pub const WORD: usize = 6;
-
-pub const BAD: usize = 7;
-
-pub const NOTHING: usize = 8;
-
-// What the calls work on and answer: how many words of the table are lent (before the first lend
-// more than it has), the sketch's record, and the last answer with its number.
-pub struct State {
-    pub words: usize,
-    pub sketch: Sketch,
-    pub answer: usize,
-    pub number: u64,
+// The numbers of an unused sketch.
+pub fn unused() -> [u64; 3] {
+    let k = sketch::unused();
+    [k.used as u64, k.sample, k.size]
 }
 
-// An unused sketch on so many words.
-pub fn lent(words: usize) -> State {
-    let sketch = sketch::unused();
-    State {
-        words,
-        sketch,
-        answer: OK,
-        number: 0,
+fn sketch_of(record: &[u64; 3]) -> Sketch {
+    Sketch {
+        used: record[0] as usize,
+        sample: record[1],
+        size: record[2],
     }
 }
 
-impl State {
-    // The state with this record and answer.
-    fn with(self, sketch: Sketch, answer: usize, number: u64) -> State {
-        State {
-            words: self.words,
-            sketch,
-            answer,
-            number,
-        }
-    }
-
-    // The state after a call of the sketch.
-    fn increased(self, answer: Increased) -> State {
-        let k = self.sketch;
-        match answer {
-            Increased::Done(after) => self.with(after, OK, 0),
-            Increased::Refused(n) => self.with(k, REFUSED, n),
-        }
-    }
-
-    fn ensured(self, answer: Ensured) -> State {
-        let k = self.sketch;
-        match answer {
-            Ensured::Done(after) => self.with(after, OK, 0),
-            Ensured::Refused(n) => self.with(k, REFUSED, n),
-        }
-    }
-
-    fn estimated(self, answer: Estimated) -> State {
-        let k = self.sketch;
-        match answer {
-            Estimated::Least(n) => self.with(k, ESTIMATE, n),
-            Estimated::Refused(n) => self.with(k, REFUSED, n),
-        }
-    }
-}
-
-// Answers a request: `lend` and `index` at any time, the others on the words that are lent.
-pub fn answer(table: &mut [u64], s: State, r: Request) -> State {
-    let call = r.call;
-    let words = if call == requests::LEND {
-        r.a as usize
-    } else {
-        s.words
-    };
-    if table.len() < words {
-        return answer_unlent(s, r);
-    }
-    if call == requests::LEND {
-        sketch::unchecked::clear(table, words);
-        return lent(words);
-    }
-    change(&mut table[..words], s, r)
-}
-
-// What is answered where no words are lent, or none are needed.
-fn answer_unlent(s: State, r: Request) -> State {
-    let k = s.sketch;
-    let call = r.call;
+// A call on the words that are lent.
+pub fn perform<'a>(
+    table: &'a mut [u64],
+    record: &'a mut [u64; 3],
+    told: &'a mut [u64; 6],
+    plan: Plan,
+) -> &'a mut [u64; 6] {
+    let k = sketch_of(record);
+    let call = plan.call;
     match call {
-        requests::INDEX => s.with(k, INDEX, sketch::word_index(r.a, r.b, r.c)),
-        requests::SILENT => s.with(k, NOTHING, 0),
-        _ => s.with(k, BAD, 0),
+        requests::INCREASE => increased(record, told, sketch::increase(table, k, plan.a)),
+        requests::ENSURE => ensured(record, told, sketch::ensure_capacity(table, k, plan.a)),
+        requests::POKE_WORD => put(table, told, plan),
+        requests::LEND => lend(table, record, told),
+        requests::POKE_RECORD => recorded(record, told, plan.a, plan.b, plan.c),
+        requests::ESTIMATE => estimated(told, sketch::estimate(table, k, plan.a)),
+        requests::WORD => word(table, told, plan.a as usize),
+        requests::DIGEST => answer(told, answers::DIGEST, 1, digest(table, record)),
+        _ => aside(record, told, plan),
     }
 }
 
-// The calls that may change the lent words.
-fn change(lent: &mut [u64], s: State, r: Request) -> State {
-    let k = s.sketch;
-    let call = r.call;
-    match call {
-        requests::INCREASE => s.increased(sketch::increase(lent, k, r.a)),
-        requests::ENSURE => s.ensured(sketch::ensure_capacity(lent, k, r.a)),
-        requests::POKE_WORD => {
-            let i = r.a as usize;
-            if i < lent.len() {
-                lent[i] = r.b;
-                s.with(k, OK, 0)
-            } else {
-                s.with(k, BAD, 0)
-            }
-        }
-        _ => look(lent, s, r),
-    }
+// Zeroes the words, and makes the sketch unused.
+fn lend<'a>(
+    table: &'a mut [u64],
+    record: &'a mut [u64; 3],
+    told: &'a mut [u64; 6],
+) -> &'a mut [u64; 6] {
+    let words = table.len();
+    sketch::unchecked::clear(table, words);
+    *record = unused();
+    answer(told, answers::OK, 0, 0)
 }
 
-// The calls that only read them, or change the record.
-fn look(lent: &[u64], s: State, r: Request) -> State {
-    let k = s.sketch;
-    let call = r.call;
+// Writes a word, if there is one.
+fn put<'a>(table: &'a mut [u64], told: &'a mut [u64; 6], plan: Plan) -> &'a mut [u64; 6] {
+    let i = plan.a as usize;
+    if table.len() <= i {
+        return answer(told, BAD_LINE, 0, 0);
+    }
+    table[i] = plan.b;
+    answer(told, answers::OK, 0, 0)
+}
+
+// A word, if there is one.
+fn word<'a>(table: &'a [u64], told: &'a mut [u64; 6], i: usize) -> &'a mut [u64; 6] {
+    if table.len() <= i {
+        return answer(told, BAD_LINE, 0, 0);
+    }
+    answer(told, answers::WORD, 1, table[i])
+}
+
+// What needs no words: the record, a word's index, and lines that are no call.
+fn aside<'a>(record: &[u64; 3], told: &'a mut [u64; 6], plan: Plan) -> &'a mut [u64; 6] {
+    let call = plan.call;
     match call {
-        requests::ESTIMATE => s.estimated(sketch::estimate(lent, k, r.a)),
-        requests::WORD => {
-            let i = r.a as usize;
-            if i < lent.len() {
-                s.with(k, WORD, lent[i])
-            } else {
-                s.with(k, BAD, 0)
-            }
+        requests::RECORD => {
+            lines::tell(told, answers::RECORD, 3, record[0], record[1], record[2]);
+            told
         }
-        requests::DIGEST => s.with(k, DIGEST, digest(lent, k)),
-        requests::RECORD => s.with(k, RECORD, k.used as u64),
-        requests::POKE_RECORD => s.with(
-            Sketch {
-                used: r.a as usize,
-                sample: r.b,
-                size: r.c,
-            },
-            OK,
-            0,
+        requests::INDEX => answer(
+            told,
+            answers::INDEX,
+            1,
+            sketch::word_index(plan.a, plan.b, plan.c),
         ),
-        _ => answer_unlent(s, r),
+        requests::SILENT => answer(told, NO_LINE, 0, 0),
+        _ => answer(told, BAD_LINE, 0, 0),
     }
 }
 
 // The digest of the lent words and the record.
-fn digest(lent: &[u64], k: Sketch) -> u64 {
-    let words = lines::digest_all(lines::digest_start(), lent);
-    let used = lines::digest_step(words, k.used as u64);
-    let sample = lines::digest_step(used, k.sample);
-    lines::digest_step(sample, k.size)
+fn digest(table: &[u64], record: &[u64; 3]) -> u64 {
+    lines::digest_all(lines::digest_all(lines::digest_start(), table), record)
 }

@@ -1,9 +1,9 @@
-// A line as a request: the call that it names, and its numbers.
-use lines::Kind;
-use lines::Number;
+// A line as a request: the call that it names, its numbers, and how many words are lent to it.
+ghost use Prim.Native.Nat.{_≤_};
+use lines::Asked;
 use lines::Source;
 
-// The calls, in the order of their names below; then a line that is none, and one that asks nothing.
+// The calls, in the order of their names in the table below; then a line that is none, and one that asks nothing.
 pub const LEND: usize = 0;
 
 pub const INDEX: usize = 1;
@@ -28,70 +28,87 @@ pub const BAD: usize = 10;
 
 pub const SILENT: usize = 11;
 
-pub struct Request {
+const MOST_WORDS: u64 = 65536;
+
+// Whether words were lent, and how many.
+pub struct State {
+    pub lent: bool,
+    pub words: usize,
+}
+
+// A call with its numbers, and how many words are lent to it.
+pub struct Plan {
     pub call: usize,
+    pub words: usize,
     pub a: u64,
     pub b: u64,
     pub c: u64,
 }
 
-// What the line that was found last asks for.
-pub fn read(line: &[u8], source: Source) -> Request {
-    if !source.more {
-        return asked(SILENT, 0, 0, 0, 0, 0);
-    }
-    let held = lines::first(line, source.held);
-    match lines::kind_of(held) {
-        Kind::Silent => asked(SILENT, 0, 0, 0, 0, 0),
-        Kind::Long => asked(BAD, 0, 0, 0, 0, 0),
-        Kind::Call => read_call(held),
+// What the line that was found last asks for, on no more words than there are.
+pub fn planned(s: State, line: &[u8; 257], source: Source) -> Plan
+    ensures { λ r. ⌜ r .words ≤ 65536 ⌝ }
+{
+    let asked = asked_of(line, source);
+    let call = call_of(s, asked);
+    Plan {
+        call,
+        words: lent_to(s, call, asked.a),
+        a: asked.a,
+        b: asked.b,
+        c: asked.c,
     }
 }
 
-// What a line asks for that is no comment: its name, and the numbers up to the first part that is none.
-fn read_call(line: &[u8]) -> Request {
-    let call = named(line);
-    let parts = lines::count(line);
-    let Number::Is(a) = lines::number_at(line, 1) else {
-        return asked(call, parts, 1, 0, 0, 0);
-    };
-    let Number::Is(b) = lines::number_at(line, 2) else {
-        return asked(call, parts, 2, a, 0, 0);
-    };
-    let Number::Is(c) = lines::number_at(line, 3) else {
-        return asked(call, parts, 3, a, b, 0);
-    };
-    asked(call, parts, 4, a, b, c)
-}
-
-// The call whose name the line begins with.
-fn named(line: &[u8]) -> usize {
+fn asked_of(line: &[u8; 257], source: Source) -> Asked {
     let names = b"lend index record digest increase estimate ensure word poke-word poke-record";
-    let mut k = 0;
-    while k < BAD {
-        if lines::is_part(line, 0, lines::part(names, k)) {
-            return k;
-        }
-        k += 1;
-    }
-    BAD
+    lines::requested(line, source, names)
 }
 
-// The call with its numbers, if its line has so many parts and the name and numbers are all of them.
-fn asked(call: usize, parts: usize, read: usize, a: u64, b: u64, c: u64) -> Request {
-    let wanted = match call {
-        RECORD | DIGEST => 1,
-        INDEX | POKE_RECORD => 4,
+// The call that a line is, if it has as many numbers as the call. Before the first lend only `lend` and `index` are
+// calls, and no more words can be lent than there are.
+fn call_of(s: State, asked: Asked) -> usize {
+    let word = asked.word;
+    if word == lines::SILENT {
+        return SILENT;
+    }
+    if asked.parts != parts_of(word) {
+        return BAD;
+    }
+    if word == LEND && asked.a > MOST_WORDS {
+        return BAD;
+    }
+    if !s.lent && word > INDEX {
+        return BAD;
+    }
+    word
+}
+
+// How many parts a line has that begins with the word.
+fn parts_of(word: usize) -> usize {
+    match word {
+        INDEX => 4,
+        RECORD => 1,
+        DIGEST => 1,
         POKE_WORD => 3,
-        BAD | SILENT => 0,
+        POKE_RECORD => 4,
+        lines::NO_WORD => 5,
         _ => 2,
-    };
-    let mut r = Request { call, a, b, c };
-    if parts != wanted {
-        r.call = BAD;
     }
-    if read != wanted {
-        r.call = BAD;
+}
+
+// How many words are lent to the call: those of the first number to `lend`, else those that were lent.
+fn lent_to(s: State, call: usize, a: u64) -> usize
+    ensures { λ r. ⌜ r ≤ 65536 ⌝ }
+{
+    let words = if call == LEND { a as usize } else { s.words };
+    if words <= 65536 { words } else { 0 }
+}
+
+// The state that the call leaves.
+pub fn after(s: State, plan: Plan) -> State {
+    State {
+        lent: s.lent || plan.call == LEND,
+        words: plan.words,
     }
-    r
 }

@@ -1,68 +1,62 @@
--- `main` is safe and ends, and its arrays keep their lengths. The measure is the number of turns that are left.
+-- `sketch_trace::main` is safe and ends: the table keeps its length, and the turns that are left become fewer.
 use borrow.Author.Needs.{needs}
-use native.Mathlib.Omega.{arith}
 use mathlib.Core.Path.{_≡_}
 use lib.ListN.{length}
+use Rattle.lines.proofs.Lending.{lent-fits, lent-count, lent-long}
 use Rattle.sketch_trace.proofs.main.Statement.{statement}
 use Rattle.sketch_trace.proofs.main.Tie as tie
 
 abbrev Inv-loop : tie.InvT-loop
-Inv-loop table₀ block₀ line₀ out₀ source₀ state₀ waiting₀ turns₀ table block line out source state waiting turns =
-    (length table ≡ 65536) × (length block ≡ 65536) × (length line ≡ 257) × (length out ≡ 65536)
+Inv-loop table₀ record₀ block₀ line₀ out₀ told₀ source₀ state₀ waiting₀ turns₀ table «record» block line out told source state waiting turns = length table ≡ 65536
 
 abbrev μ-loop : tie.MeasureT-loop
-μ-loop table₀ block₀ line₀ out₀ source₀ state₀ waiting₀ turns₀ table block line out source state waiting turns = turns
+μ-loop table₀ record₀ block₀ line₀ out₀ told₀ source₀ state₀ waiting₀ turns₀ table «record» block line out told source state waiting turns = turns
+
+unused-requires : tie.Need-unused-requires Inv-loop μ-loop
+unused-requires c κs = tt
 
 begin-requires : tie.Need-begin-requires Inv-loop μ-loop
-begin-requires c κs = search needs
-
-lent-requires : tie.Need-lent-requires Inv-loop μ-loop
-lent-requires c κs = search needs
+begin-requires c κs = tt
 
 loop-holds : tie.Need-loop-holds Inv-loop μ-loop
 loop-holds c = search needs
 
-slice-aggregate-next-line : tie.Need-slice-aggregate-next-line Inv-loop μ-loop
-slice-aggregate-next-line c = search needs
-
-slice-aggregate-next-line-2 : tie.Need-slice-aggregate-next-line-2 Inv-loop μ-loop
-slice-aggregate-next-line-2 c = search needs
-
 next-line-requires : tie.Need-next-line-requires Inv-loop μ-loop
-next-line-requires c κs = search needs
+next-line-requires c κs = tt
 
-slice-aggregate-answer : tie.Need-slice-aggregate-answer Inv-loop μ-loop
-slice-aggregate-answer c = search needs
+planned-requires : tie.Need-planned-requires Inv-loop μ-loop
+planned-requires c κs = tt
 
-slice-aggregate-read : tie.Need-slice-aggregate-read Inv-loop μ-loop
-slice-aggregate-read c = search needs
+array-borrow-prefix-table : tie.Need-array-borrow-prefix-table Inv-loop μ-loop
+array-borrow-prefix-table c = lent-fits (c .before .before .before .before .before .before .loop .table) _ _ (c .planned .ensures) (c .before .before .before .before .before .before .loop .inv)
 
-read-requires : tie.Need-read-requires Inv-loop μ-loop
-read-requires c κs = search needs
+slice-aggregate-perform : tie.Need-slice-aggregate-perform Inv-loop μ-loop
+slice-aggregate-perform c = lent-count (c .before .before .before .before .before .before .before .loop .table) _ _ (c .before .planned .ensures) (c .before .before .before .before .before .before .before .loop .inv)
 
-answer-requires : tie.Need-answer-requires Inv-loop μ-loop
-answer-requires c κs = search needs
-
-slice-aggregate-say : tie.Need-slice-aggregate-say Inv-loop μ-loop
-slice-aggregate-say c = search needs
+perform-requires : tie.Need-perform-requires Inv-loop μ-loop
+perform-requires c κs = tt
 
 say-requires : tie.Need-say-requires Inv-loop μ-loop
-say-requires c κs = search needs
+say-requires c κs = tt
+
+after-requires : tie.Need-after-requires Inv-loop μ-loop
+after-requires c κs = tt
 
 turns-left-requires : tie.Need-turns-left-requires Inv-loop μ-loop
-turns-left-requires c κs = search needs
+turns-left-requires c κs = tt
 
 loop-less : tie.Need-loop-less Inv-loop μ-loop
-loop-less c = c .turns-left .ensures .less (omega arith)
+loop-less c = c .turns-left .ensures .less (c .before .before .before .before .before .before .before .before .before .before .before .before .before .before .before .before .before .loop-test .taken)
 
 loop-again : tie.Need-loop-again Inv-loop μ-loop
-loop-again c = search needs
-
-slice-aggregate-flush : tie.Need-slice-aggregate-flush Inv-loop μ-loop
-slice-aggregate-flush c = search needs
+loop-again c =
+    let e = c .before .before .before .before .before .before .before in
+    let l = e .before .before .before .before .before .before .before .before .before .before .before .loop in
+    let n = e .before .before .before .before .before .planned .result in
+    lent-long (l .table) (e .table2 .given .0) (n .words) _ (e .table2 .given .1) (l .inv)
 
 flush-requires : tie.Need-flush-requires Inv-loop μ-loop
-flush-requires c κs = search needs
+flush-requires c κs = tt
 
 returns : tie.Need-returns Inv-loop μ-loop
 returns c = search needs
@@ -73,21 +67,18 @@ main-spec =
     (tie.spec
     Inv-loop
     μ-loop
+    unused-requires
     begin-requires
-    lent-requires
     loop-holds
-    slice-aggregate-next-line
-    slice-aggregate-next-line-2
     next-line-requires
-    slice-aggregate-answer
-    slice-aggregate-read
-    read-requires
-    answer-requires
-    slice-aggregate-say
+    planned-requires
+    array-borrow-prefix-table
+    slice-aggregate-perform
+    perform-requires
     say-requires
+    after-requires
     turns-left-requires
     loop-less
     loop-again
-    slice-aggregate-flush
     flush-requires
     returns)
