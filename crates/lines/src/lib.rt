@@ -15,10 +15,7 @@ mod reading;
 mod rows;
 mod telling;
 
-pub use crate::answers::append;
-pub use crate::answers::append_field;
 pub use crate::answers::flush;
-pub use crate::answers::settle;
 pub use crate::asking::Asked;
 pub use crate::asking::NO_WORD;
 pub use crate::asking::SILENT;
@@ -37,7 +34,6 @@ pub use crate::parts::count;
 pub use crate::parts::first;
 pub use crate::parts::is_part;
 pub use crate::parts::part;
-pub use crate::parts::same;
 pub use crate::reading::Number;
 pub use crate::reading::number_at;
 pub use crate::rows::NONE;
