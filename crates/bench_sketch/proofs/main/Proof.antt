@@ -7,7 +7,8 @@ use Rattle.bench_sketch.proofs.main.Statement.{statement}
 use Rattle.bench_sketch.proofs.main.Tie as tie
 
 abbrev Inv-loop : tie.InvT-loop
-Inv-loop table₀ block₀ line₀ out₀ told₀ source₀ waiting₀ turns₀ table block line out told source waiting turns = length table ≡ 65536
+Inv-loop table₀ block₀ line₀ out₀ told₀ source₀ waiting₀ turns₀ table block line out told source waiting turns = length
+    table ≡ 65536
 
 abbrev μ-loop : tie.MeasureT-loop
 μ-loop table₀ block₀ line₀ out₀ told₀ source₀ waiting₀ turns₀ table block line out told source waiting turns = turns
@@ -25,10 +26,12 @@ planned-requires : tie.Need-planned-requires Inv-loop μ-loop
 planned-requires c κs = tt
 
 array-borrow-prefix-table : tie.Need-array-borrow-prefix-table Inv-loop μ-loop
-array-borrow-prefix-table c = lent-fits (c .before .before .before .before .before .before .loop .table) _ _ (c .planned .ensures) (c .before .before .before .before .before .before .loop .inv)
+array-borrow-prefix-table c = lent-fits (c .before .before .before .before .before .before .loop .table) _ _ (c
+    .planned .ensures) (c .before .before .before .before .before .before .loop .inv)
 
 slice-aggregate-perform : tie.Need-slice-aggregate-perform Inv-loop μ-loop
-slice-aggregate-perform c = lent-count (c .before .before .before .before .before .before .before .loop .table) _ _ (c .before .planned .ensures) (c .before .before .before .before .before .before .before .loop .inv)
+slice-aggregate-perform c = lent-count (c .before .before .before .before .before .before .before .loop .table) _ _ (c
+    .before .planned .ensures) (c .before .before .before .before .before .before .before .loop .inv)
 
 perform-requires : tie.Need-perform-requires Inv-loop μ-loop
 perform-requires c κs = tt
@@ -40,7 +43,8 @@ turns-left-requires : tie.Need-turns-left-requires Inv-loop μ-loop
 turns-left-requires c κs = tt
 
 loop-less : tie.Need-loop-less Inv-loop μ-loop
-loop-less c = c .turns-left .ensures .less (c .before .before .before .before .before .before .before .before .before .before .before .before .before .before .loop-test .taken)
+loop-less c = c .turns-left .ensures .less (c .before .before .before .before .before .before .before .before .before
+    .before .before .before .before .before .loop-test .taken)
 
 loop-again : tie.Need-loop-again Inv-loop μ-loop
 loop-again c =
