@@ -1,7 +1,7 @@
 #!/bin/sh
-# print.sh [--check]: writes the proof of each thin function of face and exports to its place, as `rt fmt` lays it out: by thin.py those over lent nodes,
-# by laid.py the one that lays them out, by told.py the C functions, which answer in numbers.
-# With --check it writes nothing, and fails where a proof is not what is printed.
+# print.sh [--check]: writes the proof of each thin function of face and exports to its place, as `rt fmt` lays it out:
+# by thin.py those over lent nodes, by laid.py the one that lays them out, by told.py the C functions, which answer in
+# numbers. With --check it writes nothing, and fails where a proof is not what is printed.
 set -eu
 here=$(cd "$(dirname "$0")" && pwd)
 top=$(dirname "$(dirname "$here")")

@@ -139,8 +139,7 @@ pub fn move_to_back(
 }
 
 // Turns the deque d until its member s is last: what stood after s, what stood before it, s. The records are those of
-// moving nodes from front to back
-// one by one. No home changes.
+// moving nodes from front to back one by one. No home changes.
 pub fn turn(
     heads: &mut [usize],
     tails: &mut [usize],

@@ -1,9 +1,7 @@
 // Linked deques and the chain of free slots, in parallel slices: head and tail of each deque; next slot, previous slot
-// and deque of
-// each slot. For proved code only, unchecked: a caller shows that the records stand for lists, or tests it once with
-// `sound`.
-// Each function promises what it writes, and what that means for whatever lists the records stand for (crate
-// deque_rules).
+// and deque of each slot. For proved code only, unchecked: a caller shows that the records stand for lists, or tests it
+// once with `sound`. Each function promises what it writes, and what that means for whatever lists the records stand
+// for (crate deque_rules).
 pub mod change; // push, remove, move to the back, turn until a member is last
 pub mod free; // take a free slot, give one back
 pub mod layout; // all deques empty, all slots free

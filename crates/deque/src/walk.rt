@@ -1,6 +1,6 @@
 // For proved code only, unchecked: how many slots a deque and the free chain have, where the lent lengths are right.
-// Each looks at each slot once and ends on any links, so a test that also
-// looks at something else of each deque can be made of them.
+// Each looks at each slot once and ends on any links, so a test that also looks at something else of each deque can be
+// made of them.
 ghost use Prim.Native.Nat.{_<_};
 ghost use lib.ListN.{length};
 ghost use Rattle.deque_rules.specs.Lists.{links};

@@ -1,10 +1,8 @@
 // The alarm wheel over lent records: the node records as one array of structs, heads and tails of the buckets, and the
-// entries beside
-// them (dated, deadline, and stamp, the generation). The clock is the caller's: lent where a call changes it.
-// Every call answers for every input: what is refused is refused by number, and then every lent record is as found. No
-// `requires`.
-// Each call but enable reads the nodes into six columns of its own, lends them to its work (crate face_works), and
-// stores back what changed.
+// entries beside them (dated, deadline, and stamp, the generation). The clock is the caller's: lent where a call
+// changes it. Every call answers for every input: what is refused is refused by number, and then every lent record is
+// as found. No `requires`. Each call but enable reads the nodes into six columns of its own, lends them to its work
+// (crate face_works), and stores back what changed.
 pub mod advancing; // start, pull, abandon
 pub mod counts; // armed count, next due
 pub mod making; // enable

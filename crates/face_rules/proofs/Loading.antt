@@ -1,6 +1,5 @@
 -- From columns to the nodes that were read into them, and to those that are stored back from them: what holds of the
--- records of the columns' front holds of the
--- nodes'.
+-- records of the columns' front holds of the nodes'.
 use Prim.Native.Nat.{ℕ, _≤_, _<_}
 use native.Mathlib.Omega.{arith}
 use mathlib.Core.Path.{_≡_, sym, subst, _∙_}

@@ -1,6 +1,5 @@
 -- The promise of each call over lent nodes, said of the records before and after: that of the call over parallel slices
--- (wheel_rules, specs/calls/Calls.antt), with the answer
--- and the clock apart.
+-- (wheel_rules, specs/calls/Calls.antt), with the answer and the clock apart.
 use Prim.Native.Nat.{ℕ}
 use mathlib.Core.Bool.{Bool, cond}
 use mathlib.Core.Option.{none, some}

@@ -51,8 +51,8 @@ pub record Begun (first : ℕ) (L M : Lent) : Type 0 where
   pub stamp-stay : M .stamp ≡ L .stamp
 
 -- a call on what is lent: some answer r of the call says a, and the call's promise holds of what was lent, of what is
--- lent then and of r. An enable is given k entries, as many in
--- each of their slices (`Fitting`): one over unequal slices, refused 3, is in no history
+-- lent then and of r. An enable is given k entries, as many in each of their slices (`Fitting`): one over unequal
+-- slices, refused 3, is in no history
 abbrev pub Done : Call → Lent → Lent → Answer → Type 0
 Done (create n) L M a = (a ≡ ok) × Begun n L M
 Done (enable m k) L M a = (m ≡ length (L .nodes)) × Fitting k L × (r : Noted) × (a ≡ notedSays r) × FaceEnable (recordsOf L) (recordsOf M) r

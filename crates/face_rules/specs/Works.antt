@@ -1,6 +1,6 @@
 -- What each work promises; but for that of enable, of the columns that n lent nodes were read into: whatever nodes were
--- read, the call on them does what 01 says, with the nodes that are stored
--- back from the columns it leaves. Where more nodes are lent than fit, the columns say nothing of them.
+-- read, the call on them does what 01 says, with the nodes that are stored back from the columns it leaves. Where more
+-- nodes are lent than fit, the columns say nothing of them.
 use Prim.Native.Nat.{ℕ}
 use mathlib.Core.Path.{_≡_}
 use mathlib.Core.Bool.{Bool}

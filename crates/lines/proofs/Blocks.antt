@@ -14,8 +14,7 @@ use Rattle.lines.proofs.Scans.{before-stop, before-on, before-end}
 use Rattle.lines.proofs.Waiting.{held}
 
 -- At index i of the block the buffer `line` holds n bytes; it was `line₀` and held `kept` at `from`. What is held and
--- what is still to come are what
--- was held and what belongs to this line.
+-- what is still to come are what was held and what belongs to this line.
 pub record Reached (block : List ℕ) (from : ℕ) (line₀ : List ℕ) (kept : ℕ) (line : List ℕ) (i n : ℕ) : Type 0 where
   pub on : from ≤ i
   pub long : length line ≡ length line₀

@@ -1,6 +1,6 @@
 -- Six local arrays of n numbers, a column in each, lent together to one call (`Lending` has it of one). What else the
--- call takes stands after them: T for the tokens
--- of its other lifetimes, P for what its other parameters own, or say at exit.
+-- call takes stands after them: T for the tokens of its other lifetimes, P for what its other parameters own, or say at
+-- exit.
 --     makes-six        six locals that hold `[0; n]`  ⊢  the rows of some columns of n numbers
 --     lends-six, six-back          as `&mut` slices; back, at their last numbers
 --     shares-six, six-unshared     as `&` slices; back

@@ -341,8 +341,8 @@ module _ (g : Geometry) (x n e d h : ℕ) where
         }
 
 -- "Let only this wheel's calls write the lent records": a run from a create on, whatever stood there before, with any
--- calls, further creates among them. "Arm or re-arm a
--- timer whose deadline is not in an earlier tick than the wheel's reading": the call c. Then demand 3 holds of it.
+-- calls, further creates among them. "Arm or re-arm a timer whose deadline is not in an earlier tick than the wheel's
+-- reading": the call c. Then demand 3 holds of it.
 pub demand3 : (g : Geometry) (R : Run) (first : ℕ) (cs : List Call) (c : Call) (x n e d : ℕ)
     → Arms g (after g R (create first ∷ cs) .wheel) c x n e d
     → Timely g (after g R (create first ∷ cs) .wheel) d

@@ -31,9 +31,9 @@ unfolding tick
 met-again = demand3 wheel01 nothing 7 before-20 (reschedule 165 7 0) 165 7 0 20 (refl, refl, refl, refl, refl) (omega arith)
 
 -- A run that leaves it unchanged, with an advance that enters no later tick, one that is abandoned, a clock stepped
--- back, and its deadline set again; then an advance that
--- is read to its end, goes to the deadline or later and enters a later tick. So the third part's premises on the calls
--- and on the advance are met together, and here it hands the timer out.
+-- back, and its deadline set again; then an advance that is read to its end, goes to the deadline or later and enters a
+-- later tick. So the third part's premises on the calls and on the advance are met together, and here it hands the
+-- timer out.
 abbrev run-10 : List Call
 run-10 = start 100 ∷ pull ∷ start (2 ^ 31) ∷ abandon ∷ start 3 ∷ pull ∷ setEntry 0 (some 10) 9 ∷ []
 

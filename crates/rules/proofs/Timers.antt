@@ -25,8 +25,8 @@ pub record Settled (g : Geometry) (p q t b : ℕ) : Type 0 where
   pub later : Later g p q → q < t
 
 -- Where the timer x in the bucket b stands in an advance to q. While one is open from p, it is due at p, whatever has
--- been pulled (abandon rests on that); and its bucket
--- is yet to be entered, or it stands before the sentinel of the bucket that was entered last, or it is settled.
+-- been pulled (abandon rests on that); and its bucket is yet to be entered, or it stands before the sentinel of the
+-- bucket that was entered last, or it is settled.
 abbrev pub Stage : Geometry → ℕ → ℕ → ℕ → ℕ → Lists → Advance → Type 0
 Stage g x t b q L closed = Due g q t b
 Stage g x t b q L (poised p bs) = Due g p t b × ((c : ℕ) → Mem c bs → Later g p q) × (Mem b bs ⊎ Settled g p q t b)

@@ -1,12 +1,11 @@
 -- Demand 3: what is promised of a timer over a run of calls. The demand's words stand beside what states them.
 --
 -- "Let only this wheel's calls write the lent records. Arm or re-arm a timer whose deadline is not in an earlier tick
--- than the wheel's reading, and change neither
--- it nor its deadline afterwards. It stands in exactly one bucket until it is handed out. No advance to a reading
--- before the deadline hands it out. The first
--- advance that is read to its end, goes to the deadline or later and enters a later tick than the one it started in
--- hands it out once, unless an abandoned one
--- already had. Calls on other timers, refused calls, abandoned advances and a clock stepped back do not alter this."
+-- than the wheel's reading, and change neither it nor its deadline afterwards. It stands in exactly one bucket until it
+-- is handed out. No advance to a reading before the deadline hands it out. The first advance that is read to its end,
+-- goes to the deadline or later and enters a later tick than the one it started in hands it out once, unless an
+-- abandoned one already had. Calls on other timers, refused calls, abandoned advances and a clock stepped back do not
+-- alter this."
 --
 -- A timer is its slot x and serial n; e is its entry, d its deadline, R the run just after it was armed. Each part
 -- speaks of every list of calls from there on.
@@ -46,9 +45,8 @@ abbrev pub Timely : Geometry → Wheel → ℕ → Type 0
 Timely g w d = tick (g .shift) (w .reading) ≤ tick (g .shift) d
 
 -- A call that would change the timer or its deadline: one with its handle; a set entry that gives its entry another
--- deadline, or none; a create, which "begins another
--- wheel, and the timers of the former one count as changed". To set the same deadline again, with any generation, is no
--- change.
+-- deadline, or none; a create, which "begins another wheel, and the timers of the former one count as changed". To set
+-- the same deadline again, with any generation, is no change.
 abbrev pub Changes : ℕ → ℕ → ℕ → ℕ → Call → Type 0
 Changes x n e d (create m) = Unit {0}
 Changes x n e d (enable m k) = ⊥
@@ -149,8 +147,7 @@ pub record Demand3 (g : Geometry) (x n e d : ℕ) (R : Run) : Type 0 where
       (cs : List Call) (q : ℕ) (ps : List Call) → Unchanged g x n e d R (cs ++ (start q ∷ ps)) → Advancing g (after g R cs) q ps → q < d
       → handed n (answers g (after g R cs) (start q ∷ ps)) ≡ 0
   -- "The first advance that is read to its end, goes to the deadline or later and enters a later tick than the one it
-  -- started in hands it out once, unless an
-  -- abandoned one already had."
+  -- started in hands it out once, unless an abandoned one already had."
   pub firstHandsOut :
       (cs : List Call) (q : ℕ) (ps : List Call) → Unchanged g x n e d R (cs ++ (start q ∷ ps)) → Full g d (after g R cs) q ps → NoneBefore g d R cs
       → (handed n (answers g (after g R cs) (start q ∷ ps)) ≡ 1) ⊎ AbandonedOneHad g n R cs

@@ -49,8 +49,7 @@ sizeOf (e ∷ es) zero = e
 sizeOf (e ∷ es) (suc l) = sizeOf es l
 
 -- Buckets are numbered level by level: how many numbers a level with 2 ^ e buckets takes. As bucket numbers have no
--- gap, as many as it has buckets; in 01's
--- "level x 64 + index", 64.
+-- gap, as many as it has buckets; in 01's "level x 64 + index", 64.
 abbrev pub dense : ℕ → ℕ
 dense e = 2 ^ e
 

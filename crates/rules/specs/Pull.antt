@@ -14,10 +14,8 @@ abbrev pub Found : Type 0
 Found = Option Answer × Lists
 
 -- A slot x has been popped at the reading q, which leaves the lists L; the next argument is the deadline that its entry
--- holds.
--- "No deadline: slot freed, no event": the pull goes on as r says. "Deadline at most q: freed, Expired(entry, serial,
--- deadline). Otherwise placed anew with
--- reading q, at the back: Rescheduled(entry, serial, new place)."
+-- holds. "No deadline: slot freed, no event": the pull goes on as r says. "Deadline at most q: freed, Expired(entry,
+-- serial, deadline). Otherwise placed anew with reading q, at the back: Rescheduled(entry, serial, new place)."
 abbrev pub dealt : Geometry → ℕ → ℕ → Option ℕ → Lists → Found → Found
 dealt g q x none L r = r
 dealt g q x (some d) L r =

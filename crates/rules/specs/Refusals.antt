@@ -1,7 +1,6 @@
--- When a call is refused. 01, "Refusal numbers".
--- A call's refusals are an ordered list of rows, test and number, put together from stages that stand once. "Each is
--- given exactly then, the lowest number
--- first where several apply": the numbers of each list ascend, and the first row whose test holds gives the answer.
+-- When a call is refused. 01, "Refusal numbers". A call's refusals are an ordered list of rows, test and number, put
+-- together from stages that stand once. "Each is given exactly then, the lowest number first where several apply": the
+-- numbers of each list ascend, and the first row whose test holds gives the answer.
 use Prim.Native.Nat.{ℕ, _-_, _^_}
 use mathlib.Core.Bool.{Bool, true, false, cond, not}
 use mathlib.Core.Option.{Option, none, some}

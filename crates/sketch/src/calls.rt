@@ -30,8 +30,7 @@ fn sample_for(capacity: u64) -> u64
 }
 
 // Makes the table long enough for a capacity, if it is not already: the longer table's words are all 0 then, and the
-// size count
-// stays. Refused: 4, 15 (capacity above 65,536), 14 (the lent table is too short to grow).
+// size count stays. Refused: 4, 15 (capacity above 65,536), 14 (the lent table is too short to grow).
 pub fn ensure_capacity(table: &mut [u64], sketch: Sketch, capacity: u64) -> Ensured
     ensures { λ r. ⌜ Ensures (now (table .entry)) sketch capacity r (now (table .exit)) ⌝ }
 {
@@ -72,8 +71,7 @@ pub fn estimate(table: &[u64], sketch: Sketch, hash: u64) -> Estimated
 }
 
 // Raises the four counters of a hash that are below 15, and ages the table where the size count comes to the sample
-// size; does
-// nothing where the sketch is unused. Refused: 4.
+// size; does nothing where the sketch is unused. Refused: 4.
 pub fn increase(table: &mut [u64], sketch: Sketch, hash: u64) -> Increased
     ensures { λ r. ⌜ Increases (now (table .entry)) sketch hash r (now (table .exit)) ⌝ }
 {

@@ -1,6 +1,6 @@
 // A word of 64 bits as sixteen counters of four bits, and the aging of a table of such words. The functions are
-// unchecked, for proved code
-// only: a counter's number is below 16, and the part of the table that is aged lies inside it.
+// unchecked, for proved code only: a counter's number is below 16, and the part of the table that is aged lies inside
+// it.
 ghost use mathlib.Core.Path.{_≡_};
 ghost use Prim.Native.Nat.{_<_, _≤_};
 ghost use lib.ListN.{length};

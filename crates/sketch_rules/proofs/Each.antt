@@ -1,6 +1,5 @@
 -- An increase, counter by counter and all at once: each of the hash's four counters that is below 15 has 1 more, and no
--- other counter of
--- the table has changed.
+-- other counter of the table has changed.
 use mathlib.Core.Path.{_≡_, refl, sym, ap, _∙_}
 use mathlib.Core.Bool.{Bool, true, false, cond, _&&_, _||_}
 use mathlib.Core.List.{List}

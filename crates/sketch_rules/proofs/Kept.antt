@@ -1,6 +1,5 @@
 -- Soundness is kept: an unused sketch is sound, and every call on a sound sketch, refused or not, leaves a sound one.
--- So a history that
--- begins with an unused sketch never meets refusal 4.
+-- So a history that begins with an unused sketch never meets refusal 4.
 use mathlib.Core.Path.{_≡_, refl, sym, ap, _∙_}
 use mathlib.Core.Bool.{Bool, true, false, cond, true≢false}
 use mathlib.Core.List.{List, [], _∷_, _++_}

@@ -22,8 +22,7 @@ abbrev pub isFull : Sketch → ℕ → Bool
 isFull s size = leb (s .sample) size
 
 -- "size becomes floor(size / 2) - floor(odd counters / 4), odd counted before halving"; "The port gives 0 there": the
--- difference of
--- numbers stops at 0
+-- difference of numbers stops at 0
 abbrev pub agedSize : ℕ → ℕ → ℕ
 agedSize size odd = size / 2 - odd / 4
 

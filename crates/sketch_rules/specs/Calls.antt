@@ -1,6 +1,5 @@
 -- The promises of the sketch's calls: which refusal, what is answered, and what every word of the lent table and the
--- record are
--- afterwards.
+-- record are afterwards.
 use Prim.Native.Nat.{ℕ}
 use mathlib.Core.Path.{_≡_}
 use mathlib.Core.Bool.{Bool, cond, not, _&&_}

@@ -33,7 +33,6 @@ abbrev pub counterOf : ℕ → ℕ → ℕ
 counterOf hash i = 4 * (hash % 4) + i
 
 -- "takes a hash, a depth and a mask and answers the word index below; it answers 65,536 exactly when depth is above 3
--- or
--- mask + 1 is not a power of two up to 65,536"
+-- or mask + 1 is not a power of two up to 65,536"
 unfoldable pub wordIndex : ℕ → ℕ → ℕ → ℕ
 wordIndex hash depth mask = cond (ltb depth 4 && isPowerTo 16 (mask + 1)) (wordAt hash depth (mask + 1)) 65536

@@ -1,8 +1,7 @@
 // The frequency sketch: definitions, laws, and the types of its record and answers. No code.
 
 // The sketch's record: how many words of the lent table are in use (0: none yet), at which size count the table is
-// aged, and the
-// size count, which rises with each increase that raised a counter.
+// aged, and the size count, which rises with each increase that raised a counter.
 pub struct Sketch {
     pub used: usize,
     pub sample: u64,

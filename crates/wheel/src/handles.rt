@@ -11,8 +11,7 @@ use wheel_timers::timers::disarm;
 use wheel_timers::timers::rearm;
 
 // Moves the timer with the handle (slot, number), armed with the generation h, to the back of the bucket that its
-// entry's deadline has now; without a deadline it is
-// removed. Refuses (1, 4, 5, 12, 13).
+// entry's deadline has now; without a deadline it is removed. Refuses (1, 4, 5, 12, 13).
 pub fn reschedule(
     heads: &mut [usize],
     tails: &mut [usize],

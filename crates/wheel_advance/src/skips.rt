@@ -1,6 +1,6 @@
 // For proved code only, unchecked: the buckets that an advance passes over. Where a bucket holds its sentinel alone,
-// entering it changes no record, so
-// that the advance stands in it at once. A caller shows that each bucket has a head and its sentinel a record.
+// entering it changes no record, so that the advance stands in it at once. A caller shows that each bucket has a head
+// and its sentinel a record.
 ghost use Rattle.rules.specs.Geometry.{wheel01};
 ghost use Rattle.wheel_rules.specs.records.Clocks.{standing};
 ghost use Rattle.wheel_rules.specs.pull.Skips.{Lent, TellsAlone, PassReady, IdleReady, Passes};

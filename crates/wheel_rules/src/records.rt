@@ -7,8 +7,7 @@ pub enum Due {
 }
 
 // The clock record. While an advance is open, reading is q and previous is p; `step` counts the buckets entered on
-// `level` so far, and
-// level 0 with step 0 stands before the first bucket.
+// `level` so far, and level 0 with step 0 stands before the first bucket.
 #[repr(C)]
 pub struct Clock {
     pub enabled: bool,

@@ -1,6 +1,5 @@
 -- Each promise of an exported function is the rules' step of the same call: the five lent numbers are those of the
--- rules' answer, and the records afterwards tell the
--- rules' wheel after it.
+-- rules' answer, and the records afterwards tell the rules' wheel after it.
 use Prim.Native.Nat.{ℕ}
 use mathlib.Core.Path.{refl, ap, _∙_}
 use mathlib.Core.Bool.{Bool, cond}

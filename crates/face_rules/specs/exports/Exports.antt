@@ -1,6 +1,5 @@
 -- The promise of each call that answers in numbers: the call over lent nodes (specs/Faces.antt), its answer in the five
--- lent numbers, and the refusal's
--- number, or 0, as its result.
+-- lent numbers, and the refusal's number, or 0, as its result.
 use Prim.Native.Nat.{ℕ}
 use mathlib.Core.Bool.{Bool}
 use mathlib.Core.List.{List}

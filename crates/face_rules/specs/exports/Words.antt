@@ -6,10 +6,9 @@ use mathlib.Core.List.{List, [], _∷_}
 use lib.ListN.{getD}
 use Rattle.rules.specs.Wheel.{Answer, refused, ok, handle, removed, end, expired, rescheduled, number, due}
 
--- the refusal's number, or 0; then which answer it is, and its values, with 0 in what is left:
--- 0 done (also of a reschedule that moves), 1 the handle (slot, serial), 2 removed, 3 End, 4 expired (entry, serial,
--- deadline), 5 placed anew (entry, serial, place), 6 a count, 7 the next
--- deadline, 8 no deadline
+-- the refusal's number, or 0; then which answer it is, and its values, with 0 in what is left: 0 done (also of a
+-- reschedule that moves), 1 the handle (slot, serial), 2 removed, 3 End, 4 expired (entry, serial, deadline), 5 placed
+-- anew (entry, serial, place), 6 a count, 7 the next deadline, 8 no deadline
 abbrev pub wordsOf : Answer → List ℕ
 wordsOf (refused n) = n ∷ 0 ∷ 0 ∷ 0 ∷ 0 ∷ []
 wordsOf ok = 0 ∷ 0 ∷ 0 ∷ 0 ∷ 0 ∷ []

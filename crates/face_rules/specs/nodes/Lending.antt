@@ -1,6 +1,5 @@
 -- What lent nodes are, with what is lent beside them, before a call and after it: heads, tails; nodes; dated, deadline,
--- stamp; clock. And the six
--- columns that a work is lent: next, prev, bucket, entry, generation, serial.
+-- stamp; clock. And the six columns that a work is lent: next, prev, bucket, entry, generation, serial.
 use mathlib.Core.List.{List}
 use denote.Ref.{RefT, now}
 use denote.Triple.Both.{Both}

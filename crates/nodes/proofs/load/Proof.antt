@@ -1,6 +1,5 @@
 -- `load` meets its contract: a walk of its MIR. The six columns are opened once, before the loop; each turn lends the
--- row of each to its reader, with the nodes. At the loop's test, at place i, each
--- column's row is `readTo` i.
+-- row of each to its reader, with the nodes. At the loop's test, at place i, each column's row is `readTo` i.
 use mathlib.Core.Path.{_≡_, refl, sym, ap, subst}
 use Prim.Native.Nat.{ℕ, _<_, _≤_, _^_}
 use native.Mathlib.Omega.{arith}

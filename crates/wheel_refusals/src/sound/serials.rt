@@ -1,9 +1,7 @@
 // For proved code only, unchecked: whether the serials of armed slots differ, in slices of one length that is at most
-// 4,096. The slots are filed under the remainder of their serial
-// by 4,096, in two scratch arrays: the latest slot under each remainder, and for each slot the one filed before it, 0
-// where there is none (slot 0 is a sentinel).
-// Each way back goes over earlier slots only. Where serials are near each other a remainder has one slot, and this is
-// one pass.
+// 4,096. The slots are filed under the remainder of their serial by 4,096, in two scratch arrays: the latest slot under
+// each remainder, and for each slot the one filed before it, 0 where there is none (slot 0 is a sentinel). Each way
+// back goes over earlier slots only. Where serials are near each other a remainder has one slot, and this is one pass.
 ghost use Prim.Native.Nat.{_<_};
 ghost use mathlib.Core.Path.{_≡_};
 ghost use Rattle.wheel_rules.specs.sound.Decides.{Decides};

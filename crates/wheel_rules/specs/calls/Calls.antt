@@ -30,8 +30,7 @@ abbrev pub Acts : Call → Records → Records → Answer → Type 0
 Acts c R R′ answer = (w : Wheel) → Stands wheel01 R w → SoundIfEnabled wheel01 w → (act wheel01 w c .0 ≡ answer) × Stands wheel01 R′ (act wheel01 w c .1)
 
 -- The rows give a number. Where it is not 0 the answer is that refusal and every record is as before; where it is 0 the
--- answer is `then`, the records are `after`, and
--- that is what the rules' call c does.
+-- answer is `then`, the records are `after`, and that is what the rules' call c does.
 pub record Meets (c : Call) (rows : ℕ → Type 0) (R R′ : Records) (answer : Answer) (after : Records) (then : Answer) : Type 0 where
   pub number : ℕ
   pub by : rows number

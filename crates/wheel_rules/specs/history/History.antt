@@ -31,8 +31,8 @@ pub record Tells (R : Records) (w : Wheel) : Type 0 where
   pub kept : R .clock .enabled ≡ true → SoundRecords wheel01 R
 
 -- a call of the rules on records: what the public call's promise says of the records before, the records after and the
--- answer. Create begins another wheel over the
--- records as they are; enable is given parallel slices, and set entry a deadline or none.
+-- answer. Create begins another wheel over the records as they are; enable is given parallel slices, and set entry a
+-- deadline or none.
 abbrev pub Promised : Call → Records → Records → Answer → Type 0
 Promised (create n) R R′ a = (a ≡ ok) × (R′ ≡ created R n)
 Promised (enable m k) R R′ a = Parallel m k R × Meets (enable m k) (enableRows R) R R′ a (laidOut R) ok

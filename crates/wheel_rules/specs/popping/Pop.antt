@@ -54,8 +54,8 @@ abbrev pub nextPosition : Geometry → Clock → Position
 nextPosition g c = onward g (c .previous) (c .reading) (c .level) (c .step)
 
 -- "nodes before the sentinel are popped in turn. No deadline: slot freed, no event. Deadline at most q: freed,
--- Expired(entry, serial, deadline). Otherwise placed
--- anew with reading q, at the back: Rescheduled(entry, serial, new place)"
+-- Expired(entry, serial, deadline). Otherwise placed anew with reading q, at the back: Rescheduled(entry, serial, new
+-- place)"
 abbrev pub popNodes : Geometry → Nodes → List Bool → List ℕ → Clock → ℕ → Nodes
 popNodes g N t d c x =
     let e : ℕ = getD (N .entry) x 0 in

@@ -16,8 +16,7 @@ abbrev pub over : Position
 over = record { more = false; level = 0; step = 0 }
 
 -- "Advance goes level by level from 0. If q's tick at a level is not above p's, everything ends": after the j-th bucket
--- of the level l comes the next one of that
--- level, else the first of the next level, if there is one and it visits any
+-- of the level l comes the next one of that level, else the first of the next level, if there is one and it visits any
 abbrev pub onward : Geometry → ℕ → ℕ → ℕ → ℕ → Position
 onward g p q l j =
     cond (ltb j (visitedAt g p q l)) (at l (j + 1))

@@ -15,10 +15,9 @@ pub record SoundWith (g : Geometry) (total : ℕ) (R : Records) : Type 0 where
   -- "each slot is a sentinel, armed or free, and just one of these"
   pub kinds : Kinds total (R .nodes .links .home)
   -- "each bucket's links run from head to tail and back over its own sentinel and the armed slots naming that bucket;
-  -- the free chain holds each free slot once":
-  -- there are lists that the records stand for with no slot left over, where a slot names a bucket by its bucket field
-  -- (so, by its kind, it is that bucket's
-  -- sentinel or armed there) and is free where the field is none
+  -- the free chain holds each free slot once": there are lists that the records stand for with no slot left over, where
+  -- a slot names a bucket by its bucket field (so, by its kind, it is that bucket's sentinel or armed there) and is
+  -- free where the field is none
   pub linked : Whole (R .nodes .links) (R .clock .free)
   -- "armed entry numbers exist"
   pub exist : EntriesExist total (R .clock .entries) (R .nodes .links .home) (R .nodes .entry)
@@ -35,8 +34,7 @@ abbrev pub SoundRecords : Geometry → Records → Type 0
 SoundRecords g R = SoundWith g (buckets g) R
 
 -- What a clock has to be for records that show a sound wheel to be sound: the recorded number of entries is in its
--- range, and an open advance is on a level
--- that there is. (A wheel on lists knows neither.)
+-- range, and an open advance is on a level that there is. (A wheel on lists knows neither.)
 pub record InRange (g : Geometry) (c : Clock) : Type 0 where
   pub some : 0 < c .entries
   pub most : c .entries ≤ 4096

@@ -1,7 +1,6 @@
 // The levels of 01's wheel: spans, shifts, counts and first buckets, and nothing else knows their numbers. The
-// functions take any number: from the last
-// level on they answer as for the last. A `match` is a table in read-only data or no table at all; a constant list
-// would be built on the stack in each call. No `requires`.
+// functions take any number: from the last level on they answer as for the last. A `match` is a table in read-only data
+// or no table at all; a constant list would be built on the stack in each call. No `requires`.
 ghost use mathlib.Core.Path.{_≡_};
 ghost use Prim.Native.Nat.{_^_, min};
 ghost use Rattle.wheel_rules.specs.place.Levels.{shift01, size01, first01};

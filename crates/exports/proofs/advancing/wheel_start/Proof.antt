@@ -1,6 +1,5 @@
 -- `wheel_start` meets its contract: a walk of its MIR, printed by tools/faces/told.py. Every parameter but `answer` is
--- passed on for good to `start`, and `answer` to
--- `tell_noted`, which writes the answer.
+-- passed on for good to `start`, and `answer` to `tell_noted`, which writes the answer.
 use mathlib.Core.Path.{refl}
 use Prim.Native.Nat.{ℕ, _<_, _^_}
 use mathlib.Core.Bool.{Bool}

@@ -1,6 +1,5 @@
 -- `wheel_armed_count` meets its contract: a walk of its MIR, printed by tools/faces/told.py. Every parameter but
--- `answer` is passed on for good to `armed_count`, and `answer` to
--- `tell_counted`, which writes the answer.
+-- `answer` is passed on for good to `armed_count`, and `answer` to `tell_counted`, which writes the answer.
 use mathlib.Core.Path.{refl}
 use Prim.Native.Nat.{ℕ}
 use mathlib.Core.Bool.{Bool}

@@ -1,6 +1,5 @@
 -- `wheel_next_due` meets its contract: a walk of its MIR, printed by tools/faces/told.py. Every parameter but `answer`
--- is passed on for good to `next_due`, and `answer` to
--- `tell_due`, which writes the answer.
+-- is passed on for good to `next_due`, and `answer` to `tell_due`, which writes the answer.
 use mathlib.Core.Path.{refl}
 use Prim.Native.Nat.{ℕ}
 use mathlib.Core.Bool.{Bool}

@@ -1,6 +1,5 @@
 -- `wheel_reschedule` meets its contract: a walk of its MIR, printed by tools/faces/told.py. Every parameter but
--- `answer` is passed on for good to `reschedule`, and `answer` to
--- `tell_rescheduled`, which writes the answer.
+-- `answer` is passed on for good to `reschedule`, and `answer` to `tell_rescheduled`, which writes the answer.
 use mathlib.Core.Path.{refl}
 use Prim.Native.Nat.{ℕ, _<_, _^_}
 use mathlib.Core.Bool.{Bool}

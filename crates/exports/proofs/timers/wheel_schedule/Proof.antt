@@ -1,6 +1,5 @@
 -- `wheel_schedule` meets its contract: a walk of its MIR, printed by tools/faces/told.py. Every parameter but `answer`
--- is passed on for good to `schedule`, and `answer` to
--- `tell_scheduled`, which writes the answer.
+-- is passed on for good to `schedule`, and `answer` to `tell_scheduled`, which writes the answer.
 use mathlib.Core.Path.{refl}
 use Prim.Native.Nat.{ℕ, _<_, _^_}
 use mathlib.Core.Bool.{Bool}
