@@ -3,7 +3,7 @@
 // once with `sound`. Each function promises what it writes, and what that means for whatever lists the records stand
 // for (crate deque_rules).
 pub mod change; // push, remove, move to the back, turn until a member is last
-pub mod free; // take a free slot, give one back
+mod free; // take a free slot, give one back
 pub mod layout; // all deques empty, all slots free
 pub mod read; // the front of a deque, the slot after a slot
 pub mod sound; // the test of links and free chain, which asks nothing

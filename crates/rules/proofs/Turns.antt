@@ -12,22 +12,16 @@ use Rattle.rules.specs.Pull.{emptied, Pulled, stopped, swept, pulled}
 use Rattle.rules.proofs.Standing.{early-pop}
 
 module _ (g : Geometry) (E : ℕ → Entry) (p q : ℕ) where
-  -- the first bucket is entered, or there is none
+  -- the first bucket is entered
   pub turn-first : (b : ℕ) (bs : List ℕ) (L : Lists) → pulled g E q (poised p (b ∷ bs)) L ≡ pulled g E q (within p b bs) (enter b L)
   turn-first b bs L = refl
-
-  pub turn-none : (L : Lists) → pulled g E q (poised p []) L ≡ record { answer = end; advance = closed; lists = L }
-  turn-none L = refl
 
   -- what is left to do in the bucket c, with ys before its sentinel, and after it
   abbrev left : ℕ → List ℕ → List ℕ → Lists → Pulled
   left c bs ys L = stopped p c bs (emptied g E q c ys L .0) (emptied g E q c ys L .1) (swept g E p q bs (emptied g E q c ys L .1))
 
   module _ (c : ℕ) (L : Lists) where
-    -- nothing is left before the sentinel: the next bucket is entered, or it is the end
-    pub turn-next : (b : ℕ) (bs : List ℕ) → L .bucket c .early ≡ [] → pulled g E q (within p c (b ∷ bs)) L ≡ pulled g E q (within p b bs) (enter b L)
-    turn-next b bs f = rw f
-
+    -- nothing is left before the sentinel of the last bucket: it is the end
     pub turn-end : L .bucket c .early ≡ [] → pulled g E q (within p c []) L ≡ record { answer = end; advance = closed; lists = L }
     turn-end f = rw f
 
