@@ -30,7 +30,7 @@ pub fn planned(line: &[u8; 257], source: Source) -> Plan
     let asked = asked_of(line, source);
     Plan {
         workload: workload_of(asked),
-        words: lent_to(asked.a),
+        words: lines::within(asked.a as usize, 65536),
         calls: asked.b,
         x: work::first_number(asked.c),
     }
@@ -49,12 +49,6 @@ fn workload_of(asked: Asked) -> usize {
         return BAD;
     }
     word
-}
-
-fn lent_to(words: u64) -> usize
-    ensures { λ r. ⌜ r ≤ 65536 ⌝ }
-{
-    if words <= 65536 { words as usize } else { 0 }
 }
 
 // Runs the workload on the words that are lent.

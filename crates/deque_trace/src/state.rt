@@ -33,16 +33,9 @@ pub fn planned(s: State, call: Call) -> Plan
     let call = plan.call;
     Plan {
         call,
-        deques: within(plan.deques, MOST_DEQUES),
-        nodes: within(plan.nodes, MOST_NODES),
+        deques: lines::within(plan.deques, MOST_DEQUES),
+        nodes: lines::within(plan.nodes, MOST_NODES),
     }
-}
-
-// So many, and no more than there are.
-fn within(n: usize, most: usize) -> usize
-    ensures { λ r. ⌜ r ≤ most ⌝ }
-{
-    if n < most { n } else { most }
 }
 
 // Before the first making every other call is a bad line, and more records than there are cannot be lent.

@@ -102,7 +102,7 @@ fn lent_to(s: State, call: usize, a: u64) -> usize
     ensures { λ r. ⌜ r ≤ 65536 ⌝ }
 {
     let words = if call == LEND { a as usize } else { s.words };
-    if words <= 65536 { words } else { 0 }
+    lines::within(words, 65536)
 }
 
 // The state that the call leaves.

@@ -1,5 +1,4 @@
 // One wheel: its records, from the lend that makes them to the next.
-ghost use Prim.Native.Nat.{_≤_};
 use crate::answers::GOOD;
 use crate::answers::say;
 use crate::clocks::created;
@@ -31,13 +30,6 @@ pub fn at_start() -> Stand {
         nodes: 0,
         entries: 0,
     }
-}
-
-// As many as are lent, and no more than there are.
-fn within(n: usize) -> usize
-    ensures { λ r. ⌜ r ≤ 4100 ⌝ }
-{
-    if n < 4100 { n } else { 4100 }
 }
 
 // The answer to the lend, if there was one.
@@ -74,8 +66,8 @@ pub fn session(
     out: &mut [u8; 65536],
     begun: Stand,
 ) -> Stand {
-    let nodes = within(begun.nodes);
-    let entries = within(begun.entries);
+    let nodes = lines::within(begun.nodes, 4100);
+    let entries = lines::within(begun.entries, 4100);
     let lent = begun.lent;
     let made = wheel::create(0);
     let mut heads = made.heads;

@@ -2,7 +2,7 @@
 use borrow.Author.Needs.{needs}
 use mathlib.Core.Path.{_≡_}
 use lib.ListN.{length}
-use Rattle.lines.proofs.Lending.{lent-fits, lent-count, lent-long}
+use Rattle.lines.proofs.Lent.{lent-fits, lent-count, lent-long}
 use Rattle.sketch_trace.proofs.main.Statement.{statement}
 use Rattle.sketch_trace.proofs.main.Tie as tie
 

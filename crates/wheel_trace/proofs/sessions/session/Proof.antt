@@ -3,7 +3,7 @@
 use borrow.Author.Needs.{needs}
 use mathlib.Core.Path.{_≡_, sym}
 use lib.ListN.{length}
-use Rattle.lines.proofs.Lending.{lent-fits, lent-count, lent-long}
+use Rattle.lines.proofs.Lent.{lent-fits, lent-count, lent-long}
 use Rattle.wheel_trace.proofs.sessions.session.Statement.{statement}
 use Rattle.wheel_trace.proofs.sessions.session.Tie as tie
 
