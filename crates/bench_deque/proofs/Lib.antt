@@ -1,3 +1,5 @@
 -- Laws that the proofs of several functions cite.
 pub mod Standing
 pub mod Choosing
+pub mod Parts
+pub mod Turns

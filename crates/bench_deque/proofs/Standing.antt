@@ -7,8 +7,8 @@ use mathlib.Core.Bool.{Bool, true, false, not}
 use mathlib.Core.List.{List, [], _∷_}
 use lib.ListN.{length}
 use Rattle.deque_rules.specs.Chain.{none, In, first}
-use Rattle.deque_rules.specs.Lists.{homeOf}
-use Rattle.deque_rules.specs.alone.State.{State, nodes}
+use Rattle.deque_rules.specs.Lists.{homeOf, takeOut, freed}
+use Rattle.deque_rules.specs.alone.State.{State, Shows, nodes}
 use Rattle.deque_rules.specs.alone.Sound.{Judged}
 use Rattle.deque_rules.specs.alone.Ready.{DequeReady, PushReady, NodeReady}
 use Rattle.deque_rules.specs.alone.Work.{Steps}
@@ -16,7 +16,7 @@ use Rattle.deque_rules.specs.alone.Work.{Pushes, Drops, Moves}
 use Rattle.deque_rules.proofs.alone.Keeping.{stepped-shows}
 use Rattle.deque_rules.proofs.alone.Sounding.{sound-shows}
 use Rattle.deque_rules.specs.declared.alone.Looked.{Looked}
-use Rattle.bench_deque.specs.Ready.{Ready, Full, Tested, TestedFull}
+use Rattle.bench_deque.specs.Ready.{Ready, Full, Tested}
 
 module _ (a : State) (free : ℕ) where
   pub not-tested : Tested a free false
@@ -59,13 +59,13 @@ module _ (a : State) (free : ℕ) where
   none-left [] e k h = refl
   none-left (x ∷ xs) e k h = absurd (omega (arith, e, h, k x (inl refl)))
 
-  pub full-asks : Ready a free → nodes a ≤ free → Full a free
-  full-asks y h =
+  pub full-asks : (n : ℕ) → Ready a free → nodes a ≡ n → n ≤ free → Full a free
+  full-asks n y i h =
       record {
         v = y .v;
         shows = y .shows;
         one = y .one;
-        none-free = none-left (y .v .free) (y .shows .free-is) (λ x i. rw (y .shows .rep .next-len) (y .shows .rep .spare x i .0)) h;
+        none-free = none-left (y .v .free) (y .shows .free-is) (λ x i. rw (y .shows .rep .next-len) (y .shows .rep .spare x i .0)) (omega (arith, i, h));
       }
 
   -- ---- a node leaves, and is taken again
@@ -81,9 +81,6 @@ module _ (a : State) (free : ℕ) where
   pub push-asks : (n : ℕ) → Ready a free → nodes a ≡ n → free < n → PushReady a free 0
   push-asks n y i h = record { v = y .v; shows = y .shows; slot = omega (arith, h, i, y .shows .rep .next-len); deque = omega (arith, y .one) }
 
-  pub pushed-asks : (b : State) (x r : ℕ) → PushReady a free 0 → Pushes a b free 0 x r → DequeReady b r 0
-  pushed-asks b x r y p = record { v = _; shows = p .does (y .v) (y .shows); deque = y .deque }
-
   pub popped-asks : (b : State) (s e : ℕ) → NodeReady a free 0 s → Drops a b free 0 s e → PushReady b s 0
   popped-asks b s e n d = record { v = _; shows = d .does (n .v) (n .shows); slot = n .slot; deque = n .deque }
 
@@ -92,16 +89,6 @@ module _ (a : State) (free : ℕ) where
   tested-ready true t i = t .ready refl
   tested-ready false t i = let z : _≡_ {A = ℕ} 0 1 = cc in absurd (omega (arith, z))
 
-  pub not-full : TestedFull a free false
-  not-full = record { full = λ t. let z : _≡_ {A = ℕ} 0 1 = cc in absurd (omega (arith, z)) }
-
-  pub full-tested : (good : Bool) → Tested a free good → nodes a ≤ free → TestedFull a free good
-  full-tested good t h = record { full = λ i. full-asks (t .ready i) h }
-
-  pub tested-full : (good : Bool) → TestedFull a free good → not good ≡ false → Full a free
-  tested-full true t i = t .full refl
-  tested-full false t i = let z : _≡_ {A = ℕ} 0 1 = cc in absurd (omega (arith, z))
-
   -- ---- where no node is free, a node leaves and is taken again
   pub full-ready : Full a free → Ready a free
   full-ready y = record { v = y .v; shows = y .shows; one = y .one }
@@ -109,5 +96,7 @@ module _ (a : State) (free : ℕ) where
   pub full-size : (n : ℕ) → Full a free → nodes a ≡ n → (0 < n) × (n ≤ 4096)
   full-size n y e = (omega (arith, e, y .shows .lent .nodes .some), omega (arith, e, y .shows .lent .nodes .small))
 
-  pub turned-full : (b c : State) (s e x r : ℕ) → Full a free → Drops a b free 0 s e → Pushes b c s 0 x r → Full c r
-  turned-full b c s e x r y d p = record { v = _; shows = p .does _ (d .does (y .v) (y .shows)); one = y .one; none-free = y .none-free }
+  pub turned-full : (b b′ c : State) (s e x r : ℕ) → Full a free → Drops a b free 0 s e → b ≡ b′ → Pushes b′ c s 0 x r → Full c r
+  turned-full b b′ c s e x r y d i p =
+      let w = freed s (takeOut 0 s (y .v)) in
+      record { v = _; shows = p .does w (subst (λ (q : State). Shows q s w) i (d .does (y .v) (y .shows))); one = y .one; none-free = y .none-free }

@@ -1,52 +1,46 @@
 // The requests: `WORKLOAD NODES CALLS SEED`, and their answers.
-use crate::work::CHECKED;
-use crate::work::MOVE;
-use crate::work::NO_WORKLOAD;
-use crate::work::QUEUE;
-use crate::work::UNLINK;
-use crate::work::WALK;
 use crate::work::run_workload;
-use lines::Kind;
-use lines::Number;
+use lines::Asked;
+use lines::BAD_LINE;
+use lines::NO_LINE;
+use lines::NO_WORD;
+use lines::SILENT;
+use lines::Source;
 
-// An answer.
-pub enum Reply {
-    Silent,
-    Bad,
-    Digest(u64),
+// The place of the answer's word in its table.
+const DIGEST: u64 = 0;
+
+// What the line that was found asks for: the words stand in the order of the workloads' numbers.
+pub fn asked_by(line: &[u8; 257], source: Source) -> Asked {
+    lines::requested(line, source, b"queue move unlink walk checked")
 }
 
-// Answers a line.
-pub fn answer(line: &[u8]) -> Reply {
-    match lines::kind_of(line) {
-        Kind::Silent => Reply::Silent,
-        Kind::Long => Reply::Bad,
-        Kind::Call => request(line),
+// Tells the answer.
+pub fn answer(told: &mut [u64; 6], asked: Asked) {
+    if asked.word == SILENT {
+        lines::tell(told, NO_LINE, 0, 0, 0, 0);
+        return;
     }
+    if !is_request(asked) {
+        lines::tell(told, BAD_LINE, 0, 0, 0, 0);
+        return;
+    }
+    let digest = run_workload(asked.word as u64, asked.a, asked.b, first_number(asked.c));
+    lines::tell(told, DIGEST, 1, digest, 0, 0);
 }
 
-// A request: a workload and three numbers, of which the first is from 2 to 4,096.
-fn request(line: &[u8]) -> Reply {
-    if lines::count(line) != 4 {
-        return Reply::Bad;
+// Whether a workload and three numbers are asked, of which the first is from 2 to 4,096.
+fn is_request(asked: Asked) -> bool {
+    if asked.word == NO_WORD {
+        return false;
     }
-    let Number::Is(nodes) = lines::number_at(line, 1) else {
-        return Reply::Bad;
-    };
-    let Number::Is(calls) = lines::number_at(line, 2) else {
-        return Reply::Bad;
-    };
-    let Number::Is(seed) = lines::number_at(line, 3) else {
-        return Reply::Bad;
-    };
-    if nodes < 2 || nodes > 4096 {
-        return Reply::Bad;
+    if asked.parts != 4 {
+        return false;
     }
-    let workload = named(lines::part(line, 0));
-    if workload == NO_WORKLOAD {
-        return Reply::Bad;
+    if asked.a < 2 {
+        return false;
     }
-    Reply::Digest(run_workload(workload, nodes, calls, first_number(seed)))
+    asked.a <= 4096
 }
 
 // The generator's first number: the seed, and 1 for 0, after which only 0 would come.
@@ -54,37 +48,7 @@ fn first_number(seed: u64) -> u64 {
     if seed == 0 { 1 } else { seed }
 }
 
-// The workload of that name.
-fn named(word: &[u8]) -> u64 {
-    if lines::same(word, b"queue") {
-        return QUEUE;
-    }
-    if lines::same(word, b"move") {
-        return MOVE;
-    }
-    if lines::same(word, b"unlink") {
-        return UNLINK;
-    }
-    if lines::same(word, b"walk") {
-        return WALK;
-    }
-    if lines::same(word, b"checked") {
-        return CHECKED;
-    }
-    NO_WORKLOAD
-}
-
-// Puts the answer's line after the bytes that wait in out, and answers how many wait then.
-pub fn say(out: &mut [u8], at: usize, reply: Reply) -> usize {
-    match reply {
-        Reply::Silent => at,
-        Reply::Bad => lines::append(out, at, b"bad line\n"),
-        Reply::Digest(n) => say_digest(out, at, n),
-    }
-}
-
-fn say_digest(out: &mut [u8], at: usize, n: u64) -> usize {
-    let worded = lines::append(out, at, b"digest ");
-    let numbered = lines::append_decimal(out, worded, n);
-    lines::append(out, numbered, b"\n")
+// Puts the line of what was told after the bytes that wait in out, and answers how many wait then.
+pub fn say(out: &mut [u8; 65536], at: usize, told: &[u64; 6], source: Source) -> usize {
+    lines::say(out, at, b"digest", told, source)
 }

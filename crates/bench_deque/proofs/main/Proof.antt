@@ -1,24 +1,62 @@
--- PROOF
-use borrow.Author.Needs.{needs}
+-- `bench_deque::main` is safe and ends. Nothing has to hold from turn to turn; the measure is the number of turns that
+-- are left.
+use native.Mathlib.Omega.{arith}
 use Rattle.bench_deque.proofs.main.Statement.{statement}
 use Rattle.bench_deque.proofs.main.Tie as tie
 
-slice-aggregate-run : tie.Need-slice-aggregate-run
-slice-aggregate-run c = search needs
+abbrev Inv-loop : tie.InvT-loop
+Inv-loop block₀ line₀ out₀ told₀ source₀ waiting₀ turns₀ block line out told source waiting turns = Unit {0}
 
-slice-aggregate-run-2 : tie.Need-slice-aggregate-run-2
-slice-aggregate-run-2 c = search needs
+abbrev μ-loop : tie.MeasureT-loop
+μ-loop block₀ line₀ out₀ told₀ source₀ waiting₀ turns₀ block line out told source waiting turns = turns
 
-slice-aggregate-run-3 : tie.Need-slice-aggregate-run-3
-slice-aggregate-run-3 c = search needs
+begin-requires : tie.Need-begin-requires Inv-loop μ-loop
+begin-requires c κs = tt
 
-run-requires : tie.Need-run-requires
-run-requires c κs = search needs
+loop-holds : tie.Need-loop-holds Inv-loop μ-loop
+loop-holds c = tt
 
-returns : tie.Need-returns
-returns c = search needs
+next-line-requires : tie.Need-next-line-requires Inv-loop μ-loop
+next-line-requires c κs = tt
+
+asked-by-requires : tie.Need-asked-by-requires Inv-loop μ-loop
+asked-by-requires c κs = tt
+
+answer-requires : tie.Need-answer-requires Inv-loop μ-loop
+answer-requires c κs = tt
+
+say-requires : tie.Need-say-requires Inv-loop μ-loop
+say-requires c κs = tt
+
+turns-left-requires : tie.Need-turns-left-requires Inv-loop μ-loop
+turns-left-requires c κs = tt
+
+loop-less : tie.Need-loop-less Inv-loop μ-loop
+loop-less c = c .turns-left .ensures .less (omega arith)
+
+loop-again : tie.Need-loop-again Inv-loop μ-loop
+loop-again c = tt
+
+flush-requires : tie.Need-flush-requires Inv-loop μ-loop
+flush-requires c κs = tt
+
+returns : tie.Need-returns Inv-loop μ-loop
+returns c = tt
 
 pub main-spec : {M : Type 1} → statement M
 main-spec =
     tie.close
-    (tie.spec slice-aggregate-run slice-aggregate-run-2 slice-aggregate-run-3 run-requires returns)
+    (tie.spec
+    Inv-loop
+    μ-loop
+    begin-requires
+    loop-holds
+    next-line-requires
+    asked-by-requires
+    answer-requires
+    say-requires
+    turns-left-requires
+    loop-less
+    loop-again
+    flush-requires
+    returns)

@@ -5,8 +5,8 @@ use lib.ListN.{length}
 use Rattle.deque_rules.specs.alone.State.{state}
 use Rattle.bench_deque.specs.Ready.{Ready}
 use borrow.Author.Needs.{needs}
-use Rattle.bench_deque.proofs.runs.walk.Statement.{statement}
-use Rattle.bench_deque.proofs.runs.walk.Tie as tie
+use Rattle.bench_deque.proofs.looks.walk.Statement.{statement}
+use Rattle.bench_deque.proofs.looks.walk.Tie as tie
 
 abbrev Inv-loop : tie.InvT-loop
 Inv-loop heads tails lens cursors₀ next prev home element free calls sum₀ left₀ cursors sum left = Ready
@@ -25,7 +25,7 @@ step-requires : tie.Need-step-requires Inv-loop μ-loop
 step-requires c κs = search needs
 
 wrapping-add-u64-requires : tie.Need-wrapping-add-u64-requires Inv-loop μ-loop
-wrapping-add-u64-requires c κs = search needs
+wrapping-add-u64-requires c κs = tt
 
 loop-less : tie.Need-loop-less Inv-loop μ-loop
 loop-less c = search needs
@@ -37,7 +37,7 @@ same-length : tie.Need-same-length Inv-loop μ-loop
 same-length c = search needs
 
 returns : tie.Need-returns Inv-loop μ-loop
-returns c = search needs
+returns c = tt
 
 pub walk-spec : {M : Type 1} → statement M
 walk-spec =

@@ -1,8 +1,8 @@
 -- `step` keeps the records those of one deque.
 use borrow.Author.Needs.{needs}
 use Rattle.bench_deque.proofs.Standing.{deque-asks, stepped-ready}
-use Rattle.bench_deque.proofs.runs.step.Statement.{statement}
-use Rattle.bench_deque.proofs.runs.step.Tie as tie
+use Rattle.bench_deque.proofs.looks.step.Statement.{statement}
+use Rattle.bench_deque.proofs.looks.step.Tie as tie
 
 step-requires : tie.Need-step-requires
 step-requires c κs = search deque-asks

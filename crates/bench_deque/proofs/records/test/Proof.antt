@@ -1,8 +1,8 @@
 -- `test` answers whether the records are those of one deque.
 use borrow.Author.Needs.{needs}
 use Rattle.bench_deque.proofs.Standing.{not-tested, tested}
-use Rattle.bench_deque.proofs.work.test.Statement.{statement}
-use Rattle.bench_deque.proofs.work.test.Tie as tie
+use Rattle.bench_deque.proofs.records.test.Statement.{statement}
+use Rattle.bench_deque.proofs.records.test.Tie as tie
 
 returns : tie.Need-returns
 returns c = search not-tested
