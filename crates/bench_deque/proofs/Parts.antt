@@ -24,7 +24,7 @@ module _ (n : ℕ) (xs : List ℕ) (few : n ≤ 4096) (full : length xs ≡ 4096
 -- ys is what a call left of the first n numbers of xs
 module _ (n : ℕ) (xs ys : List ℕ) (same : length ys ≡ length (take n xs)) (few : n ≤ 4096) (full : length xs ≡ 4096) where
   pub part-left : take n (ys ++ drop n xs) ≡ ys
-  part-left = lent-back xs ys n 4096 same (part-fits n xs few full)
+  part-left = lent-back xs ys n same (part-fits n xs few full)
 
   pub left-full : length (ys ++ drop n xs) ≡ 4096
   left-full = lent-long xs ys n 4096 same full

@@ -1,3 +1,4 @@
 -- Laws that the proofs of several functions cite.
+pub mod Parts
 pub mod Staying
 pub mod Keeping

@@ -1,14 +1,19 @@
--- A wheel stays sound where one timer is armed or disarmed, and in every other call of the workloads.
-use Prim.Native.Nat.{ℕ, _<_}
+-- A wheel is sound once it is enabled, and stays so where one timer is armed or disarmed, and in every other call of
+-- the workloads.
+use Prim.Native.Nat.{ℕ, _≤_, _<_}
 use mathlib.Core.Path.{_≡_, refl, ap}
 use mathlib.Core.Bool.{Bool, true, cond}
 use mathlib.Core.Option.{Option, some}
 use borrow.Author.Tests.{eq-eqb}
-use Rattle.rules.specs.Geometry.{Geometry}
-use Rattle.rules.specs.Wheel.{Wheel, setEntry, schedule, deschedule, start, pull}
+use Rattle.rules.specs.Geometry.{Geometry, buckets}
+use Rattle.rules.specs.Wheel.{Wheel, enable, setEntry, schedule, deschedule, start, pull}
 use Rattle.rules.specs.Calls.{act}
 use Rattle.rules.specs.Sound.{Sound}
+use Rattle.rules.proofs.SoundLists.{sound-bare}
 use Rattle.rules.proofs.SoundCalls.{arms, drops, pulled-sound, pulled-at}
+
+pub enable-sound : (g : Geometry) (w : Wheel) (m k : ℕ) → buckets g ≤ m → Sound g (act g w (enable m k) .1)
+enable-sound g w m k h = record { lists = sound-bare (buckets g) m k (w .next) h; advance = tt }
 
 module _ (g : Geometry) (w : Wheel) (s : Sound g w) where
   pub set-stays : (e : ℕ) (o : Option ℕ) (h : ℕ) → Sound g (act g w (setEntry e o h) .1)

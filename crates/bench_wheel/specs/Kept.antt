@@ -1,56 +1,52 @@
--- What the turns of a workload go by: the records show a sound wheel, and they allow the turn.
-use Prim.Native.Nat.{ℕ, _-_, _^_, _≤_, _<_}
+-- What a workload keeps: the first places of its arrays show a sound wheel.
+use Prim.Native.Nat.{ℕ, _-_, _≤_}
 use mathlib.Core.Path.{_≡_}
-use mathlib.Core.Bool.{Bool, true}
-use mathlib.Core.Logic.{_⊎_}
-use mathlib.Core.List.{List}
-use lib.ListN.{length, getD}
+use lib.ListN.{length, take}
 use Rattle.rules.specs.Geometry.{wheel01}
 use Rattle.wheel_rules.specs.declared.records.Clock.{Clock}
-use Rattle.wheel_rules.specs.records.Records.{Records}
-use Rattle.wheel_rules.specs.records.Moments.{Starts}
+use Rattle.wheel_rules.specs.records.Records.{Nodes, Entries, Records, nodes, entries, records}
 use Rattle.wheel_rules.specs.timers.Timers.{Ready}
-use Rattle.bench_wheel.specs.declared.turning.Turn.{Turn}
-use Rattle.bench_wheel.specs.declared.turning.Turn.the-variants.{Arm, Cancel, Open, Pull, Count, Stop}
+use Rattle.bench_wheel.specs.declared.laying.Laid.{Laid}
 
 -- the records show a sound wheel
 abbrev pub Works : Records → Type 0
 Works R = Ready wheel01 R
 
--- the entry e exists, a slot is free, and the next serial is not the last number
-pub record MayArm (c : Clock) (nodes entries e : ℕ) : Type 0 where
-  pub entry : e < entries
-  pub slot : c .free < nodes
-  pub few : c .serial < 2 ^ 64 - 1
+-- ---- the arrays of the nodes: the first n places of each but heads and tails are records of the wheel
+abbrev pub nodesPart : ℕ → Nodes → Nodes
+nodesPart n N =
+    nodes (N .links .heads) (N .links .tails) (take n (N .links .next)) (take n (N .links .prev)) (take n (N .links .home)) (take n (N .entry))
+    (take n (N .generation)) (take n (N .serial))
 
--- the slot x is armed
-pub record MayCancel (heads bucket : List ℕ) (x : ℕ) : Type 0 where
-  pub after : length heads ≤ x
-  pub slot : x < length bucket
-  pub armed : getD bucket x 0 < length heads
+-- each has those places
+pub record NodesFit (n : ℕ) (N : Nodes) : Type 0 where
+  pub heads : length (N .links .heads) ≡ 165
+  pub tails : length (N .links .tails) ≡ 165
+  pub next : n ≤ length (N .links .next)
+  pub prev : n ≤ length (N .links .prev)
+  pub bucket : n ≤ length (N .links .home)
+  pub entry : n ≤ length (N .entry)
+  pub generation : n ≤ length (N .generation)
+  pub serial : n ≤ length (N .serial)
 
--- the test says so
-pub record IsArmed (heads bucket : List ℕ) (x : ℕ) (good : Bool) : Type 0 where
-  pub yes : good ≡ true → MayCancel heads bucket x
+-- ---- the arrays of the entries: the first n places of each
+abbrev pub entriesPart : ℕ → Entries → Entries
+entriesPart n E = entries (take n (E .dated)) (take n (E .deadline)) (take n (E .generation))
 
--- an arming of the entry e that is allowed, or the end
-abbrev pub Arming : Clock → ℕ → ℕ → ℕ → Turn → Type 0
-Arming c nodes entries e Arm = MayArm c nodes entries e
-Arming c nodes entries e Cancel = ⊥
-Arming c nodes entries e Open = ⊥
-Arming c nodes entries e Pull = ⊥
-Arming c nodes entries e Count = ⊥
-Arming c nodes entries e Stop = Unit {0}
+pub record EntriesFit (n : ℕ) (E : Entries) : Type 0 where
+  pub dated : n ≤ length (E .dated)
+  pub deadline : n ≤ length (E .deadline)
+  pub stamp : n ≤ length (E .generation)
 
--- the records allow the turn, for the entry e and the slot x
-abbrev pub Fit : List ℕ → List ℕ → Clock → ℕ → ℕ → ℕ → ℕ → Turn → Type 0
-Fit heads bucket c nodes entries e x Arm = MayArm c nodes entries e
-Fit heads bucket c nodes entries e x Cancel = MayCancel heads bucket x
-Fit heads bucket c nodes entries e x Open = Unit {0}
-Fit heads bucket c nodes entries e x Pull = c .open ≡ true
-Fit heads bucket c nodes entries e x Count = Unit {0}
-Fit heads bucket c nodes entries e x Stop = Unit {0}
+-- ---- both
+-- The first n places of the arrays N and the first m of the arrays E show a sound wheel with the clock c.
+pub record Keeps (n m : ℕ) (N : Nodes) (E : Entries) (c : Clock) : Type 0 where
+  pub works : Works (records (nodesPart n N) (entriesPart m E) c)
+  pub nodes : NodesFit n N
+  pub entries : EntriesFit m E
 
--- an advance to q is opened, or none
-abbrev pub Opens : Clock → ℕ → Clock → Type 0
-Opens c q r = Starts wheel01 c r q ⊎ (r ≡ c)
+-- the arrays that are laid out over n node records
+abbrev pub Lies : ℕ → Laid → Type 0
+Lies n r =
+    Keeps n (n - 165) (nodes (r .heads) (r .tails) (r .next) (r .prev) (r .bucket) (r .entry) (r .generation) (r .serial))
+    (entries (r .dated) (r .deadline) (r .stamp)) (r .clock)

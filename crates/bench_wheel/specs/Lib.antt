@@ -1,2 +1,3 @@
 -- What the contracts of `bench_wheel` cite.
 pub mod Kept
+pub mod Turns

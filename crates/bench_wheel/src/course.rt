@@ -1,12 +1,16 @@
-// How far a workload has come, and what it does next, in plain numbers beside one list.
+// How far a workload has come, and what it wishes to do next, in plain numbers beside one list.
 use crate::generator::Workload;
 use crate::generator::below;
 use crate::generator::delay;
 use crate::generator::following;
 use crate::generator::stride;
+use crate::turning::Turn;
 use deque::NONE;
 use wheel_rules::popping::Pulled;
 use wheel_rules::records::Clock;
+
+// The places of the list. In `Cancel` it has the slot of each entry, or NONE; else the entries to arm.
+const PLACES: usize = 4168;
 
 // How far a workload has come.
 pub struct Course {
@@ -14,7 +18,7 @@ pub struct Course {
     pub left: u64,
     // the generator's last number
     pub x: u64,
-    // the digest of the entries that expired; of `Checked` the sum of the counts
+    // the digest of the entries that expired
     pub digest: u64,
     // the timers that were moved
     pub moved: u64,
@@ -23,91 +27,79 @@ pub struct Course {
     pub armed: usize,
 }
 
-// What a workload does next.
-pub enum Wish {
-    Toggle,
-    Arm,
-    Open,
-    Pull,
-    Count,
-    Stop,
-}
-
 // The wish and the course with it, the entry that it is about with its slot, and its deadline or the reading to advance
-// to.
+// to. To cancel is wished of an entry that is armed or not: where it is not, it is armed.
 pub struct Planned {
     pub course: Course,
-    pub wish: Wish,
+    pub wish: Turn,
     pub entry: usize,
     pub slot: usize,
     pub due: u64,
 }
 
-// What is listed at i, and NONE where the list is shorter.
-fn listed(list: &[usize], i: usize) -> usize {
-    if list.len() <= i {
+// What is listed at i, and NONE past the places.
+fn listed(list: &[usize; 4168], i: usize) -> usize {
+    if PLACES <= i {
         return NONE;
     }
     list[i]
 }
 
-// Writes n at i, where the list is long enough.
-pub fn note(list: &mut [usize], i: usize, n: usize) {
-    if i < list.len() {
+// Writes n at i, if that is a place.
+pub fn note(list: &mut [usize; 4168], i: usize, n: usize) {
+    if i < PLACES {
         list[i] = n;
     }
 }
 
-// The course at its start. In `Cancel` the list has the slot of each entry, at first none; else it has the entries to
-// arm, at first all.
-pub fn begun(list: &mut [usize], workload: Workload, calls: u64, x: u64) -> Course {
+// Lists the first n entries in ascending order.
+pub fn list_first(list: &mut [usize; 4168], n: usize) {
+    let mut i: usize = 0;
+    while i < n {
+        note(list, i, i);
+        i += 1;
+    }
+}
+
+// The course at its start: but for `Cancel` all entries are listed, and `Checked` ends once they are armed.
+pub fn begun(workload: Workload, entries: usize, calls: u64, x: u64) -> Course {
+    match workload {
+        Workload::Cancel => course_of(calls, x, 0),
+        Workload::Checked => course_of(0, x, entries),
+        _ => course_of(calls, x, entries),
+    }
+}
+
+fn course_of(left: u64, x: u64, listed: usize) -> Course {
     Course {
-        left: calls,
+        left,
         x,
-        digest: first_digest(workload),
+        digest: lines::digest_start(),
         moved: 0,
-        listed: first_listed(list, workload),
+        listed,
         armed: 0,
     }
 }
 
-fn first_digest(workload: Workload) -> u64 {
-    match workload {
-        Workload::Checked => 0,
-        _ => lines::digest_start(),
-    }
-}
-
-fn first_listed(list: &mut [usize], workload: Workload) -> usize {
-    match workload {
-        Workload::Cancel => 0,
-        _ => list_all(list),
-    }
-}
-
-// Lists all entries in ascending order, and answers how many.
-fn list_all(list: &mut [usize]) -> usize {
-    let mut i: usize = 0;
-    while i < list.len() {
-        list[i] = i;
-        i += 1;
-    }
-    i
-}
-
 // What comes next: an open advance is read to its end first.
-pub fn plan(list: &[usize], workload: Workload, course: Course, clock: Clock) -> Planned {
+pub fn plan(
+    list: &[usize; 4168],
+    workload: Workload,
+    entries: usize,
+    course: Course,
+    clock: Clock,
+) -> Planned {
     if clock.open {
-        return wished(course, Wish::Pull, 0);
+        return wished(course, Turn::Pull, 0);
     }
     match workload {
-        Workload::Cancel => plan_toggle(list, course),
+        Workload::Cancel => plan_toggle(list, entries, course),
         _ => plan_armed(list, workload, course, clock.reading),
     }
 }
 
 // A wish that is about no entry.
-fn wished(course: Course, wish: Wish, due: u64) -> Planned {
+fn wished(course: Course, wish: Turn, due: u64) -> Planned {
     Planned {
         course,
         wish,
@@ -118,18 +110,18 @@ fn wished(course: Course, wish: Wish, due: u64) -> Planned {
 }
 
 // So many times an entry at random, cancelled where it is armed, else armed; then an advance to the last reading.
-fn plan_toggle(list: &[usize], course: Course) -> Planned {
+fn plan_toggle(list: &[usize; 4168], entries: usize, course: Course) -> Planned {
     if course.left == 0 {
         return plan_last(course);
     }
     let x = following(course.x);
-    let e = below(x, list.len());
+    let e = below(x, entries);
     let mut after = course;
     after.left = course.left - 1;
     after.x = x;
     Planned {
         course: after,
-        wish: Wish::Toggle,
+        wish: Turn::Cancel,
         entry: e,
         slot: listed(list, e),
         due: x >> 14,
@@ -139,19 +131,18 @@ fn plan_toggle(list: &[usize], course: Course) -> Planned {
 // The last advance of `Cancel`, in which no entry is armed again, and the end after it.
 fn plan_last(course: Course) -> Planned {
     if course.armed > 0 {
-        return wished(course, Wish::Stop, 0);
+        return wished(course, Turn::Stop, 0);
     }
     let mut after = course;
     after.armed = 1;
-    wished(after, Wish::Open, u64::MAX)
+    wished(after, Turn::Open, u64::MAX)
 }
 
-// The listed entries are armed, each as far ahead of the reading as the generator's next number says; then the next
-// call.
-fn plan_armed(list: &[usize], workload: Workload, course: Course, reading: u64) -> Planned {
+// The listed entries are armed, each as far ahead of the reading as the generator's next number says; then an advance.
+fn plan_armed(list: &[usize; 4168], workload: Workload, course: Course, reading: u64) -> Planned {
     let at = course.armed;
     if course.listed <= at {
-        return plan_call(workload, course, reading);
+        return plan_advance(workload, course, reading);
     }
     let x = following(course.x);
     let mut after = course;
@@ -159,36 +150,27 @@ fn plan_armed(list: &[usize], workload: Workload, course: Course, reading: u64) 
     after.armed = std::num::wrapping_add_usize(at, 1);
     Planned {
         course: after,
-        wish: Wish::Arm,
+        wish: Turn::Arm,
         entry: listed(list, at),
         slot: NONE,
         due: std::num::wrapping_add_u64(reading, delay(workload, x)),
     }
 }
 
-// A call: a count, or an advance; where none is left, the end.
-fn plan_call(workload: Workload, course: Course, reading: u64) -> Planned {
-    if course.left == 0 {
-        return wished(course, Wish::Stop, 0);
-    }
-    let mut after = course;
-    after.left = course.left - 1;
-    match workload {
-        Workload::Checked => wished(after, Wish::Count, 0),
-        _ => plan_advance(workload, after, reading),
-    }
-}
-
-// An advance: the entries that expire are listed anew.
+// An advance, where a call is left, else the end: the entries that expire are listed anew.
 fn plan_advance(workload: Workload, course: Course, reading: u64) -> Planned {
+    if course.left == 0 {
+        return wished(course, Turn::Stop, 0);
+    }
     let x = following(course.x);
     let mut after = course;
+    after.left = course.left - 1;
     after.x = x;
     after.listed = 0;
     after.armed = 0;
     wished(
         after,
-        Wish::Open,
+        Turn::Open,
         std::num::wrapping_add_u64(reading, stride(workload, x)),
     )
 }
@@ -215,46 +197,33 @@ pub fn expired(event: Pulled) -> usize {
 
 // The course after an event: an entry that expired is listed, a timer that was moved is counted.
 pub fn after_event(course: Course, event: Pulled) -> Course {
+    let mut after = course;
     match event {
         Pulled::Expired {
             entry,
             serial: _,
             deadline: _,
-        } => after_expiry(course, entry),
+        } => {
+            after.listed = std::num::wrapping_add_usize(course.listed, 1);
+            after.digest = lines::digest_step(course.digest, entry as u64);
+        }
         Pulled::Rescheduled {
             entry: _,
             serial: _,
             place: _,
-        } => after_move(course),
-        Pulled::End => course,
+        } => {
+            after.moved = std::num::wrapping_add_u64(course.moved, 1);
+        }
+        Pulled::End => {}
     }
-}
-
-fn after_expiry(course: Course, e: usize) -> Course {
-    let mut after = course;
-    after.listed = std::num::wrapping_add_usize(course.listed, 1);
-    after.digest = lines::digest_step(course.digest, e as u64);
     after
 }
 
-fn after_move(course: Course) -> Course {
-    let mut after = course;
-    after.moved = std::num::wrapping_add_u64(course.moved, 1);
-    after
-}
-
-// The course after a count, which adds to the sum.
-pub fn after_count(course: Course, n: u64) -> Course {
-    let mut after = course;
-    after.digest = std::num::wrapping_add_u64(course.digest, n);
-    after
-}
-
-// The workload's answer.
-pub fn result(workload: Workload, course: Course) -> u64 {
+// The workload's answer, by the course at its end and the sum of the counts.
+pub fn result(workload: Workload, course: Course, counted: u64) -> u64 {
     match workload {
-        Workload::Ticks => lines::digest_step(course.digest, course.moved),
-        Workload::Jumps => lines::digest_step(course.digest, course.moved),
-        _ => course.digest,
+        Workload::Cancel => course.digest,
+        Workload::Checked => counted,
+        _ => lines::digest_step(course.digest, course.moved),
     }
 }

@@ -1,82 +1,49 @@
 // The requests: `WORKLOAD RECORDS CALLS SEED`, and their answers.
-ghost use Prim.Native.Nat.{_<_, _≤_};
 use crate::generator::Workload;
 use crate::generator::first_number;
 use crate::work::digest_of;
-use lines::Kind;
-use lines::Number;
+use lines::Asked;
+use lines::Source;
 
-// An answer.
-pub enum Reply {
-    Nothing,
-    Bad,
-    Digest(u64),
+// What the line asks for, by the workloads' words.
+pub fn asked_by(line: &[u8; 257], source: Source) -> Asked {
+    lines::requested(line, source, b"cancel ticks jumps checked")
 }
 
-// Answers a line.
-pub fn answer(line: &[u8]) -> Reply {
-    match lines::kind_of(line) {
-        Kind::Silent => Reply::Nothing,
-        Kind::Long => Reply::Bad,
-        Kind::Call => request(line),
-    }
+// Puts the line of what was told after the bytes that wait in out, and answers how many wait then.
+pub fn say(out: &mut [u8; 65536], at: usize, told: &[u64; 6], source: Source) -> usize {
+    lines::say(out, at, b"digest", told, source)
 }
 
-// A request: a word and three numbers, of which the first is the number of node records, 166 to 4,096.
-fn request(line: &[u8]) -> Reply {
-    if lines::count(line) != 4 {
-        return Reply::Bad;
+// Tells the digest of the workload that is asked for: a word and three numbers, of which the first is the number of
+// node records, 166 to 4,096.
+pub fn answer(told: &mut [u64; 6], asked: Asked) {
+    let word = asked.word;
+    let parts = asked.parts;
+    let nodes = asked.a;
+    if word == lines::SILENT {
+        lines::tell(told, lines::NO_LINE, 0, 0, 0, 0);
+        return;
     }
-    let Number::Is(nodes) = lines::number_at(line, 1) else {
-        return Reply::Bad;
-    };
-    let Number::Is(calls) = lines::number_at(line, 2) else {
-        return Reply::Bad;
-    };
-    let Number::Is(seed) = lines::number_at(line, 3) else {
-        return Reply::Bad;
-    };
-    if nodes < 166 || nodes > 4096 {
-        return Reply::Bad;
+    if word == lines::NO_WORD || parts != 4 || nodes < 166 || nodes > 4096 {
+        lines::tell(told, lines::BAD_LINE, 0, 0, 0, 0);
+        return;
     }
-    named(
-        lines::part(line, 0),
+    let digest = digest_of(
+        workload_of(word),
         nodes as usize,
-        calls,
-        first_number(seed),
-    )
+        asked.b,
+        first_number(asked.c),
+    );
+    lines::tell(told, 0, 1, digest, 0, 0);
 }
 
-// The workload of that name.
-fn named(word: &[u8], nodes: usize, calls: u64, x: u64) -> Reply
-    requires { ⌜ (165 < nodes) × (nodes ≤ 4096) ⌝ }
-{
-    if lines::same(word, b"cancel") {
-        return Reply::Digest(digest_of(Workload::Cancel, nodes, calls, x));
+// The workload of that word.
+fn workload_of(word: usize) -> Workload {
+    match word {
+        0 => Workload::Cancel,
+        1 => Workload::Ticks,
+        2 => Workload::Jumps,
+        _ => Workload::Checked,
     }
-    if lines::same(word, b"ticks") {
-        return Reply::Digest(digest_of(Workload::Ticks, nodes, calls, x));
-    }
-    if lines::same(word, b"jumps") {
-        return Reply::Digest(digest_of(Workload::Jumps, nodes, calls, x));
-    }
-    if lines::same(word, b"checked") {
-        return Reply::Digest(digest_of(Workload::Checked, nodes, calls, x));
-    }
-    Reply::Bad
-}
-
-// Puts the answer's line after the bytes that wait in out, and answers how many wait then.
-pub fn say(out: &mut [u8], at: usize, reply: Reply) -> usize {
-    match reply {
-        Reply::Nothing => at,
-        Reply::Bad => lines::append(out, at, b"bad line\n"),
-        Reply::Digest(n) => say_digest(out, at, n),
-    }
-}
-
-fn say_digest(out: &mut [u8], at: usize, n: u64) -> usize {
-    let worded = lines::append(out, at, b"digest");
-    let last = lines::append_field(out, worded, n);
-    lines::append(out, last, b"\n")
 }

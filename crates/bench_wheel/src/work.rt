@@ -1,71 +1,135 @@
-// The workloads: a wheel is made over records, and a workload runs on it.
+// The workloads: one runs turn by turn on the records of a wheel.
 ghost use Prim.Native.Nat.{_<_, _≤_};
+use crate::counting::count;
+use crate::counting::counts_of;
+use crate::course::after_event;
+use crate::course::begun;
+use crate::course::expired;
+use crate::course::list_first;
+use crate::course::note;
+use crate::course::plan;
+use crate::course::result;
+use crate::course::slot_place;
 use crate::generator::Workload;
-use crate::running::run;
+use crate::laying::lay;
+use crate::turning::Turn;
+use crate::turning::opened;
+use crate::turning::turn_of;
+use crate::turning::turns_after;
 use deque::NONE;
-use wheel_rules::calls::Timed;
-use wheel_rules::records::Clock;
+use wheel_advance::pull::pull;
+use wheel_timers::timers::arm;
+use wheel_timers::timers::disarm;
 
 // The buckets of the wheel.
 const BUCKETS: usize = 165;
 
-// The digest of a workload over so many node records, and as many entries as there are slots beside the sentinels. The
-// arrays are longer than that by 72, so that equal places of two of them do not share a set of the cache.
+// The digest of a workload over so many node records. The calls in the loop are unchecked: the records show a sound
+// wheel all the time, and each turn is one that they allow.
 pub fn digest_of(workload: Workload, nodes: usize, calls: u64, x: u64) -> u64
     requires { ⌜ (165 < nodes) × (nodes ≤ 4096) ⌝ }
 {
     let entries = nodes - BUCKETS;
-    let mut heads = [0usize; 165];
-    let mut tails = [0usize; 165];
-    let mut next = [0usize; 4168];
-    let mut prev = [0usize; 4168];
-    let mut bucket = [0usize; 4168];
-    let mut entry = [0usize; 4168];
-    let mut generation = [0u32; 4168];
-    let mut serial = [0u64; 4168];
-    let mut dated = [false; 4168];
-    let mut deadline = [0u64; 4168];
-    let mut stamp = [0u32; 4168];
+    let made = lay(nodes);
+    let mut clock = made.clock;
+    let mut heads = made.heads;
+    let mut tails = made.tails;
+    let mut next = made.next;
+    let mut prev = made.prev;
+    let mut bucket = made.bucket;
+    let mut entry = made.entry;
+    let mut generation = made.generation;
+    let mut serial = made.serial;
+    let mut dated = made.dated;
+    let mut deadline = made.deadline;
+    let mut stamp = made.stamp;
     let mut list = [NONE; 4168];
-    let created = wheel::create(0);
-    let made = wheel::enable(
-        &mut heads,
-        &mut tails,
-        &mut next[..nodes],
-        &mut prev[..nodes],
-        &mut bucket[..nodes],
-        &mut entry[..nodes],
-        &mut generation[..nodes],
-        &mut serial[..nodes],
-        &mut dated[..entries],
-        &mut deadline[..entries],
-        &mut stamp[..entries],
-        created.clock,
-    );
-    run(
-        &mut heads,
-        &mut tails,
-        &mut next[..nodes],
-        &mut prev[..nodes],
-        &mut bucket[..nodes],
-        &mut entry[..nodes],
-        &mut generation[..nodes],
-        &mut serial[..nodes],
-        &mut dated[..entries],
-        &mut deadline[..entries],
-        &mut stamp[..entries],
-        &mut list[..entries],
-        workload,
-        clock_of(made, created.clock),
-        calls,
-        x,
-    )
-}
-
-// The clock of the wheel that was enabled, or the one before where that was refused.
-fn clock_of(made: Timed, before: Clock) -> Clock {
-    match made {
-        Timed::Done(clock) => clock,
-        Timed::Refused(_) => before,
+    let mut course = begun(workload, entries, calls, x);
+    list_first(&mut list, course.listed);
+    let mut turns = u64::MAX;
+    while turns > 0 {
+        let planned = plan(&list, workload, entries, course, clock);
+        let wish = planned.wish;
+        let e = planned.entry;
+        let due = planned.due;
+        let turn = turn_of(&bucket[..nodes], clock, entries, e, planned.slot, wish);
+        course = planned.course;
+        turns = turns_after(turns, turn);
+        match turn {
+            Turn::Arm => {
+                dated[e] = true;
+                deadline[e] = due;
+                stamp[e] = 0;
+                let armed = arm(
+                    &mut heads,
+                    &mut tails,
+                    &mut next[..nodes],
+                    &mut prev[..nodes],
+                    &mut bucket[..nodes],
+                    &mut entry[..nodes],
+                    &mut generation[..nodes],
+                    &mut serial[..nodes],
+                    clock,
+                    e,
+                    0,
+                    due,
+                );
+                clock = armed.clock;
+                note(&mut list, slot_place(workload, e), armed.slot);
+            }
+            Turn::Cancel => {
+                clock = disarm(
+                    &mut heads,
+                    &mut tails,
+                    &mut next[..nodes],
+                    &mut prev[..nodes],
+                    &mut bucket[..nodes],
+                    &mut entry[..nodes],
+                    &mut generation[..nodes],
+                    &mut serial[..nodes],
+                    clock,
+                    planned.slot,
+                );
+                note(&mut list, e, NONE);
+            }
+            Turn::Pull => {
+                let pulled = pull(
+                    &mut heads,
+                    &mut tails,
+                    &mut next[..nodes],
+                    &mut prev[..nodes],
+                    &mut bucket[..nodes],
+                    &mut entry[..nodes],
+                    &mut generation[..nodes],
+                    &mut serial[..nodes],
+                    &dated[..entries],
+                    &deadline[..entries],
+                    clock,
+                );
+                let event = pulled.event;
+                clock = pulled.clock;
+                note(&mut list, course.listed, expired(event));
+                course = after_event(course, event);
+            }
+            _ => {
+                clock = opened(clock, turn, due);
+            }
+        }
     }
+    let counted = count(
+        &heads,
+        &tails,
+        &next[..nodes],
+        &prev[..nodes],
+        &bucket[..nodes],
+        &entry[..nodes],
+        &generation[..nodes],
+        &serial[..nodes],
+        &dated[..entries],
+        &deadline[..entries],
+        &stamp[..entries],
+        clock,
+        counts_of(workload, calls),
+    );
+    result(workload, course, counted)
 }

@@ -1,12 +1,11 @@
 -- `opened` opens an advance, or leaves the clock.
-use borrow.Author.Needs.{needs}
 use mathlib.Core.Path.{refl}
 use mathlib.Core.Logic.{inl, inr}
 use Rattle.bench_wheel.proofs.turning.opened.Statement.{statement}
 use Rattle.bench_wheel.proofs.turning.opened.Tie as tie
 
 enum-told : tie.Need-enum-told
-enum-told c = search needs
+enum-told c = c .match .keys1
 
 start-requires : tie.Need-start-requires
 start-requires c κs = tt
