@@ -1,4 +1,5 @@
-//! Tells rustc where the static libraries are: JUOPMORIN_LIBS, or target/staticlib of this repository (`rt staticlib NAME` writes them).
+//! Tells rustc where the static libraries are: JUOPMORIN_LIBS, or target/staticlib of this repository (`rt staticlib
+//! NAME` writes them).
 use std::env;
 use std::path::Path;
 

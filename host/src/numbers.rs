@@ -35,8 +35,8 @@ pub fn place(reading: u64, deadline: u64) -> Place {
 /// What the sketch's function answers where there is no such depth or table.
 const NO_WORD: u64 = 65_536;
 
-/// The word of a hash at a depth, in a table of `mask + 1` words; `None` where the depth is above 3 or `mask + 1` is not a power of two
-/// up to 65,536.
+/// The word of a hash at a depth, in a table of `mask + 1` words; `None` where the depth is above 3 or `mask + 1` is
+/// not a power of two up to 65,536.
 pub fn word_index(hash: u64, depth: u64, mask: u64) -> Option<u64> {
     // SAFETY: as above.
     match unsafe { sketch_word_index(hash, depth, mask) } {

@@ -103,7 +103,8 @@ pub struct Entry {
     pub generation: u32,
 }
 
-/// A wheel and its records. The fields are the host's own memory: what writes them beside the calls may have them refused with 4.
+/// A wheel and its records. The fields are the host's own memory: what writes them beside the calls may have them
+/// refused with 4.
 #[derive(Clone, Debug, PartialEq, Eq)]
 pub struct Wheel {
     pub clock: Clock,
@@ -138,7 +139,8 @@ mod kind {
     pub const NEVER: u64 = 8;
 }
 
-// A slice of the Rattle side is two parameters here, its address and its length. A parameter of a mutable slice is `*mut`. The answer's five numbers are an address alone.
+// A slice of the Rattle side is two parameters here, its address and its length. A parameter of a mutable slice is
+// `*mut`. The answer's five numbers are an address alone.
 #[link(name = "exports", kind = "static")]
 extern "C" {
     fn wheel_create(first: u64) -> Created;
@@ -189,13 +191,14 @@ extern "C" {
     ) -> u64;
 }
 
-/// Calls `$name` with every record lent: nodes, heads and tails by `$nodes`, the entries by `$entries`, the clock as `$clock`; then the further arguments.
-/// The answer is the five numbers, or the refusal.
+/// Calls `$name` with every record lent: nodes, heads and tails by `$nodes`, the entries by `$entries`, the clock as
+/// `$clock`; then the further arguments. The answer is the five numbers, or the refusal.
 macro_rules! call {
     ($wheel:ident, $name:ident, $nodes:ident, $clock:expr, $entries:ident $(, $more:expr)*) => {{
         let mut told: Told = [0; 5];
-        // SAFETY: each pair is the address and the length of a slice that this wheel owns; they and `told` do not overlap, mutable ones come from
-        // `&mut self`, and the proved function reads and writes them and `told` only, for any contents and any lengths.
+        // SAFETY: each pair is the address and the length of a slice that this wheel owns; they and `told` do not
+        // overlap, mutable ones come from `&mut self`, and the proved function reads and writes them and `told` only,
+        // for any contents and any lengths.
         let number = unsafe {
             $name(
                 $wheel.nodes.$nodes(), $wheel.nodes.len(), $clock,
@@ -209,7 +212,8 @@ macro_rules! call {
 }
 
 impl Wheel {
-    /// Lends so many node records and entries, all zero, and begins a wheel over them whose serials start at `first`. It is not enabled yet.
+    /// Lends so many node records and entries, all zero, and begins a wheel over them whose serials start at `first`.
+    /// It is not enabled yet.
     pub fn new(nodes: usize, entries: usize, first: u64) -> Self {
         let mut wheel = Self {
             clock: Clock::default(),
@@ -224,7 +228,8 @@ impl Wheel {
         wheel
     }
 
-    /// Begins another wheel over the same records: reading 0, not enabled. The former one's timers are gone; the handle of one may be given again.
+    /// Begins another wheel over the same records: reading 0, not enabled. The former one's timers are gone; the handle
+    /// of one may be given again.
     pub fn create(&mut self, first: u64) {
         // SAFETY: a number in, a struct out.
         let created = unsafe { wheel_create(first) };
@@ -251,7 +256,8 @@ impl Wheel {
         Ok(Handle { slot: told[2] as usize, serial: told[3] })
     }
 
-    /// Places a timer by the deadline that its entry has now, or removes it where there is none. `generation` is that of the arming.
+    /// Places a timer by the deadline that its entry has now, or removes it where there is none. `generation` is that
+    /// of the arming.
     pub fn reschedule(&mut self, timer: Handle, generation: u32) -> Result<Rescheduled, Refusal> {
         let told: Told = call!(self, wheel_reschedule, as_mut_ptr, &mut self.clock, as_ptr, timer.slot, timer.serial, generation)?;
         Ok(if told[1] == kind::REMOVED { Rescheduled::Removed } else { Rescheduled::Moved })

@@ -1,4 +1,5 @@
-//! The smallest thread stack, in KiB, that each public call through the host runs in, at 4,096 records with all slots armed but one.
+//! The smallest thread stack, in KiB, that each public call through the host runs in, at 4,096 records with all slots
+//! armed but one.
 
 use juopmorin::{Entry, Handle, Wheel, BUCKETS};
 use std::process::{Command, Stdio};

@@ -1,4 +1,5 @@
-//! The two functions on plain numbers against an independent implementation: all pairs of boundary values and a million random ones.
+//! The two functions on plain numbers against an independent implementation: all pairs of boundary values and a million
+//! random ones.
 use juopmorin::{place, word_index, Place};
 
 /// A level: its tick is 2^shift, it has 2^size buckets, and it serves differences below 2^limit.

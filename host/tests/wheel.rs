@@ -1,4 +1,5 @@
-//! The wheel through the host: alarms fire in time and in order, what is wrong is refused by number, and a refused call changes nothing.
+//! The wheel through the host: alarms fire in time and in order, what is wrong is refused by number, and a refused call
+//! changes nothing.
 use juopmorin::{Entry, Event, Handle, Refusal, Rescheduled, Wheel};
 
 const TICK: u64 = 1 << 30;

@@ -1,5 +1,6 @@
-//! Plays a trace of wheel calls (standard input) through the host and writes the answers, one line for each call, as `wheel_trace` does.
-//! The text format is that of the trace programs; its lines, numbers and digest are those of tools/common/lines.rs.
+//! Plays a trace of wheel calls (standard input) through the host and writes the answers, one line for each call, as
+//! `wheel_trace` does. The text format is that of the trace programs; its lines, numbers and digest are those of
+//! tools/common/lines.rs.
 
 #[path = "../../tools/common/lines.rs"]
 #[allow(dead_code)]

@@ -1,5 +1,5 @@
-//! The Rust's deque and wheel as they are, with light stand-ins for what they import: no atomic counts, no locks, an entry's
-//! deadline and generation in plain cells. Each is at least as fast as what it stands for.
+//! The Rust's deque and wheel as they are, with light stand-ins for what they import: no atomic counts, no locks, an
+//! entry's deadline and generation in plain cells. Each is at least as fast as what it stands for.
 
 #![allow(dead_code)]
 

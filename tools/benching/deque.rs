@@ -6,8 +6,8 @@ use crate::lines::digest;
 use crate::Numbers;
 use std::ptr::NonNull;
 
-/// The slot that a number chooses out of so many: its upper half times their count, without its lower half. A remainder would
-/// take longer than the call that is measured.
+/// The slot that a number chooses out of so many: its upper half times their count, without its lower half. A remainder
+/// would take longer than the call that is measured.
 fn chosen(number: u64, nodes: u64) -> usize {
     (((number >> 32) * nodes) >> 32) as usize
 }

@@ -42,7 +42,8 @@ build() {
   mv "$built/$name.$$" "$built/$name" && printf '%s\n' "$stamp $*" >"$built/$name.stamp"
 }
 
-# build_oracle FOLDER: the Rust behind its stand-ins, with overflow checks, debug assertions and the test build's events.
+# build_oracle FOLDER: the Rust behind its stand-ins, with overflow checks, debug assertions and the test build's
+# events.
 build_oracle() {
   build oracle oracle/main.rs "$1" -C overflow-checks=on -C debug-assertions=on --cfg test -A explicit_builtin_cfgs_in_flags
 }

@@ -41,8 +41,8 @@ impl Source for Sketches {
 }
 
 impl Sketches {
-    /// The next capacity of the sweep, on an unused sketch with a table that just fits or is longer; at times first with one
-    /// that is a word short, or with whatever was lent before.
+    /// The next capacity of the sweep, on an unused sketch with a table that just fits or is longer; at times first
+    /// with one that is a word short, or with whatever was lent before.
     fn sweep(&mut self, t: &mut Trace) {
         let capacity = self.swept * 24_421 % (MOST + 1);
         self.swept += 1;

@@ -37,7 +37,8 @@ impl Made {
         Self { links, element: vec![0; nodes], length: vec![0; deques], cursor: vec![Cursor::None; deques] }
     }
 
-    /// Sound: the links stand for lists, lengths are theirs, a cursor is at none, at a node of its deque or past the end.
+    /// Sound: the links stand for lists, lengths are theirs, a cursor is at none, at a node of its deque or past the
+    /// end.
     fn sound(&self) -> Option<Lists> {
         let lists = self.links.lists()?;
         for (at, slots) in lists.at.iter().enumerate() {

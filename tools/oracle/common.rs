@@ -70,7 +70,8 @@ pub mod concurrent {
     /// Slots that the Rust's nodes gave back, the last one last.
     pub type Freed = Rc<RefCell<Vec<usize>>>;
 
-    /// One for each armed timer: it carries the port's slot and serial, and gives the slot back when the node is dropped.
+    /// One for each armed timer: it carries the port's slot and serial, and gives the slot back when the node is
+    /// dropped.
     pub struct DeqNodes<K> {
         pub slot: Option<usize>,
         pub serial: u64,

@@ -1,7 +1,7 @@
 //! The oracle: the ported Rust, unchanged, behind the text format of the trace programs.
 //!
-//! The three files are included from the folder that RUST_SOURCE names when this is compiled; nothing of them is copied.
-//! The refusals, slots, serials and free chains that the port adds are a thin layer around them.
+//! The three files are included from the folder that RUST_SOURCE names when this is compiled; nothing of them is
+//! copied. The refusals, slots, serials and free chains that the port adds are a thin layer around them.
 
 mod common;
 mod deque;
