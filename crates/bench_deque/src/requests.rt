@@ -1,4 +1,9 @@
 // The requests: `WORKLOAD NODES CALLS SEED`, and their answers.
+use crate::work::CHECKED;
+use crate::work::MOVE;
+use crate::work::QUEUE;
+use crate::work::UNLINK;
+use crate::work::WALK;
 use crate::work::run_workload;
 use lines::Asked;
 use lines::BAD_LINE;
@@ -15,32 +20,31 @@ pub fn asked_by(line: &[u8; 257], source: Source) -> Asked {
     lines::requested(line, source, b"queue move unlink walk checked")
 }
 
-// Tells the answer.
+// Tells the answer: a workload and three numbers are asked, of which the first is from 2 to 4,096. Each workload is
+// called by itself: where they are called in one place the compiler makes them a part of `main`, and they take longer.
 pub fn answer(told: &mut [u64; 6], asked: Asked) {
-    if asked.word == SILENT {
+    let word = asked.word;
+    if word == SILENT {
         lines::tell(told, NO_LINE, 0, 0, 0, 0);
         return;
     }
-    if !is_request(asked) {
+    if word == NO_WORD || asked.parts != 4 || asked.a < 2 || asked.a > 4096 {
         lines::tell(told, BAD_LINE, 0, 0, 0, 0);
         return;
     }
-    let digest = run_workload(asked.word as u64, asked.a, asked.b, first_number(asked.c));
-    lines::tell(told, DIGEST, 1, digest, 0, 0);
+    let x = first_number(asked.c);
+    let workload = word as u64;
+    match workload {
+        QUEUE => digested(told, run_workload(QUEUE, asked.a, asked.b, x)),
+        MOVE => digested(told, run_workload(MOVE, asked.a, asked.b, x)),
+        UNLINK => digested(told, run_workload(UNLINK, asked.a, asked.b, x)),
+        WALK => digested(told, run_workload(WALK, asked.a, asked.b, x)),
+        _ => digested(told, run_workload(CHECKED, asked.a, asked.b, x)),
+    }
 }
 
-// Whether a workload and three numbers are asked, of which the first is from 2 to 4,096.
-fn is_request(asked: Asked) -> bool {
-    if asked.word == NO_WORD {
-        return false;
-    }
-    if asked.parts != 4 {
-        return false;
-    }
-    if asked.a < 2 {
-        return false;
-    }
-    asked.a <= 4096
+fn digested(told: &mut [u64; 6], digest: u64) {
+    lines::tell(told, DIGEST, 1, digest, 0, 0);
 }
 
 // The generator's first number: the seed, and 1 for 0, after which only 0 would come.

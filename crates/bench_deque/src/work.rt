@@ -5,15 +5,15 @@ use crate::runs::moves;
 use crate::runs::queue;
 use crate::runs::unlinking;
 
-const QUEUE: u64 = 0;
+pub const QUEUE: u64 = 0;
 
-const MOVE: u64 = 1;
+pub const MOVE: u64 = 1;
 
-const UNLINK: u64 = 2;
+pub const UNLINK: u64 = 2;
 
-const WALK: u64 = 3;
+pub const WALK: u64 = 3;
 
-const CHECKED: u64 = 4;
+pub const CHECKED: u64 = 4;
 
 // Runs the workload on one deque over so many nodes, at most 4,096: its digest, or 0 where there is no such workload.
 // It is exported so that it is compiled by itself: its loops then have the processor's registers to themselves.
