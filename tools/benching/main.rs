@@ -50,7 +50,7 @@ fn workload((kind, size, calls): (&str, u64, u64)) -> Workload {
     Workload {
         name: format!("{kind}-{size}"),
         line: format!("{kind} {size} {calls} 20261115\n"),
-        alone: (kind == "checked").then_some((size * calls) as f64),
+        alone: ["length", "count"].contains(&kind).then_some((size * calls) as f64),
         times: [Vec::new(), Vec::new()],
         digest: None,
     }
@@ -79,9 +79,9 @@ fn workloads(module: &str) -> Vec<Workload> {
             ("unlink", 4_096, 12_000_000),
             ("walk", 16, 300_000_000),
             ("walk", 4_096, 150_000_000),
-            ("checked", 16, 2_000_000),
-            ("checked", 256, 200_000),
-            ("checked", 4_096, 15_000),
+            ("length", 16, 2_000_000),
+            ("length", 256, 200_000),
+            ("length", 4_096, 15_000),
         ],
         "wheel" => &[
             ("cancel", 229, 5_000_000),
@@ -90,9 +90,9 @@ fn workloads(module: &str) -> Vec<Workload> {
             ("ticks", 4_096, 40_000),
             ("jumps", 229, 600_000),
             ("jumps", 4_096, 100_000),
-            ("checked", 166, 200_000),
-            ("checked", 512, 80_000),
-            ("checked", 4_096, 10_000),
+            ("count", 166, 200_000),
+            ("count", 512, 80_000),
+            ("count", 4_096, 10_000),
         ],
         _ => fail(&format!("no benchmark for {module}")),
     };

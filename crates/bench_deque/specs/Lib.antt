@@ -1,2 +1,0 @@
--- What the contracts of `bench_deque` cite.
-pub mod Ready

@@ -1,4 +1,0 @@
--- Laws that the proofs of several functions cite.
-pub mod Parts
-pub mod Staying
-pub mod Keeping
