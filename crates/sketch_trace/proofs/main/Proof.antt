@@ -1,7 +1,8 @@
 -- `sketch_trace::main` is safe and ends: the table keeps its length, and the turns that are left become fewer.
 use borrow.Author.Needs.{needs}
+use Prim.Native.Nat.{ℕ}
 use mathlib.Core.Path.{_≡_}
-use lib.ListN.{length}
+use lib.ListN.{length, length-replicate}
 use Rattle.lines.proofs.Lent.{lent-fits, lent-count, lent-long}
 use Rattle.sketch_trace.proofs.main.Statement.{statement}
 use Rattle.sketch_trace.proofs.main.Tie as tie
@@ -21,7 +22,7 @@ begin-requires : tie.Need-begin-requires Inv-loop μ-loop
 begin-requires c κs = tt
 
 loop-holds : tie.Need-loop-holds Inv-loop μ-loop
-loop-holds c = search needs
+loop-holds c = length-replicate {A = ℕ} 65536 0
 
 next-line-requires : tie.Need-next-line-requires Inv-loop μ-loop
 next-line-requires c κs = tt
