@@ -10,13 +10,13 @@ use Rattle.rules.specs.Geometry.{Geometry}
 use Rattle.rules.specs.Lists.{Lists, enter}
 use Rattle.rules.specs.Wheel.{Entry, Advance, closed, poised, within, Wheel, Call, create, enable, setEntry, schedule, reschedule, deschedule, start}
 use Rattle.rules.specs.Wheel.{pull, abandon, armedCount, nextDue, Answer, ok, end}
-use Rattle.rules.specs.Refusals.{isOpen, rows, refusal}
+use Rattle.rules.specs.Refusals.{isOpen, rows, testsOf, refusal}
 use Rattle.rules.specs.Pull.{Found, emptied, Pulled, stopped, swept, pulled}
 use Rattle.rules.specs.Calls.{armed, rearmed, origin, act, judged, step}
 use Rattle.rules.specs.Runs.{Run, answer, next, after}
 use Rattle.rules.specs.Demand3.{StaysOpen, Advancing}
 use Rattle.numbers.proofs.Cases.{not-both}
-use Rattle.rules.proofs.Passing.{rest, pass, ready, running}
+use Rattle.rules.proofs.Passing.{rest, pass-not, ready, running}
 
 -- ---- a pull answers End and closes the advance, or stays within a bucket of it
 module _ (g : Geometry) (E : ℕ → Entry) (p q : ℕ) where
@@ -82,21 +82,21 @@ module _ (g : Geometry) (w : Wheel) (on : w .enabled ≡ true) (busy : isOpen (w
 
   pub while-open : (c : Call) → Stays w (step g w c .1) ⊎ ((isOpen (step g w c .1 .advance) ≡ false) × Closes g w c)
   while-open (create m) = inr (refl, inr (inr (m, refl)))
-  while-open (enable m j) =
-      inl (refused-stays (refusal g w (enable m j)) (act g w (enable m j))
-      (λ z. not-both (sym (pass (w .enabled) 1 (rest (rows g w (enable m j))) z .0) ∙ on)))
+  while-open (enable m j b) =
+      inl (refused-stays (refusal g w (enable m j b)) (act g w (enable m j b))
+      (λ z. not-both (sym (pass-not (w .enabled) 1 (rest (rows (testsOf g true w) (enable m j b))) z .0) ∙ on)))
   while-open (setEntry i o m) =
       inl (refused-stays (refusal g w (setEntry i o m)) (act g w (setEntry i o m))
-      (λ z. not-both (sym (ready (w .enabled) (isOpen (w .advance)) (rest (rest (rest (rows g w (setEntry i o m))))) z .1) ∙ busy)))
+      (λ z. not-both (sym (ready (w .enabled) (isOpen (w .advance)) (rest (rest (rest (rows (testsOf g true w) (setEntry i o m))))) z .1) ∙ busy)))
   while-open (schedule i m) =
       inl (refused-stays (refusal g w (schedule i m)) (act g w (schedule i m))
-      (λ z. not-both (sym (ready (w .enabled) (isOpen (w .advance)) (rest (rest (rest (rows g w (schedule i m))))) z .1) ∙ busy)))
+      (λ z. not-both (sym (ready (w .enabled) (isOpen (w .advance)) (rest (rest (rest (rows (testsOf g true w) (schedule i m))))) z .1) ∙ busy)))
   while-open (reschedule y m j) =
       inl (refused-stays (refusal g w (reschedule y m j)) (act g w (reschedule y m j))
-      (λ z. not-both (sym (ready (w .enabled) (isOpen (w .advance)) (rest (rest (rest (rows g w (reschedule y m j))))) z .1) ∙ busy)))
+      (λ z. not-both (sym (ready (w .enabled) (isOpen (w .advance)) (rest (rest (rest (rows (testsOf g true w) (reschedule y m j))))) z .1) ∙ busy)))
   while-open (deschedule y m j) =
       inl (refused-stays (refusal g w (deschedule y m j)) (act g w (deschedule y m j))
-      (λ z. not-both (sym (ready (w .enabled) (isOpen (w .advance)) (rest (rest (rest (rows g w (deschedule y m j))))) z .1) ∙ busy)))
+      (λ z. not-both (sym (ready (w .enabled) (isOpen (w .advance)) (rest (rest (rest (rows (testsOf g true w) (deschedule y m j))))) z .1) ∙ busy)))
   while-open (start q) =
       inl (refused-stays (refusal g w (start q)) (act g w (start q)) (λ z. not-both (sym (ready (w .enabled) (isOpen (w .advance)) [] z .1) ∙ busy)))
   while-open pull =
@@ -131,7 +131,7 @@ module _ (g : Geometry) (w : Wheel) (shut : isOpen (w .advance) ≡ false) where
 
   pub only-start : (c : Call) → (isOpen (step g w c .1 .advance) ≡ false) ⊎ ((q : ℕ) × (c ≡ start q) × (step g w c .0 ≡ ok))
   only-start (create m) = inl refl
-  only-start (enable m j) = inl (still-shut (refusal g w (enable m j)) (act g w (enable m j)) (λ z. refl))
+  only-start (enable m j b) = inl (still-shut (refusal g w (enable m j b)) (act g w (enable m j b)) (λ z. refl))
   only-start (setEntry i o m) = inl (still-shut (refusal g w (setEntry i o m)) (act g w (setEntry i o m)) (λ z. shut))
   only-start (schedule i m) =
       inl (still-shut (refusal g w (schedule i m)) (act g w (schedule i m))

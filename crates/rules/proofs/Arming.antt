@@ -10,11 +10,12 @@ use Rattle.rules.specs.Place.{bucketOf, effective}
 use Rattle.rules.specs.Lists.{Node, Lists, newNode, placedIn, update, link, unlink, claim}
 use Rattle.rules.specs.Wheel.{Advance, closed, poised, within, Wheel, Call, create, enable, setEntry, schedule, reschedule, deschedule, start, pull}
 use Rattle.rules.specs.Wheel.{abandon, armedCount, nextDue, handle, ok}
-use Rattle.rules.specs.Refusals.{isOpen, rows, refusal}
+use Rattle.rules.specs.Refusals.{isOpen, rows, testsOf, refusal}
 use Rattle.rules.specs.Calls.{armed, rearmed, act, judged, step}
 use Rattle.rules.specs.Sound.{Sound, SoundIfEnabled}
 use Rattle.rules.specs.Runs.{Run, next}
-use Rattle.rules.specs.Demand3.{Arms, Timely}
+use Rattle.rules.specs.Demand3.{Arms}
+use Rattle.rules.specs.Timers.{Timely}
 use Rattle.numbers.proofs.Cases.{not-both}
 use Rattle.rules.proofs.Counting.{update-is}
 use Rattle.rules.proofs.Effective.{effective-placed}
@@ -37,7 +38,7 @@ stage-new g x t b r L (within p c bs) i u = absurd (not-both (sym i))
 
 module _ (g : Geometry) (R : Run) (on : R .wheel .enabled ≡ true) (s : Sound g (R .wheel)) (shut : isOpen (R .wheel .advance) ≡ false) where
   -- ---- armed
-  module _ (e h d : ℕ) (dated : R .wheel .entry e .deadline ≡ some d) (timely : Timely g (R .wheel) d) where
+  module _ (e h d : ℕ) (dated : R .wheel .entry e .deadline ≡ some d) (timely : Timely g (R .wheel .reading) d) where
     first : (x : ℕ) (fs : List ℕ) → R .wheel .lists .free ≡ x ∷ fs → Armed g x e (R .wheel .next) d
         (led R (schedule e h) (armed g (R .wheel) e h (some d) (x ∷ fs)))
     first x fs f =
@@ -83,7 +84,7 @@ module _ (g : Geometry) (R : Run) (on : R .wheel .enabled ≡ true) (s : Sound g
 
   -- ---- armed again
   again : (x n h d : ℕ) → R .wheel .lists .node x .armed ≡ true → R .wheel .lists .node x .serial ≡ n
-      → R .wheel .entry (R .wheel .lists .node x .entry) .deadline ≡ some d → Timely g (R .wheel) d
+      → R .wheel .entry (R .wheel .lists .node x .entry) .deadline ≡ some d → Timely g (R .wheel .reading) d
       → Armed g x (R .wheel .lists .node x .entry) n d (led R (reschedule x n h) (rearmed g (R .wheel) x (some d)))
   again x n h d l is dated timely =
       let w : Wheel = R .wheel in
@@ -116,14 +117,14 @@ module _ (g : Geometry) (R : Run) (on : R .wheel .enabled ≡ true) (s : Sound g
       }
 
 -- ---- "Arm or re-arm a timer whose deadline is not in an earlier tick than the wheel's reading"
-module _ (g : Geometry) (R : Run) (s : SoundIfEnabled g (R .wheel)) (x n e d : ℕ) (timely : Timely g (R .wheel) d) where
+module _ (g : Geometry) (R : Run) (s : SoundIfEnabled g (R .wheel)) (x n e d : ℕ) (timely : Timely g (R .wheel .reading) d) where
   schedules : (h : ℕ) → step g (R .wheel) (schedule e h) .0 ≡ handle x n → R .wheel .entry e .deadline ≡ some d → Armed g x e n d (next g R (schedule e h))
   schedules h a dated = go (refusal g (R .wheel) (schedule e h)) refl a
     where
       go : (k : ℕ) → refusal g (R .wheel) (schedule e h) ≡ k → judged k (act g (R .wheel) (schedule e h)) (R .wheel) .0 ≡ handle x n
           → Armed g x e n d (led R (schedule e h) (judged k (act g (R .wheel) (schedule e h)) (R .wheel)))
       go zero z a =
-          let r = ready (R .wheel .enabled) (isOpen (R .wheel .advance)) (rest (rest (rest (rows g (R .wheel) (schedule e h))))) z in
+          let r = ready (R .wheel .enabled) (isOpen (R .wheel .advance)) (rest (rest (rest (rows (testsOf g true (R .wheel)) (schedule e h))))) z in
           first-any g R (r .0) (s (r .0)) (r .1) e h d dated timely x n (R .wheel .entry e .deadline) (R .wheel .lists .free) dated refl a
       go (suc k) z a = absurd (let z : _≡_ {A = ℕ} 0 1 = cc in omega arith)
 
@@ -144,7 +145,7 @@ module _ (g : Geometry) (R : Run) (s : SoundIfEnabled g (R .wheel)) (x n e d : �
 
   pub arms-waiting : (c : Call) → Arms g (R .wheel) c x n e d → Armed g x e n d (next g R c)
   arms-waiting (create m) a = absurd a
-  arms-waiting (enable m k) a = absurd a
+  arms-waiting (enable m k f) a = absurd a
   arms-waiting (setEntry i o h) a = absurd a
   arms-waiting (schedule i h) a =
       let r : step g (R .wheel) (schedule e h) .0 ≡ handle x n = subst (λ (j : ℕ). step g (R .wheel) (schedule j h) .0 ≡ handle x n) (a .1) (a .0) in

@@ -7,11 +7,13 @@ use mathlib.Core.Bool.{true, false}
 use mathlib.Core.List.{List, [], _∷_, _++_, append-assoc}
 use Rattle.rules.specs.Geometry.{Geometry}
 use Rattle.rules.specs.Place.{effective}
+use Rattle.rules.specs.Lists.{Node}
 use Rattle.rules.specs.Wheel.{Advance, closed, poised, within, Wheel, Call, create, start, pull, ok, end, expired}
 use Rattle.rules.specs.Refusals.{isOpen, refusal}
 use Rattle.rules.specs.Calls.{origin, step}
 use Rattle.rules.specs.Runs.{Run, answer, next, answers, after}
-use Rattle.rules.specs.Demand3.{Arms, Timely, Changes, Unchanged, handsOut, handed, NotYet, InOneBucket, Later, StaysOpen, Advancing, Full, NoneBefore}
+use Rattle.rules.specs.Demand3.{Arms, Unchanged, NotYet, InOneBucket, StaysOpen, Advancing, Full, NoneBefore}
+use Rattle.rules.specs.Timers.{Timely, Changes, handsOut, handed, Later}
 use Rattle.rules.specs.Demand3.{AbandonedOneHad, Demand3}
 use Rattle.numbers.proofs.Cases.{below?, not-both}
 use Rattle.rules.proofs.Counting.{hit-is}
@@ -88,15 +90,20 @@ module _ (g : Geometry) (x n e d h : ℕ) where
     enabled-after cs u = ⊎-elim (λ j. j .1 .on) (λ j. j .1 .on) (led-by R cs k u)
 
     -- ---- the parts
-    one-bucket : (cs : List Call) → Unchanged g x n e d R cs → NotYet g n R cs → InOneBucket g x (after g R cs .wheel)
+    one-bucket : (cs : List Call) → Unchanged g x n e d R cs → NotYet g n R cs → InOneBucket g x n e (after g R cs .wheel)
     one-bucket cs u z =
         let w : Wheel = after g R cs .wheel in
         ⊎-elim
-        (λ j. (
-          j .1 .b,
-          stage-in g x (effective (after g R cs .placed n) d) (j .1 .b) (w .reading) (w .lists) (w .advance) (j .1 .stage),
-          j .1 .timer .at
-              .stands,
+        (λ j.
+        let says = j .1 .timer .at .says in (
+          ap (λ (v : Node). v .armed) says,
+          ap (λ (v : Node). v .serial) says,
+          ap (λ (v : Node). v .entry) says,
+          (
+            j .1 .b,
+            stage-in g x (effective (after g R cs .placed n) d) (j .1 .b) (w .reading) (w .lists) (w .advance) (j .1 .stage),
+            j .1 .timer .at .stands,
+          ),
         ))
         (λ j. absurd (omega (arith, j .0, z)))
         (led-by R cs k u)
@@ -345,7 +352,7 @@ module _ (g : Geometry) (x n e d h : ℕ) where
 -- reading": the call c. Then demand 3 holds of it.
 pub demand3 : (g : Geometry) (R : Run) (first : ℕ) (cs : List Call) (c : Call) (x n e d : ℕ)
     → Arms g (after g R (create first ∷ cs) .wheel) c x n e d
-    → Timely g (after g R (create first ∷ cs) .wheel) d
+    → Timely g (after g R (create first ∷ cs) .wheel .reading) d
     → Demand3 g x n e d (next g (after g R (create first ∷ cs)) c)
 demand3 g R first cs c x n e d a t =
     let k : Armed g x e n d (next g (after g R (create first ∷ cs)) c) =

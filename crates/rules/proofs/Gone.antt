@@ -11,7 +11,7 @@ use Rattle.rules.specs.Place.{bucketOf}
 use Rattle.rules.specs.Lists.{Node, Lists, placedIn, count, link, release, enter, pop}
 use Rattle.rules.specs.Wheel.{Entry, Advance, closed, poised, within, Answer}
 use Rattle.rules.specs.Pull.{Found, dealt, emptied, Pulled, stopped, swept, pulled}
-use Rattle.rules.specs.Demand3.{handsOut}
+use Rattle.rules.specs.Timers.{handsOut}
 use Rattle.numbers.proofs.Cases.{below?}
 use Rattle.rules.proofs.Counting.{hit-is, hit-not}
 use Rattle.rules.proofs.Standing.{Gone, bearers-enter, bearers-else, pop-release, pop-link, serial-freed, serial-linked, early-pop}

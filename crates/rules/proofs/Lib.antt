@@ -21,3 +21,4 @@ pub mod Premises
 pub mod Order
 pub mod Counts
 pub mod Turns
+pub mod Seen

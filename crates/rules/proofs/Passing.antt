@@ -1,4 +1,4 @@
--- What is known when a call is not refused: each of its rows' tests failed.
+-- What is known when a call is not refused: the test of each of its rows holds.
 use Prim.Native.Nat.{ℕ, suc, _<_}
 use native.Mathlib.Omega.{arith}
 use mathlib.Core.Path.{_≡_, refl, sym}
@@ -11,22 +11,26 @@ use Rattle.rules.specs.Wheel.{Advance, closed, poised, within, Wheel, re
 use Rattle.rules.specs.Refusals.{Row, pick, isOpen, isStale, refusal}
 use Rattle.numbers.proofs.Cases.{not-both}
 
-abbrev pub rest : List Row → List Row
+abbrev pub rest : List (Row Bool) → List (Row Bool)
 rest [] = []
 rest (t ∷ ts) = ts
 
-pub pass : (t : Bool) (k : ℕ) (ts : List Row) → pick ((t, suc k) ∷ ts) ≡ 0 → (t ≡ false) × (pick ts ≡ 0)
-pass true k ts i = absurd (omega arith)
-pass false k ts i = (refl, i)
+pub pass : (t : Bool) (k : ℕ) (ts : List (Row Bool)) → pick ((t, suc k) ∷ ts) ≡ 0 → (t ≡ true) × (pick ts ≡ 0)
+pass true k ts i = (refl, i)
+pass false k ts i = absurd (omega arith)
 
--- the calls that 5 refuses: the wheel is enabled, and no advance is open. (The row of 4 has the test false.)
-pub ready : (on busy : Bool) (ts : List Row) → pick ((not on, 1) ∷ (false, 4) ∷ (busy, 5) ∷ ts) ≡ 0 → (on ≡ true) × (busy ≡ false) × (pick ts ≡ 0)
+pub pass-not : (t : Bool) (k : ℕ) (ts : List (Row Bool)) → pick ((not t, suc k) ∷ ts) ≡ 0 → (t ≡ false) × (pick ts ≡ 0)
+pass-not true k ts i = absurd (omega arith)
+pass-not false k ts i = (refl, i)
+
+-- the calls that 5 refuses: the wheel is enabled, and no advance is open. (The row of 4 has the test true.)
+pub ready : (on busy : Bool) (ts : List (Row Bool)) → pick ((on, 1) ∷ (true, 4) ∷ (not busy, 5) ∷ ts) ≡ 0 → (on ≡ true) × (busy ≡ false) × (pick ts ≡ 0)
 ready false busy ts z = absurd (omega arith)
 ready true true ts z = absurd (omega arith)
 ready true false ts z = (refl, refl, z)
 
 -- the calls that 6 refuses
-pub running : (on busy : Bool) → pick ((not on, 1) ∷ (false, 4) ∷ (not busy, 6) ∷ []) ≡ 0 → (on ≡ true) × (busy ≡ true)
+pub running : (on busy : Bool) → pick ((on, 1) ∷ (true, 4) ∷ (busy, 6) ∷ []) ≡ 0 → (on ≡ true) × (busy ≡ true)
 running false busy z = absurd (omega arith)
 running true false z = absurd (omega arith)
 running true true z = (refl, refl)
@@ -53,6 +57,6 @@ fresh w x n i = go (leb (w .nodes) x) (w .lists .node x .armed) (eqb (w .lists .
 pub handles : (g : Geometry) (w : Wheel) (y m j : ℕ) → refusal g w (reschedule y m j) ≡ 0 → (w .enabled ≡ true) × (isOpen (w .advance) ≡ false) ×
     (isStale w y m ≡ false)
 handles g w y m j z =
-    let ts : List Row = (isStale w y m, 12) ∷ (not (eqb (w .lists .node y .generation) j), 13) ∷ [] in
+    let ts : List (Row Bool) = (not (isStale w y m), 12) ∷ (eqb (w .lists .node y .generation) j, 13) ∷ [] in
     let i = ready (w .enabled) (isOpen (w .advance)) ts z in
-    (i .0, i .1, pass (isStale w y m) 11 ((not (eqb (w .lists .node y .generation) j), 13) ∷ []) (i .2) .0)
+    (i .0, i .1, pass-not (isStale w y m) 11 ((eqb (w .lists .node y .generation) j, 13) ∷ []) (i .2) .0)

@@ -9,15 +9,15 @@ use Rattle.rules.specs.Geometry.{Geometry}
 use Rattle.rules.specs.Place.{bucketOf}
 use Rattle.rules.specs.Lists.{Node, Lists, newNode, placedIn, link, unlink, release, claim}
 use Rattle.rules.specs.Wheel.{Wheel, Call, create, enable, setEntry, schedule, reschedule, deschedule, start, pull, abandon, armedCount, nextDue, Answer}
-use Rattle.rules.specs.Refusals.{rows, refusal}
+use Rattle.rules.specs.Refusals.{rows, testsOf, refusal}
 use Rattle.rules.specs.Calls.{armed, rearmed, act, judged, step}
 use Rattle.rules.specs.Runs.{Run, next}
-use Rattle.rules.specs.Demand3.{Changes, handsOut}
+use Rattle.rules.specs.Timers.{Changes, handsOut}
 use Rattle.numbers.proofs.Cases.{not-both}
 use Rattle.rules.proofs.Standing.{Gone, bearers-else, unlink-release, unlink-link, claim-link, serial-freed, serial-linked}
 use Rattle.rules.proofs.Timers.{Past}
 use Rattle.rules.proofs.Gone.{pulled-gone}
-use Rattle.rules.proofs.Passing.{rest, pass, fresh, handles}
+use Rattle.rules.proofs.Passing.{rest, pass-not, fresh, handles}
 use Rattle.rules.proofs.WaitingCalls.{led}
 
 module _ (g : Geometry) (n : ℕ) (R : Run) (k : Past n R) where
@@ -67,9 +67,9 @@ module _ (g : Geometry) (n : ℕ) (R : Run) (k : Past n R) where
 
   pub each-call-past : (x e d : ℕ) (c : Call) → (Changes x n e d c → refusal g (R .wheel) c ≡ 0 → ⊥) → Silent c (step g (R .wheel) c)
   each-call-past x e d (create m) f = absurd (f tt refl)
-  each-call-past x e d (enable m j) f =
-      refused-silent (enable m j) (refusal g (R .wheel) (enable m j)) (act g (R .wheel) (enable m j))
-      (λ z. absurd (not-both (sym (pass (R .wheel .enabled) 1 (rest (rows g (R .wheel) (enable m j))) z .0) ∙ k .on)))
+  each-call-past x e d (enable m j b) f =
+      refused-silent (enable m j b) (refusal g (R .wheel) (enable m j b)) (act g (R .wheel) (enable m j b))
+      (λ z. absurd (not-both (sym (pass-not (R .wheel .enabled) 1 (rest (rows (testsOf g true (R .wheel)) (enable m j b))) z .0) ∙ k .on)))
   each-call-past x e d (setEntry i o m) f =
       refused-silent (setEntry i o m) (refusal g (R .wheel) (setEntry i o m)) (act g (R .wheel) (setEntry i o m))
       (λ z. (refl, record { gone = k .gone; issued = k .issued; on = k .on }))

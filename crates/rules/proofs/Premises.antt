@@ -2,18 +2,20 @@
 use Prim.Native.Nat.{ℕ, _*_, _^_}
 use native.Mathlib.Omega.{arith}
 use mathlib.Core.Path.{_≡_, refl}
+use mathlib.Core.Bool.{true}
 use mathlib.Core.Option.{some}
 use mathlib.Core.List.{List, [], _∷_, _++_}
 use Rattle.rules.specs.Geometry.{wheel01, tick}
 use Rattle.rules.specs.Wheel.{Call, create, enable, setEntry, schedule, reschedule, start, pull, abandon}
 use Rattle.rules.specs.Runs.{Run, answers, after, next}
-use Rattle.rules.specs.Demand3.{Arms, Unchanged, handed, Full, Demand3}
+use Rattle.rules.specs.Demand3.{Arms, Unchanged, Full, Demand3}
+use Rattle.rules.specs.Timers.{handed}
 use Rattle.rules.specs.Worked.{nothing}
 use Rattle.rules.proofs.Demand3.{demand3}
 
 -- ---- met: deadline 10, armed at the reading 0 in slot 165 with the serial 7
 abbrev before-10 : List Call
-before-10 = enable 200 8 ∷ setEntry 0 (some 10) 0 ∷ []
+before-10 = enable 200 8 true ∷ setEntry 0 (some 10) 0 ∷ []
 
 abbrev armed-10 : Run
 armed-10 = next wheel01 (after wheel01 nothing (create 7 ∷ before-10)) (schedule 0 0)
@@ -24,7 +26,7 @@ met = demand3 wheel01 nothing 7 before-10 (schedule 0 0) 165 7 0 10 (refl, refl,
 
 -- armed again, by a reschedule, after its deadline was changed to 20
 abbrev before-20 : List Call
-before-20 = enable 200 8 ∷ setEntry 0 (some 10) 0 ∷ schedule 0 0 ∷ setEntry 0 (some 20) 1 ∷ []
+before-20 = enable 200 8 true ∷ setEntry 0 (some 10) 0 ∷ schedule 0 0 ∷ setEntry 0 (some 20) 1 ∷ []
 
 pub met-again : Demand3 wheel01 165 7 0 20 (next wheel01 (after wheel01 nothing (create 7 ∷ before-20)) (reschedule 165 7 0))
 unfolding tick
@@ -57,7 +59,7 @@ hands-out-10 = refl
 -- goes to tick 65, past the deadline, and enters a
 -- later tick: it does not hand the timer out. So demand 3 fails of it.
 abbrev before-w9 : List Call
-before-w9 = enable 200 8 ∷ start (5 * 2 ^ 30) ∷ pull ∷ setEntry 0 (some (2 * 2 ^ 30)) 0 ∷ []
+before-w9 = enable 200 8 true ∷ start (5 * 2 ^ 30) ∷ pull ∷ setEntry 0 (some (2 * 2 ^ 30)) 0 ∷ []
 
 abbrev w9 : Run
 w9 = after wheel01 nothing (create 7 ∷ before-w9)

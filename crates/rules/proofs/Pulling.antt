@@ -12,7 +12,7 @@ use Rattle.rules.specs.Lists.{Node, Lists, newNode, placedIn, hit, count
 use Rattle.rules.specs.Wheel.{Entry, Advance, poised, within, pull, Answer, expired}
 use Rattle.rules.specs.Pull.{Found, dealt, emptied, Pulled, stopped, swept, pulled}
 use Rattle.rules.specs.Runs.{placing, noted}
-use Rattle.rules.specs.Demand3.{Later, handsOut}
+use Rattle.rules.specs.Timers.{Later, handsOut}
 use Rattle.numbers.proofs.Cases.{below?, same?}
 use Rattle.rules.proofs.Counting.{hit-is, hit-not, update-is, update-not}
 use Rattle.rules.proofs.Ticks.{tick-mono}

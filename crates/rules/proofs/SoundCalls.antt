@@ -5,18 +5,18 @@ use Prim.Native.Nat.{ℕ, zero, suc, _≤_, _<_}
 use native.Mathlib.Omega.{arith}
 use mathlib.Core.Path.{_≡_, refl, sym, ap, _∙_}
 use mathlib.Core.Logic.{⊎-elim}
-use mathlib.Core.Bool.{Bool, true, false, cond}
+use mathlib.Core.Bool.{Bool, true, false, _&&_}
 use mathlib.Core.Option.{Option, none, some}
 use mathlib.Core.List.{List, [], _∷_}
 use lib.Dec.{eqb, leb, ltb}
-use borrow.Author.Tests.{le-leb, lt-leb, leb-false}
+use borrow.Author.Tests.{le-leb, lt-leb, ltb-true}
 use Rattle.rules.specs.Geometry.{Geometry, buckets}
 use Rattle.rules.specs.Place.{bucketOf}
 use Rattle.rules.specs.Visits.{visits, ahead}
 use Rattle.rules.specs.Lists.{Lists, newNode, placedIn, count, unlink, release, claim, enter, pop}
 use Rattle.rules.specs.Wheel.{Entry, Advance, closed, poised, within, Wheel, Call, create, enable, setEntry, schedule, reschedule, deschedule, start}
 use Rattle.rules.specs.Wheel.{pull, abandon, armedCount, nextDue, Answer}
-use Rattle.rules.specs.Refusals.{Row, isOpen, outOfRange, rows, refusal}
+use Rattle.rules.specs.Refusals.{Row, isOpen, inRange, rows, testsOf, refusal}
 use Rattle.rules.specs.Pull.{Found, dealt, emptied, Pulled, stopped, swept, pulled}
 use Rattle.rules.specs.Calls.{armed, rearmed, act, judged, step}
 use Rattle.rules.specs.Sound.{SoundLists, SoundAdvance, Sound, SoundIfEnabled}
@@ -26,7 +26,7 @@ use Rattle.rules.proofs.Counting.{hit-is}
 use Rattle.rules.proofs.Placing.{bucketOf-in}
 use Rattle.rules.proofs.Positions.{NextAt, ahead-start, ahead-next}
 use Rattle.rules.proofs.Standing.{pop-release, pop-link, unlink-release, unlink-link, claim-link, At, nowhere, pop-own, unlink-own, early-pop}
-use Rattle.rules.proofs.Passing.{rest, pass, ready, fresh, handles}
+use Rattle.rules.proofs.Passing.{rest, pass, pass-not, ready, fresh, handles}
 use Rattle.rules.proofs.SoundLists.{at-of, first-free, free-nowhere, sound-freed, sound-placed, sound-enter, sound-bare}
 
 -- ---- a pull: the lists
@@ -154,12 +154,13 @@ module _ (g : Geometry) (w : Wheel) (s : Sound g w) where
         }
 
 -- lent lengths in the range leave room for the sentinels
-in-range : (g : Geometry) (m k : ℕ) → outOfRange g m k ≡ false → buckets g ≤ m
-in-range g m k i = go (leb m (buckets g)) (cond (ltb 4096 m) true (cond (eqb k 0) true (ltb 4096 k))) refl i
+in-range : (g : Geometry) (m k : ℕ) (fits : Bool) → inRange g m k fits ≡ true → buckets g ≤ m
+in-range g m k fits i = go fits (ltb (buckets g) m) (leb m 4096 && (ltb 0 k && leb k 4096)) refl i
   where
-    go : (r t : Bool) → leb m (buckets g) ≡ r → cond r true t ≡ false → buckets g ≤ m
-    go true t e j = absurd (not-both (sym j))
-    go false t e j = omega (arith, leb-false m (buckets g) e)
+    go : (f r t : Bool) → ltb (buckets g) m ≡ r → f && (r && t) ≡ true → buckets g ≤ m
+    go true true t e j = omega (arith, ltb-true (buckets g) m e)
+    go true false t e j = absurd (not-both j)
+    go false r t e j = absurd (not-both j)
 
 module _ (g : Geometry) (w : Wheel) (s : SoundIfEnabled g w) where
   refused-sound : (j : ℕ) (r : Answer × Wheel) → (j ≡ 0 → SoundIfEnabled g (r .1)) → SoundIfEnabled g (judged j r w .1)
@@ -169,19 +170,19 @@ module _ (g : Geometry) (w : Wheel) (s : SoundIfEnabled g w) where
   -- every call
   pub sound-step : (c : Call) → SoundIfEnabled g (step g w c .1)
   sound-step (create m) = λ i. absurd (not-both i)
-  sound-step (enable m j) =
-      refused-sound (refusal g w (enable m j)) (act g w (enable m j))
+  sound-step (enable m j b) =
+      refused-sound (refusal g w (enable m j b)) (act g w (enable m j b))
       (λ z i.
-      let ts : List Row = (outOfRange g m j, 3) ∷ [] in
-      record { lists = sound-bare (buckets g) m j (w .next) (in-range g m j (pass (outOfRange g m j) 2 [] (pass (w .enabled) 1 ts z .1) .0)); advance = tt })
+      let ts : List (Row Bool) = (inRange g m j b, 3) ∷ [] in
+      record { lists = sound-bare (buckets g) m j (w .next) (in-range g m j b (pass (inRange g m j b) 2 [] (pass-not (w .enabled) 1 ts z .1) .0)); advance = tt })
   sound-step (setEntry i o m) =
       refused-sound (refusal g w (setEntry i o m)) (act g w (setEntry i o m)) (λ z u. record { lists = s u .lists; advance = s u .advance })
   sound-step (schedule i m) =
       refused-sound (refusal g w (schedule i m)) (act g w (schedule i m))
       (λ z u.
-      let ts : List Row = rest (rest (rest (rows g w (schedule i m)))) in
+      let ts : List (Row Bool) = rest (rest (rest (rows (testsOf g true w) (schedule i m)))) in
       let r = ready (w .enabled) (isOpen (w .advance)) ts z in
-      arms g w (s (r .0)) i m (w .entry i .deadline) (w .lists .free) refl (leb-false (w .entries) i (pass (leb (w .entries) i) 6 (rest ts) (r .2) .0)))
+      arms g w (s (r .0)) i m (w .entry i .deadline) (w .lists .free) refl (ltb-true i (w .entries) (pass (ltb i (w .entries)) 6 (rest ts) (r .2) .0)))
   sound-step (reschedule y m j) =
       refused-sound (refusal g w (reschedule y m j)) (act g w (reschedule y m j))
       (λ z u.

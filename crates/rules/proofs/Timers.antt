@@ -10,7 +10,7 @@ use Rattle.rules.specs.Place.{effective}
 use Rattle.rules.specs.Lists.{Lists, newNode, hit, count}
 use Rattle.rules.specs.Wheel.{Advance, closed, poised, within, Answer, refused, ok, handle, removed, end, expired, rescheduled, number, due}
 use Rattle.rules.specs.Runs.{Run}
-use Rattle.rules.specs.Demand3.{Later}
+use Rattle.rules.specs.Timers.{Later}
 use Rattle.rules.proofs.Placing.{Mem, InTime, in-time-in}
 use Rattle.rules.proofs.Standing.{Elsewhere, At, Bearers, Gone, at-same, bearers-else}
 

@@ -3,7 +3,7 @@ use Prim.Native.Nat.{ℕ, zero, suc, _≤_, _<_}
 use native.Mathlib.Omega.{arith}
 use mathlib.Core.Path.{_≡_, refl, sym, ap, subst, _∙_}
 use mathlib.Core.Logic.{_⊎_, inl, inr, ⊎-elim}
-use mathlib.Core.Bool.{false}
+use mathlib.Core.Bool.{true, false}
 use mathlib.Core.Option.{Option, none, some}
 use mathlib.Core.List.{List, [], _∷_}
 use borrow.Author.Tests.{eq-eqb, ne-eqb}
@@ -13,18 +13,18 @@ use Rattle.rules.specs.Visits.{visits}
 use Rattle.rules.specs.Lists.{Node, Lists, newNode, placedIn, update, count, link, unlink, release, claim}
 use Rattle.rules.specs.Wheel.{Advance, closed, poised, within, Wheel, Call, create, enable, setEntry, schedule, reschedule, deschedule, start, pull}
 use Rattle.rules.specs.Wheel.{abandon, armedCount, nextDue, Answer, expired}
-use Rattle.rules.specs.Refusals.{isOpen, isStale, rows, refusal}
+use Rattle.rules.specs.Refusals.{isOpen, isStale, rows, testsOf, refusal}
 use Rattle.rules.specs.Pull.{Pulled, pulled}
 use Rattle.rules.specs.Calls.{withLists, withNext, armed, rearmed, origin, act, judged, step}
 use Rattle.rules.specs.Runs.{Run, placing, noted, answer, next}
-use Rattle.rules.specs.Demand3.{Changes, Later, handsOut}
+use Rattle.rules.specs.Timers.{Changes, Later, handsOut}
 use Rattle.numbers.proofs.Cases.{below?, same?, not-both}
 use Rattle.rules.proofs.Counting.{hit-is, update-not}
 use Rattle.rules.proofs.Placing.{Mem, in-time-back, in-time-on, in-time-after, in-time-weak, visits-none}
 use Rattle.rules.proofs.Standing.{unlink-release, unlink-link, claim-link, serial-freed, serial-linked}
 use Rattle.rules.proofs.Timers.{Due, Stage, Timer, timer-else, Ends, Waiting, Past}
 use Rattle.rules.proofs.Pulling.{Stays, Leaves, pulled-poised, pulled-within}
-use Rattle.rules.proofs.Passing.{rest, pass, ready, fresh, handles}
+use Rattle.rules.proofs.Passing.{rest, pass-not, ready, fresh, handles}
 
 -- the run after a call c that answers r .0 and leaves r .1
 abbrev pub led : Run → Call → Answer × Wheel → Run
@@ -192,15 +192,15 @@ module _ (g : Geometry) (x e h n d : ℕ) (R : Run) (k : Waiting g x e h n d R) 
   -- every call
   pub each-call : (c : Call) → (Changes x n e d c → refusal g (R .wheel) c ≡ 0 → ⊥) → Either g x e h n d R c (step g (R .wheel) c)
   each-call (create m) f = absurd (f tt refl)
-  each-call (enable m j) f =
-      refused-keeps (enable m j) (refusal g (R .wheel) (enable m j)) (act g (R .wheel) (enable m j))
-      (λ z. absurd (not-both (sym (pass (R .wheel .enabled) 1 (rest (rows g (R .wheel) (enable m j))) z .0) ∙ k .on)))
+  each-call (enable m j b) f =
+      refused-keeps (enable m j b) (refusal g (R .wheel) (enable m j b)) (act g (R .wheel) (enable m j b))
+      (λ z. absurd (not-both (sym (pass-not (R .wheel .enabled) 1 (rest (rows (testsOf g true (R .wheel)) (enable m j b))) z .0) ∙ k .on)))
   each-call (setEntry i o m) f =
       refused-keeps (setEntry i o m) (refusal g (R .wheel) (setEntry i o m)) (act g (R .wheel) (setEntry i o m)) (λ z. sets i o m (λ j. f j z))
   each-call (schedule i m) f =
       refused-keeps (schedule i m) (refusal g (R .wheel) (schedule i m)) (act g (R .wheel) (schedule i m))
       (λ z. arms i m (R .wheel .entry i .deadline) (R .wheel .lists .free) refl
-      (ready (R .wheel .enabled) (isOpen (R .wheel .advance)) (rest (rest (rest (rows g (R .wheel) (schedule i m))))) z .1))
+      (ready (R .wheel .enabled) (isOpen (R .wheel .advance)) (rest (rest (rest (rows (testsOf g true (R .wheel)) (schedule i m))))) z .1))
   each-call (reschedule y m j) f =
       refused-keeps (reschedule y m j) (refusal g (R .wheel) (reschedule y m j)) (act g (R .wheel) (reschedule y m j))
       (λ z.

@@ -1,6 +1,7 @@
 -- 01's table of levels, and its run examples of the wheel, computed by the rules. (W1 to W9 stand in the crate worked.)
 use Prim.Native.Nat.{ℕ, _+_, _-_, _*_, _^_}
 use mathlib.Core.Path.{_≡_, refl}
+use mathlib.Core.Bool.{true}
 use mathlib.Core.Option.{none, some}
 use mathlib.Core.List.{List, [], _∷_}
 use Rattle.rules.specs.Geometry.{wheel01, tick, shifts, counts, buckets}
@@ -21,7 +22,7 @@ table-buckets = refl
 
 -- a wheel of 200 node records and 8 entries, first serial 7
 abbrev new : Run
-new = after wheel01 nothing (create 7 ∷ enable 200 8 ∷ [])
+new = after wheel01 nothing (create 7 ∷ enable 200 8 true ∷ [])
 
 -- "Deadline 10 armed at 0: advance to 2^30 - 1 gives End only; then to 2^30 gives Expired."
 pub deadline-10 :
@@ -62,7 +63,7 @@ stepped-back-reading = refl
 -- refusals, the lowest number first
 pub refusals :
     answers wheel01 nothing (
-    pull ∷ create 3 ∷ abandon ∷ enable 165 1 ∷ enable 166 1 ∷ enable 166 1 ∷ pull ∷ setEntry 1 none 0 ∷ schedule 1 0 ∷ schedule 0 4 ∷ schedule 0 0 ∷
+    pull ∷ create 3 ∷ abandon ∷ enable 165 1 true ∷ enable 166 1 true ∷ enable 166 1 true ∷ pull ∷ setEntry 1 none 0 ∷ schedule 1 0 ∷ schedule 0 4 ∷ schedule 0 0 ∷
     setEntry 0 (some 9) 4 ∷ schedule 0 4 ∷ schedule 0 4 ∷ reschedule 165 4 0 ∷ reschedule 165 3 0 ∷ start 5 ∷ reschedule 165 4 0 ∷ armedCount ∷ nextDue ∷
     abandon ∷
     setEntry 0 none 4 ∷ nextDue ∷ reschedule 165 3 4 ∷ deschedule 165 3 4 ∷ [])
@@ -74,7 +75,7 @@ refusals = refl
 
 -- 11, "next serial is 2^64 - 1"
 pub spent :
-    answers wheel01 nothing (create (2 ^ 64 - 1) ∷ enable 166 1 ∷ setEntry 0 (some 9) 0 ∷ schedule 0 0 ∷ []) ≡ ok ∷ ok ∷ ok ∷ refused 11 ∷ []
+    answers wheel01 nothing (create (2 ^ 64 - 1) ∷ enable 166 1 true ∷ setEntry 0 (some 9) 0 ∷ schedule 0 0 ∷ []) ≡ ok ∷ ok ∷ ok ∷ refused 11 ∷ []
 unfolding tick
 spent = refl
 
@@ -91,7 +92,7 @@ armed-twice = refl
 -- with it is a call on the timer that has it now
 pub given-again :
     answers wheel01 new (
-    setEntry 0 (some 10) 0 ∷ schedule 0 0 ∷ create 7 ∷ enable 200 8 ∷ deschedule 165 7 0 ∷ setEntry 0 (some 20) 0 ∷ schedule 0 0 ∷ nextDue ∷ deschedule 165 7 0
+    setEntry 0 (some 10) 0 ∷ schedule 0 0 ∷ create 7 ∷ enable 200 8 true ∷ deschedule 165 7 0 ∷ setEntry 0 (some 20) 0 ∷ schedule 0 0 ∷ nextDue ∷ deschedule 165 7 0
     ∷ nextDue ∷ [])
     ≡ ok ∷ handle 165 7 ∷ ok ∷ ok ∷ refused 12 ∷ ok ∷ handle 165 7 ∷ due (some 20) ∷ ok ∷ due none ∷ []
 unfolding tick

@@ -1,6 +1,6 @@
 -- What each call does: its answer and the wheel after it. 01, "Calls".
 use Prim.Native.Nat.{ℕ, zero, suc, _+_, _-_, min}
-use mathlib.Core.Bool.{true, false, cond}
+use mathlib.Core.Bool.{Bool, true, false, cond}
 use mathlib.Core.Option.{Option, none, some}
 use mathlib.Core.List.{List, [], _∷_}
 use Rattle.rules.specs.Geometry.{Geometry, buckets}
@@ -9,7 +9,7 @@ use Rattle.rules.specs.Visits.{visits}
 use Rattle.rules.specs.Lists.{Node, Lists, newNode, placedIn, update, link, unlink, release, claim, upwards, bare}
 use Rattle.rules.specs.Wheel.{Entry, Advance, closed, poised, within, Wheel, Call, create, enable, setEntry, schedule, reschedule, deschedule, start}
 use Rattle.rules.specs.Wheel.{pull, abandon, armedCount, nextDue, Answer, refused, ok, handle, removed, number, due}
-use Rattle.rules.specs.Refusals.{refusal}
+use Rattle.rules.specs.Refusals.{refusalIf, refusal}
 use Rattle.rules.specs.Pull.{Pulled, pulled}
 
 -- ---- a wheel with one thing changed
@@ -116,7 +116,7 @@ act g w (create n) = (
 )
 -- "Enable: sentinels placed, other slots free, no open advance, each entry set to no deadline, generation 0"; "at the
 -- start the lowest, 165 first"
-act g w (enable m k) = (
+act g w (enable m k fits) = (
   ok,
   record {
     enabled = true;
@@ -152,6 +152,10 @@ abbrev pub judged : ℕ → Answer × Wheel → Wheel → Answer × Wheel
 judged zero r w = r
 judged (suc k) r w = (refused (suc k), w)
 
--- a call: its answer, and the wheel after it
+-- a call on a wheel of which it is said whether it is sound: its answer, and the wheel after it
+abbrev pub stepIf : Geometry → Bool → Wheel → Call → Answer × Wheel
+stepIf g sound w c = judged (refusalIf g sound w c) (act g w c) w
+
+-- a call on a sound wheel
 abbrev pub step : Geometry → Wheel → Call → Answer × Wheel
 step g w c = judged (refusal g w c) (act g w c) w

@@ -9,16 +9,17 @@
 --
 -- A timer is its slot x and serial n; e is its entry, d its deadline, R the run just after it was armed. Each part
 -- speaks of every list of calls from there on.
-use Prim.Native.Nat.{ℕ, _+_, _≤_, _<_}
+use Prim.Native.Nat.{ℕ, _≤_, _<_}
 use mathlib.Core.Path.{_≡_}
 use mathlib.Core.Logic.{_⊎_}
 use mathlib.Core.Bool.{true}
 use mathlib.Core.Option.{some}
 use mathlib.Core.List.{List, [], _∷_, _++_}
-use Rattle.rules.specs.Geometry.{Geometry, tick, buckets}
+use Rattle.rules.specs.Geometry.{Geometry, buckets}
 use Rattle.rules.specs.Lists.{hit, times}
 use Rattle.rules.specs.Wheel.{Wheel, Call, create, enable, setEntry, schedule, reschedule, deschedule, start, pull, abandon, armedCount, nextDue, Answer}
 use Rattle.rules.specs.Wheel.{refused, ok, handle, removed, end, expired, rescheduled, number, due}
+use Rattle.rules.specs.Timers.{Changes, handsOut, handed, Later}
 use Rattle.rules.specs.Refusals.{isOpen, refusal}
 use Rattle.rules.specs.Calls.{origin, step}
 use Rattle.rules.specs.Runs.{Run, answer, next, answers, after}
@@ -28,7 +29,7 @@ use Rattle.rules.specs.Runs.{Run, answer, next, answers, after}
 -- handle that is not refused and does not remove
 abbrev pub Arms : Geometry → Wheel → Call → ℕ → ℕ → ℕ → ℕ → Type 0
 Arms g w (create m) x n e d = ⊥
-Arms g w (enable m k) x n e d = ⊥
+Arms g w (enable m k f) x n e d = ⊥
 Arms g w (setEntry i o h) x n e d = ⊥
 Arms g w (schedule i h) x n e d = (step g w (schedule i h) .0 ≡ handle x n) × (i ≡ e) × (w .entry e .deadline ≡ some d)
 Arms g w (reschedule y m h) x n e d =
@@ -40,63 +41,24 @@ Arms g w abandon x n e d = ⊥
 Arms g w armedCount x n e d = ⊥
 Arms g w nextDue x n e d = ⊥
 
--- "whose deadline is not in an earlier tick than the wheel's reading"
-abbrev pub Timely : Geometry → Wheel → ℕ → Type 0
-Timely g w d = tick (g .shift) (w .reading) ≤ tick (g .shift) d
-
--- A call that would change the timer or its deadline: one with its handle; a set entry that gives its entry another
--- deadline, or none; a create, which "begins another wheel, and the timers of the former one count as changed". To set
--- the same deadline again, with any generation, is no change.
-abbrev pub Changes : ℕ → ℕ → ℕ → ℕ → Call → Type 0
-Changes x n e d (create m) = Unit {0}
-Changes x n e d (enable m k) = ⊥
-Changes x n e d (setEntry i o h) = (i ≡ e) × (o ≡ some d → ⊥)
-Changes x n e d (schedule i h) = ⊥
-Changes x n e d (reschedule y m h) = (y ≡ x) × (m ≡ n)
-Changes x n e d (deschedule y m h) = (y ≡ x) × (m ≡ n)
-Changes x n e d (start q) = ⊥
-Changes x n e d pull = ⊥
-Changes x n e d abandon = ⊥
-Changes x n e d armedCount = ⊥
-Changes x n e d nextDue = ⊥
-
 -- "and change neither it nor its deadline afterwards": each call that would is refused. All other calls are free.
 abbrev pub Unchanged : Geometry → ℕ → ℕ → ℕ → ℕ → Run → List Call → Type 0
 Unchanged g x n e d R [] = Unit {0}
 Unchanged g x n e d R (c ∷ cs) =
     (Changes x n e d c → refusal g (R .wheel) c ≡ 0 → ⊥) × Unchanged g x n e d (next g R c) cs
 
--- ---- hand-outs
--- 1 where the answer hands out the timer with the serial n, else 0
-abbrev pub handsOut : ℕ → Answer → ℕ
-handsOut n (refused k) = 0
-handsOut n ok = 0
-handsOut n (handle x m) = 0
-handsOut n removed = 0
-handsOut n end = 0
-handsOut n (expired e m d) = hit n m
-handsOut n (rescheduled e m b) = 0
-handsOut n (number k) = 0
-handsOut n (due o) = 0
-
--- how often these answers hand it out
-abbrev pub handed : ℕ → List Answer → ℕ
-handed n [] = 0
-handed n (a ∷ rest) = handsOut n a + handed n rest
-
 -- "until it is handed out": the calls have not handed it out yet
 abbrev pub NotYet : Geometry → ℕ → Run → List Call → Type 0
 NotYet g n R cs = handed n (answers g R cs) ≡ 0
 
--- "in exactly one bucket": once in one of the wheel's buckets, and in no other
-abbrev pub InOneBucket : Geometry → ℕ → Wheel → Type 0
-InOneBucket g x w = (b : ℕ) × (b < buckets g) × ((c : ℕ) → times x (w .lists .bucket c) ≡ hit b c)
+-- "It stands in exactly one bucket": the timer's slot is armed, with its serial and its entry, and stands once in one of
+-- the wheel's buckets and in no other
+abbrev pub InOneBucket : Geometry → ℕ → ℕ → ℕ → Wheel → Type 0
+InOneBucket g x n e w =
+    (w .lists .node x .armed ≡ true) × (w .lists .node x .serial ≡ n) × (w .lists .node x .entry ≡ e) ×
+    ((b : ℕ) × (b < buckets g) × ((c : ℕ) → times x (w .lists .bucket c) ≡ hit b c))
 
 -- ---- advances
--- "enters a later tick than the one it started in", for an advance from p to q
-abbrev pub Later : Geometry → ℕ → ℕ → Type 0
-Later g p q = tick (g .shift) p < tick (g .shift) q
-
 -- each of the calls finds an advance open, and so does what comes after them
 abbrev pub StaysOpen : Geometry → Run → List Call → Type 0
 StaysOpen g R [] = isOpen (R .wheel .advance) ≡ true
@@ -141,7 +103,7 @@ AbandonedOneHad g n R cs =
 -- ---- the demand
 pub record Demand3 (g : Geometry) (x n e d : ℕ) (R : Run) : Type 0 where
   -- "It stands in exactly one bucket until it is handed out."
-  pub oneBucket : (cs : List Call) → Unchanged g x n e d R cs → NotYet g n R cs → InOneBucket g x (after g R cs .wheel)
+  pub oneBucket : (cs : List Call) → Unchanged g x n e d R cs → NotYet g n R cs → InOneBucket g x n e (after g R cs .wheel)
   -- "No advance to a reading before the deadline hands it out."
   pub notEarly :
       (cs : List Call) (q : ℕ) (ps : List Call) → Unchanged g x n e d R (cs ++ (start q ∷ ps)) → Advancing g (after g R cs) q ps → q < d

@@ -5,6 +5,7 @@ pub mod Place
 pub mod Visits
 pub mod Lists
 pub mod Wheel
+pub mod Timers
 pub mod Refusals
 pub mod Pull
 pub mod Calls

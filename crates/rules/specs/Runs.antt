@@ -17,7 +17,7 @@ pub record Run : Type 0 where
 -- that rescheduled
 abbrev pub rearms : Call → Option ℕ
 rearms (create n) = none
-rearms (enable m k) = none
+rearms (enable m k f) = none
 rearms (setEntry e o h) = none
 rearms (schedule e h) = none
 rearms (reschedule x n h) = some n

@@ -1,7 +1,7 @@
 -- What 01's worked numbers of the wheel say, as tests that compute: a place, and the tick in which a deadline first
 -- fires.
 use Prim.Native.Nat.{ℕ, zero, suc, _+_, _-_, _*_, _^_}
-use mathlib.Core.Bool.{Bool, false, cond}
+use mathlib.Core.Bool.{Bool, true, false, cond}
 use mathlib.Core.Option.{none, some}
 use mathlib.Core.List.{[], _∷_}
 use lib.Dec.{eqb}
@@ -10,7 +10,7 @@ use Rattle.rules.specs.Place.{placeOf}
 use Rattle.rules.specs.Lists.{bare}
 use Rattle.rules.specs.Wheel.{closed, create, enable, setEntry, schedule, start, pull}
 use Rattle.rules.specs.Runs.{Run, answers, after}
-use Rattle.rules.specs.Demand3.{handed}
+use Rattle.rules.specs.Timers.{handed}
 
 -- some run to begin with: create begins another wheel over whatever it holds
 abbrev pub nothing : Run
@@ -31,7 +31,7 @@ nothing = record {
 
 -- a wheel at the reading r, with one timer, due at d, armed there
 abbrev pub armedAt : ℕ → ℕ → Run
-armedAt r d = after wheel01 nothing (create 0 ∷ enable 166 1 ∷ start r ∷ pull ∷ setEntry 0 (some d) 0 ∷ schedule 0 0 ∷ [])
+armedAt r d = after wheel01 nothing (create 0 ∷ enable 166 1 true ∷ start r ∷ pull ∷ setEntry 0 (some d) 0 ∷ schedule 0 0 ∷ [])
 
 -- how often an advance to q, read to its end, hands it out
 abbrev pub firesAt : ℕ → ℕ → ℕ → ℕ
