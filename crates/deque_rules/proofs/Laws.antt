@@ -20,6 +20,8 @@ pub use Rattle.deque_rules.proofs.Members.{in-home, home-in, free-home,
 pub use Rattle.deque_rules.proofs.Swap.{slot-real, deq-once}
 -- ---- the lists are unique: those computed from the records
 pub use Rattle.deque_rules.proofs.Unique.{each-len, each-at, deq-is, free-is, listed-is, whole-listed}
+-- ---- the lists determine the links, but for the prev of a free slot
+pub use Rattle.deque_rules.proofs.Alike.{Alike, links-alike}
 -- ---- for a test that looks at more of each deque: deques walked one after another, and what the counts say at the end
 pub use Rattle.deque_rules.proofs.Judging.{Upto, begin, more, no-walk, no-walk-free, walk-counts, too-few, is-whole}
 -- ---- what the calls write, record by record

@@ -13,6 +13,7 @@ pub mod Laying
 pub mod Judging
 pub mod Unique
 pub mod Members
+pub mod Alike
 pub mod TurnRule
 pub mod Fields
 pub mod Laws
