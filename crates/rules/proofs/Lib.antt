@@ -11,6 +11,7 @@ pub mod Passing
 pub mod WaitingCalls
 pub mod PastCalls
 pub mod Positions
+pub mod Places
 pub mod SoundLists
 pub mod SoundCalls
 pub mod Arming

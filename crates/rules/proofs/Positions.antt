@@ -16,7 +16,7 @@ use Rattle.numbers.proofs.Cases.{below?}
 use Rattle.rules.proofs.Ticks.{tick-up-mono}
 use Rattle.rules.proofs.Placing.{visits-none, visited-covers}
 
-length-ring : (base m t k : ℕ) → length (ring base m t k) ≡ k
+pub length-ring : (base m t k : ℕ) → length (ring base m t k) ≡ k
 length-ring base m t zero = refl
 length-ring base m t (suc k) = ap suc (length-ring base m (suc t) k)
 
