@@ -1,3 +1,4 @@
 -- The laws of the wheel's public calls.
 pub mod Acting
 pub mod Calling
+pub mod Same
