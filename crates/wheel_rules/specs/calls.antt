@@ -2,4 +2,5 @@
 pub mod Answers
 pub mod Work
 pub mod Frame
+pub mod Promise
 pub mod Calls

@@ -1,7 +1,7 @@
 -- The records as enabling lays them out.
 use Prim.Native.Nat.{ℕ, zero, suc, _<_}
 use mathlib.Core.Path.{_≡_}
-use mathlib.Core.Bool.{Bool, false}
+use mathlib.Core.Bool.{Bool, true, false}
 use mathlib.Core.List.{List, []}
 use lib.ListN.{length, replicate}
 use Rattle.deque_rules.specs.Lists.{Links, Rep, allFree, pushBack}
@@ -79,4 +79,4 @@ pub record Lays (g : Geometry) (N : Nodes) (E : Entries) (c : Clock) (N′ : Nod
   pub clock-is : c′ ≡ enabledWith (length (N .links .heads)) (length (N .links .next)) (length (E .dated)) c
   pub does :
       (w : Wheel) → c .reading ≡ w .reading → c .serial ≡ w .next →
-      Shows g (records N′ E′ c′) (act g w (enable (length (N .links .next)) (length (E .dated))) .1)
+      Shows g (records N′ E′ c′) (act g w (enable (length (N .links .next)) (length (E .dated)) true) .1)

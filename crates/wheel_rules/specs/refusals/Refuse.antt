@@ -3,11 +3,14 @@
 use Prim.Native.Nat.{ℕ, _-_, _^_, _≤_, _<_}
 use mathlib.Core.Path.{_≡_}
 use mathlib.Core.Bool.{Bool, true, false}
+use mathlib.Core.Option.{none as nothing}
 use lib.ListN.{length, getD}
 use Rattle.deque_rules.specs.Chain.{none}
 use Rattle.deque_rules.specs.Lists.{homeOf}
-pub use Rattle.numbers.specs.Rows.{unless, answered}
+pub use Rattle.numbers.specs.Rows.{unless, answered, given}
 use Rattle.rules.specs.Geometry.{wheel01, buckets}
+use Rattle.rules.specs.Wheel.{Call, enable, setEntry, schedule, reschedule, pull, armedCount, nextDue}
+use Rattle.rules.specs.Refusals.{Tests, rows}
 use Rattle.wheel_rules.specs.records.Records.{Records}
 use Rattle.wheel_rules.specs.sound.Clauses.{Ranges, EndsLengths, NodesLengths, EntriesLengths}
 use Rattle.wheel_rules.specs.sound.Sound.{SoundRecords}
@@ -70,31 +73,52 @@ pub record Lendable (R : Records) : Type 0 where
 abbrev pub making : Bool → Type 0 → (ℕ → Type 0) → ℕ → Type 0
 making enabled lendable more = unless (enabled ≡ false) 2 (unless lendable 3 more)
 
--- ---- the rows of each call (create has none)
+-- ---- the rows of each call: the rules' rows, with these tests of the records
+abbrev pub testsOn : Records → Tests (Type 0)
+testsOn R = record {
+  enabled = R .clock .enabled ≡ true;
+  off = R .clock .enabled ≡ false;
+  lendable = λ m k fits. Lendable R;
+  sound = SoundRecords wheel01 R;
+  quiet = R .clock .open ≡ false;
+  busy = R .clock .open ≡ true;
+  entry = λ e. e < R .clock .entries;
+  generation = λ e h. getD (R .entries .generation) e 0 ≡ h;
+  dated = λ e. getD (R .entries .dated) e false ≡ true;
+  room = R .clock .free ≡ none → ⊥;
+  serial = R .clock .serial ≡ 2 ^ 64 - 1 → ⊥;
+  live = λ x n. Live R x n;
+  arming = λ x h. getD (R .nodes .generation) x 0 ≡ h;
+}
+
+-- k is the number that the call is refused with, or 0
+abbrev pub rowsOn : Records → Call → ℕ → Type 0
+rowsOn R c = given (rows (testsOn R) c)
+
 abbrev pub enableRows : Records → ℕ → Type 0
-enableRows R = making (R .clock .enabled) (Lendable R) answered
+enableRows R = rowsOn R (enable 0 0 true)
 
 abbrev pub setRows : Records → ℕ → ℕ → Type 0
-setRows R e = entered R e answered
+setRows R e = rowsOn R (setEntry e nothing 0)
 
 abbrev pub scheduleRows : Records → ℕ → ℕ → ℕ → Type 0
-scheduleRows R e h = dated R e h (roomy R answered)
+scheduleRows R e h = rowsOn R (schedule e h)
 
 -- reschedule, deschedule
 abbrev pub handleRows : Records → ℕ → ℕ → ℕ → ℕ → Type 0
-handleRows R x n h = handled R x n h answered
+handleRows R x n h = rowsOn R (reschedule x n h)
 
 -- start, next due
 abbrev pub closedRows : Records → ℕ → Type 0
-closedRows R = closed R answered
+closedRows R = rowsOn R nextDue
 
 -- pull, abandon
 abbrev pub openRows : Records → ℕ → Type 0
-openRows R = opened R answered
+openRows R = rowsOn R pull
 
 -- armed count
 abbrev pub countRows : Records → ℕ → Type 0
-countRows R = standing R answered
+countRows R = rowsOn R armedCount
 
 -- ---- r is the number that the rows give
 pub record RefusesEnable (R : Records) (r : ℕ) : Type 0 where
