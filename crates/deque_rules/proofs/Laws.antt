@@ -27,6 +27,8 @@ pub use Rattle.deque_rules.proofs.Judging.{Upto, begin, more, no-walk, 
 -- ---- what the calls write, record by record
 -- the homes after each call
 pub use Rattle.deque_rules.proofs.Fields.{home-linked, home-removed, home-moved, home-turned}
+-- the prev of a free slot stays; that of a slot freed is none
+pub use Rattle.deque_rules.proofs.Idle.{idle-linked, idle-moved, idle-removed, idle-turned, prev-removed}
 -- a slot linked at the back: the ends and its links, for a deque that was empty all of them
 pub use Rattle.deque_rules.proofs.Fields.{heads-long, next-long, tails-linked, prev-linked, heads-alone, next-alone}
 -- records laid out

@@ -16,6 +16,7 @@ pub mod Members
 pub mod Alike
 pub mod TurnRule
 pub mod Fields
+pub mod Idle
 pub mod Laws
 pub mod Moving
 pub mod Walking
