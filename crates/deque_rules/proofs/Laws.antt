@@ -2,8 +2,8 @@
 -- ---- the calls, on whatever lists the records stand for
 -- push, remove, move to the back: the records that they make stand for the lists changed so
 pub use Rattle.deque_rules.proofs.Pushing.{push-rep, remove-rep, move-rep}
--- a turn of a deque whose last is asked for writes nothing
-pub use Rattle.deque_rules.proofs.Turning.{turn-stays}
+-- so do those of a turn; a turn of a deque whose last is asked for writes nothing
+pub use Rattle.deque_rules.proofs.Turning.{turn-rep, turn-stays}
 -- records laid out stand for empty deques and free slots
 pub use Rattle.deque_rules.proofs.Laying.{fresh-rep}
 -- ---- what may be read

@@ -261,6 +261,11 @@ module _ (a : Links) (v : Lists) (loose : List ℕ) (d s : ℕ) (r : Rep a v loo
   pub turn-same : q ≡ none → Rep a (turn d s v) loose
   turn-same e = rw (last-same e, set-getD (v .held) d []) r
 
+  pub turn-rep : Rep (turnTo a d s) (turn d s v) loose
+  unfolding turnTo
+  turn-rep =
+      ⊎-elim (λ (e : q ≡ none). simp (eq-eqb q none e) (turn-same e)) (λ (n : q ≡ none → ⊥). simp (ne-eqb q none n) (turn-now n)) (same? q none)
+
 -- ---- what `turn` needs: the old tail and head, and the slot after s, are slots; the index, and the index in bytes
 module _ (h t n p o : List ℕ) (d s : ℕ) (k : HeldBy (links h t n p o) d s) where
   pub tail-index : getD t d 0 < length n

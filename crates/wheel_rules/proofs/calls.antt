@@ -2,3 +2,5 @@
 pub mod Acting
 pub mod Calling
 pub mod Same
+pub mod Keeping
+pub mod Framing
