@@ -6,6 +6,8 @@ pub use Rattle.deque_rules.proofs.Pushing.{push-rep, remove-rep, move-r
 pub use Rattle.deque_rules.proofs.Turning.{turn-rep, turn-stays}
 -- records laid out stand for empty deques and free slots
 pub use Rattle.deque_rules.proofs.Laying.{fresh-rep}
+-- the contracts of these calls, of what they write alone
+pub use Rattle.deque_rules.proofs.Doing.{pushes, removes, moves, turns, lays}
 -- ---- what may be read
 -- the head is the first, the tail the last, the next of a member the one after it
 pub use Rattle.deque_rules.proofs.Reading.{head-is, tail-is, next-is}

@@ -17,6 +17,7 @@ pub mod Alike
 pub mod TurnRule
 pub mod Fields
 pub mod Idle
+pub mod Doing
 pub mod Laws
 pub mod Moving
 pub mod Walking

@@ -4,3 +4,4 @@ pub mod Calling
 pub mod Same
 pub mod Keeping
 pub mod Framing
+pub mod Doing

@@ -30,7 +30,7 @@ use Rattle.wheel_rules.specs.sound.Shown.{shown}
 use Rattle.wheel_rules.proofs.sound.Showing.{sound-shows, shown-sound}
 use Rattle.wheel_rules.specs.refusals.Lent.{lent}
 use Rattle.wheel_rules.specs.refusals.Refuse.{unless, answered, roomy, Live, Lendable, RefusesEnable, RefusesCount, RefusesClosed, RefusesOpen}
-use Rattle.wheel_rules.specs.refusals.Refuse.{RefusesSet, RefusesSchedule, RefusesHandle}
+use Rattle.wheel_rules.specs.refusals.Refuse.{scheduleRows, RefusesSet, RefusesSchedule, RefusesHandle}
 use Rattle.wheel_rules.proofs.refusals.Rows.{past, standing-past, closed-past}
 use Rattle.wheel_rules.proofs.refusals.Refusing.{stamp-at, dated-at, deadline-at}
 
@@ -38,7 +38,7 @@ use Rattle.wheel_rules.proofs.refusals.Refusing.{stamp-at, dated-at, de
 small : (x : ℕ) → x < 4096 → Fits w64 (x * 8)
 small x h = scaled-fits x 4096 8 h (omega arith)
 
-ready : (N : Nodes) (E : Entries) (c : Clock) → c .enabled ≡ true → SoundRecords wheel01 (records N E c) → Ready wheel01 (records N E c)
+pub ready : (N : Nodes) (E : Entries) (c : Clock) → c .enabled ≡ true → SoundRecords wheel01 (records N E c) → Ready wheel01 (records N E c)
 ready N E c e s =
     record { w = shown wheel01 (records N E c); shows = sound-shows wheel01 (records N E c) s e; sound = shown-sound wheel01 (records N E c) s }
 
@@ -81,17 +81,21 @@ pub record Schedulable (N : Nodes) (E : Entries) (c : Clock) (e : ℕ) : Type 0 
   pub free : c .free ≡ noSlot → ⊥
   pub more : c .serial ≡ 2 ^ 64 - 1 → ⊥
 
-pub schedulable : (N : Nodes) (E : Entries) (c : Clock) (e h k : ℕ) → RefusesSchedule (records N E c) e h k → k ≡ 0 → Schedulable N E c e
-schedulable N E c e h k f z =
-    let R : Records = records N E c in
+pub schedulable-by : (R : Records) (e h k : ℕ) → scheduleRows R e h k → k ≡ 0 → Schedulable (R .nodes) (R .entries) (R .clock) e
+schedulable-by R e h k f z =
+    let c : Clock = R .clock in
+    let E : Entries = R .entries in
     let u = closed-past R (unless (e < c .entries) 7 (unless (getD (E .generation) e 0 ≡ h) 8 (unless (getD (E .dated) e false ≡ true) 9 (roomy R answered))))
-    k (f .by) z in
+    k f z in
     let v = past 7 k (u .3) (λ i. omega (arith, z, i)) in
     let a = past 8 k (v .1) (λ i. omega (arith, z, i)) in
     let b = past 9 k (a .1) (λ i. omega (arith, z, i)) in
     let r = past 10 k (b .1) (λ i. omega (arith, z, i)) in
     let q = past 11 k (r .1) (λ i. omega (arith, z, i)) in
     record { enabled = u .0; sound = u .1; entry = v .0; dated = b .0; free = r .0; more = q .0 }
+
+pub schedulable : (N : Nodes) (E : Entries) (c : Clock) (e h k : ℕ) → RefusesSchedule (records N E c) e h k → k ≡ 0 → Schedulable N E c e
+schedulable N E c e h k f z = schedulable-by (records N E c) e h k (f .by) z
 
 pub arm-ready : (N : Nodes) (E : Entries) (c : Clock) (e h k : ℕ) → RefusesSchedule (records N E c) e h k → k ≡ 0 → ArmReady wheel01 N c
 arm-ready N E c e h k f z =

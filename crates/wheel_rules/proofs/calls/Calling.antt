@@ -63,7 +63,7 @@ pub stands-of : (R : Records) (w : Wheel) → Shows wheel01 R w → Stands wheel
 stands-of R w s =
     record { enabled = s .is-enabled ∙ sym (s .enabled); reading = s .reading; next = s .next; shows = λ _. s }
 
-lift : (c : Call) (R R′ : Records) (a : Answer) → R .clock .enabled ≡ true
+pub lift : (c : Call) (R R′ : Records) (a : Answer) → R .clock .enabled ≡ true
     → ((w : Wheel) → Shows wheel01 R w → Sound wheel01 w → (act wheel01 w c .0 ≡ a) × Shows wheel01 R′ (act wheel01 w c .1)) → Acts c R R′ a
 lift c R R′ a e f w t o =
     let on : w .enabled ≡ true = sym (t .enabled) ∙ e in
@@ -153,7 +153,7 @@ module _ (a : Links) (pe pg ps : List ℕ) (E : Entries) (c : Clock) (x n h k : 
       }
 
 -- ---- set entry
-same-option : (t : Bool) (j d : ℕ) → j ≡ cond t d 0 → cond t (some j) none ≡ cond t (some d) none
+pub same-option : (t : Bool) (j d : ℕ) → j ≡ cond t d 0 → cond t (some j) none ≡ cond t (some d) none
 same-option true j d e = ap some e
 same-option false j d e = refl
 

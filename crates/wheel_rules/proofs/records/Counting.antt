@@ -97,10 +97,10 @@ module _ (g : Geometry) (N : Nodes) (E : Entries) (c : Clock) (w : Wheel) (s : S
   homes-are : length (N .links .home) ≡ w .nodes
   homes-are = s .rep .home-len ∙ s .slots
 
-  count-same : armedBelow (w .lists .node) (w .nodes) ≡ armedAmong (length (N .links .heads)) (N .links .home) (length (N .links .home))
+  pub count-same : armedBelow (w .lists .node) (w .nodes) ≡ armedAmong (length (N .links .heads)) (N .links .home) (length (N .links .home))
   count-same = rw (heads-are, homes-are) (armed-same (w .nodes) (omega arith))
 
-  due-same : leastKey g w (w .nodes) ≡ leastAmong (length (N .links .heads)) (N .links .home) (N .entry) (E .dated) (E .deadline) (length (N .links .home))
+  pub due-same : leastKey g w (w .nodes) ≡ leastAmong (length (N .links .heads)) (N .links .home) (N .entry) (E .dated) (E .deadline) (length (N .links .home))
   due-same = rw (heads-are, homes-are) (least-same (w .nodes) (omega arith))
 
 pub counted-all : (h bucket : List ℕ) (n x : ℕ) → Counting (length h) bucket n x → length bucket ≤ x → Counts wheel01 h bucket n

@@ -32,18 +32,7 @@ joined : {a a′ : Links} {e e′ h h′ n n′ : List ℕ} → a ≡ a′ → e
 joined p q r s = rw (p, q, r, s) refl
 
 -- ---- arm
-module _ (h t n p o e γ s : List ℕ) (c : Clock) (y : ArmReady wheel01 (nodes h t n p o e γ s) c) (d f b : ℕ) (i : InBucket (c .reading) d b) where
-  pub arm-asks : Pushable (links h t n p o) (c .free) b
-  arm-asks =
-      let z = y .ready .shows in
-      record {
-        v = z .lists;
-        rep = z .rep;
-        free-is = z .free-is;
-        slot = omega (arith, y .slot, z .rep .next-len);
-        deque = omega (arith, i .is, bucketOf-in wheel01 (c .reading) d, z .count);
-      }
-
+module _ (h t n p o e γ s : List ℕ) (c : Clock) (d f b : ℕ) (i : InBucket (c .reading) d b) where
   module _ (h′ t′ n′ p′ o′ e′ γ′ s′ : List ℕ) (i′ j : ℕ) (w : Writes e γ s e′ γ′ s′ (c .free) i′ j (c .serial))
       (l : PushesBack (links h t n p o) (links h′ t′ n′ p′ o′) (c .free) b f) where
     abbrev N : Nodes
@@ -55,7 +44,7 @@ module _ (h t n p o e γ s : List ℕ) (c : Clock) (y : ArmReady wheel01 (nodes 
     arm-is : N′ ≡ armedIn (bucketOf wheel01 (c .reading) d) (c .free) i′ j (c .serial) N
     arm-is = joined (l .is ∙ ap (λ (k : ℕ). linkBack (links h t n p o) k (c .free)) (i .is)) (w .entry-is) (w .generation-is) (w .serial-is)
 
-    arm-shows : (E : Entries) (W : Wheel) → Shows wheel01 (records N E c) W → Sound wheel01 W → W .entry i′ .deadline ≡ some d
+    pub arm-shows : (E : Entries) (W : Wheel) → Shows wheel01 (records N E c) W → Sound wheel01 W → W .entry i′ .deadline ≡ some d
         → (act wheel01 W (schedule i′ j) .0 ≡ handle (c .free) (c .serial)) × Shows wheel01 (records N′ E (counted f c)) (act wheel01 W (schedule i′ j) .1)
     arm-shows E W z q due =
         let x : ℕ = c .free in
@@ -83,14 +72,30 @@ module _ (h t n p o e γ s : List ℕ) (c : Clock) (y : ArmReady wheel01 (nodes 
               (withNext (suc (W .next)) (withLists (link b x (newNode b i′ j m) (claim fs (W .lists))) W))) (z .next) sh),
         )
 
-    pub arm-does : Arms wheel01 N c N′ (record { clock = counted f c; slot = c .free; serial = c .serial }) i′ j d
+-- what `arm` asks of its steps, and its contract
+module _ (h t n p o e γ s : List ℕ) (c : Clock) (y : ArmReady wheel01 (nodes h t n p o e γ s) c) (d f b : ℕ) (i : InBucket (c .reading) d b) where
+  pub arm-asks : Pushable (links h t n p o) (c .free) b
+  arm-asks =
+      let z = y .ready .shows in
+      record {
+        v = z .lists;
+        rep = z .rep;
+        free-is = z .free-is;
+        slot = omega (arith, y .slot, z .rep .next-len);
+        deque = omega (arith, i .is, bucketOf-in wheel01 (c .reading) d, z .count);
+      }
+
+  module _ (h′ t′ n′ p′ o′ e′ γ′ s′ : List ℕ) (i′ j : ℕ) (w : Writes e γ s e′ γ′ s′ (c .free) i′ j (c .serial))
+      (l : PushesBack (links h t n p o) (links h′ t′ n′ p′ o′) (c .free) b f) where
+    pub arm-does : Arms wheel01 (nodes h t n p o e γ s) c (nodes h′ t′ n′ p′ o′ e′ γ′ s′)
+        (record { clock = counted f c; slot = c .free; serial = c .serial }) i′ j d
     arm-does =
         record {
-          is = arm-is;
+          is = arm-is h t n p o e γ s c d f b i h′ t′ n′ p′ o′ e′ γ′ s′ i′ j w l;
           clock-is = ap (λ (m : ℕ). counted m c) (l .free-is);
           slot-is = refl;
           serial-is = refl;
-          does = arm-shows;
+          does = arm-shows h t n p o e γ s c d f b i h′ t′ n′ p′ o′ e′ γ′ s′ i′ j w l;
         }
 
 -- ---- disarm
