@@ -1,3 +1,4 @@
 -- The laws of the turns up to a pull's answer.
 pub mod Pulling
 pub mod Skipping
+pub mod Doing

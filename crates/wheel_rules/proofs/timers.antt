@@ -1,2 +1,3 @@
 -- The laws of arming, disarming and rearming.
 pub mod Timing
+pub mod Doing

@@ -2,3 +2,4 @@
 pub mod Looking
 pub mod Going
 pub mod Taking
+pub mod Doing

@@ -10,7 +10,7 @@ use Rattle.deque_rules.specs.Change.{linkBack, removed, moveBack, Pushable, Pus
 use Rattle.deque_rules.proofs.Laws.{first-in, pushes, removes, moves}
 use Rattle.rules.specs.Geometry.{wheel01, buckets}
 use Rattle.rules.specs.Place.{bucketOf}
-use Rattle.rules.specs.Wheel.{Wheel, setEntry, schedule, reschedule, deschedule, start, abandon, armedCount, nextDue, Answer, ok, number, due}
+use Rattle.rules.specs.Wheel.{Wheel, setEntry, schedule, reschedule, deschedule, start, pull, abandon, armedCount, nextDue, Answer, ok, number, due}
 use Rattle.rules.specs.Wheel.{removed as removedAnswer}
 use Rattle.rules.specs.Calls.{act, rearmed}
 use Rattle.rules.proofs.Placing.{bucketOf-in}
@@ -22,18 +22,21 @@ use Rattle.wheel_rules.specs.records.Clocks.{setFree, ended}
 use Rattle.wheel_rules.specs.records.Settings.{EntryReady}
 use Rattle.wheel_rules.specs.timers.Change.{written, freedFrom, Writes}
 use Rattle.wheel_rules.specs.timers.Timers.{Ready, SlotReady, MoveReady, Disarms, Rearms}
+use Rattle.wheel_rules.specs.popping.Pop.{TurnReady}
 use Rattle.wheel_rules.specs.refusals.Refuse.{answered, unless, setRows, scheduleRows, handleRows, closedRows, openRows, countRows}
 use Rattle.wheel_rules.specs.refusals.Refuse.{RefusesSet, RefusesHandle}
 use Rattle.wheel_rules.specs.calls.Work.{entrySet, deadlineAt, scheduled, handleOf, descheduled, moved, hasDeadline, rescheduled, rescheduleSays}
-use Rattle.wheel_rules.specs.calls.Work.{entryOf, opened, left, armedSays, nextSays}
+use Rattle.wheel_rules.specs.calls.Work.{entryOf, opened, left, pulled, pullSays, armedSays, nextSays}
 use Rattle.wheel_rules.specs.calls.Calls.{Acts}
 use Rattle.wheel_rules.proofs.records.Setting.{sets-does}
 use Rattle.wheel_rules.proofs.records.Retiming.{start-does, end-does, abandon-does}
 use Rattle.wheel_rules.proofs.records.Counting.{count-same, due-same}
-use Rattle.wheel_rules.proofs.timers.Timing.{arm-shows, disarm-asks, disarm-does, rearm-asks, rearm-does}
+use Rattle.wheel_rules.proofs.timers.Timing.{arm-shows}
+use Rattle.wheel_rules.proofs.timers.Doing.{disarms, rearms}
+use Rattle.wheel_rules.proofs.pull.Doing.{pull-does}
 use Rattle.wheel_rules.proofs.refusals.Rows.{past, standing-past, closed-past}
 use Rattle.wheel_rules.proofs.refusals.Refusing.{set-past}
-use Rattle.wheel_rules.proofs.calls.Acting.{Schedulable, schedulable-by, ready, Handled, handled-by, slot-ready, entry-ready, deadline-is, held-is}
+use Rattle.wheel_rules.proofs.calls.Acting.{Schedulable, schedulable-by, ready, Handled, handled-by, slot-ready, entry-ready, turn-ready, deadline-is, held-is}
 use Rattle.wheel_rules.proofs.calls.Calling.{lift, same-option}
 
 -- ---- schedule
@@ -71,24 +74,6 @@ pub schedule-acts : (R : Records) (e h : ℕ) → scheduleRows R e h 0 → Acts 
 schedule-acts R e h f = schedule-lifts R e h (schedulable-by R e h 0 f refl)
 
 -- ---- deschedule, reschedule
--- a slot unlinked and freed
-pub disarms : (N : Nodes) (c : Clock) (x : ℕ) → SlotReady wheel01 N c x → Disarms wheel01 N c (freedFrom x (c .free) N) (setFree x c) x
-disarms N c x y =
-    let a : Links = N .links in
-    let b : Links = removed a (c .free) x in
-    let M : Nodes = written x 0 0 0 N in
-    disarm-does (a .heads) (a .tails) (a .next) (a .prev) (a .home) (N .entry) (N .generation) (N .serial) c x y
-    (b .heads) (b .tails) (b .next) (b .prev) (b .home) (M .entry) (M .generation) (M .serial)
-    (removes a (c .free) x (disarm-asks (a .heads) (a .tails) (a .next) (a .prev) (a .home) (N .entry) (N .generation) (N .serial) c x y))
-    (record { entry-is = refl; generation-is = refl; serial-is = refl })
-
--- a slot placed by a deadline
-pub rearms : (a : Links) (r x d : ℕ) → MoveReady wheel01 a r x → Rearms wheel01 a (moveBack a (bucketOf wheel01 r d) x) r x d
-rearms a r x d y =
-    let b : ℕ = bucketOf wheel01 r d in
-    let i : InBucket r d b = record { is = refl } in
-    rearm-does a r x y d b i (moveBack a b x) (moves a b x (rearm-asks a r x y d b i))
-
 module _ (R : Records) (x n h : ℕ) (f : handleRows R x n h 0) where
   refuses : RefusesHandle R x n h 0
   refuses = record { by = f }
@@ -165,3 +150,12 @@ pub due-acts : (R : Records) → closedRows R 0 → Acts nextDue R R (nextSays R
 due-acts R f =
     lift nextDue R R (nextSays R) (closed-past R answered 0 f refl .0)
     (λ w t o. (ap due (due-same wheel01 (R .nodes) (R .entries) (R .clock) w t o), t))
+
+-- ---- pull
+pub pull-acts : (R : Records) → openRows R 0 → Acts pull R (pulled R) (pullSays R)
+pull-acts R f =
+    let E : Entries = R .entries in
+    let y : TurnReady wheel01 (R .nodes) (E .dated) (E .deadline) (R .clock) =
+    turn-ready (R .nodes) (E .dated) (E .deadline) (E .generation) (R .clock) 0 (record { by = f }) refl in
+    lift pull R (pulled R) (pullSays R) (open-past R f .0)
+    (λ w t o. pull-does (R .nodes) (E .dated) (E .deadline) (R .clock) y (E .generation) w t o)
