@@ -3,3 +3,4 @@ pub mod Clearing
 pub mod Seating
 pub mod Bare
 pub mod Ends
+pub mod Doing

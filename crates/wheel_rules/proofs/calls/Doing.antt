@@ -10,7 +10,7 @@ use Rattle.deque_rules.specs.Change.{linkBack, removed, moveBack, Pushable, Pus
 use Rattle.deque_rules.proofs.Laws.{first-in, pushes, removes, moves}
 use Rattle.rules.specs.Geometry.{wheel01, buckets}
 use Rattle.rules.specs.Place.{bucketOf}
-use Rattle.rules.specs.Wheel.{Wheel, setEntry, schedule, reschedule, deschedule, start, pull, abandon, armedCount, nextDue, Answer, ok, number, due}
+use Rattle.rules.specs.Wheel.{Wheel, enable, setEntry, schedule, reschedule, deschedule, start, pull, abandon, armedCount, nextDue, Answer, ok, number, due}
 use Rattle.rules.specs.Wheel.{removed as removedAnswer}
 use Rattle.rules.specs.Calls.{act, rearmed}
 use Rattle.rules.proofs.Placing.{bucketOf-in}
@@ -22,22 +22,30 @@ use Rattle.wheel_rules.specs.records.Clocks.{setFree, ended}
 use Rattle.wheel_rules.specs.records.Settings.{EntryReady}
 use Rattle.wheel_rules.specs.timers.Change.{written, freedFrom, Writes}
 use Rattle.wheel_rules.specs.timers.Timers.{Ready, SlotReady, MoveReady, Disarms, Rearms}
+use Rattle.wheel_rules.specs.layout.Layout.{LayReady}
 use Rattle.wheel_rules.specs.popping.Pop.{TurnReady}
-use Rattle.wheel_rules.specs.refusals.Refuse.{answered, unless, setRows, scheduleRows, handleRows, closedRows, openRows, countRows}
+use Rattle.wheel_rules.specs.refusals.Refuse.{answered, unless, enableRows, setRows, scheduleRows, handleRows, closedRows, openRows, countRows}
 use Rattle.wheel_rules.specs.refusals.Refuse.{RefusesSet, RefusesHandle}
 use Rattle.wheel_rules.specs.calls.Work.{entrySet, deadlineAt, scheduled, handleOf, descheduled, moved, hasDeadline, rescheduled, rescheduleSays}
-use Rattle.wheel_rules.specs.calls.Work.{entryOf, opened, left, pulled, pullSays, armedSays, nextSays}
+use Rattle.wheel_rules.specs.calls.Work.{laidOut, entryOf, opened, left, pulled, pullSays, armedSays, nextSays}
 use Rattle.wheel_rules.specs.calls.Calls.{Acts}
 use Rattle.wheel_rules.proofs.records.Setting.{sets-does}
 use Rattle.wheel_rules.proofs.records.Retiming.{start-does, end-does, abandon-does}
 use Rattle.wheel_rules.proofs.records.Counting.{count-same, due-same}
 use Rattle.wheel_rules.proofs.timers.Timing.{arm-shows}
 use Rattle.wheel_rules.proofs.timers.Doing.{disarms, rearms}
+use Rattle.wheel_rules.proofs.layout.Doing.{lay-does}
 use Rattle.wheel_rules.proofs.pull.Doing.{pull-does}
 use Rattle.wheel_rules.proofs.refusals.Rows.{past, standing-past, closed-past}
 use Rattle.wheel_rules.proofs.refusals.Refusing.{set-past}
-use Rattle.wheel_rules.proofs.calls.Acting.{Schedulable, schedulable-by, ready, Handled, handled-by, slot-ready, entry-ready, turn-ready, deadline-is, held-is}
-use Rattle.wheel_rules.proofs.calls.Calling.{lift, same-option}
+use Rattle.wheel_rules.proofs.calls.Acting.{lay-ready, Schedulable, schedulable-by, ready, Handled, handled-by, slot-ready, entry-ready, turn-ready, deadline-is, held-is}
+use Rattle.wheel_rules.proofs.calls.Calling.{stands-of, lift, same-option}
+
+-- ---- enable
+pub enable-acts : (R : Records) → enableRows R 0 → Acts (enable (length (R .nodes .links .next)) (length (R .entries .dated))) R (laidOut R) ok
+enable-acts R f w t o =
+    let y : LayReady wheel01 (R .nodes) (R .entries) = lay-ready (R .nodes) (R .entries) (R .clock) 0 (record { by = f }) refl in
+    (refl, stands-of (laidOut R) _ (lay-does (R .nodes) (R .entries) (R .clock) y w (t .reading) (t .next)))
 
 -- ---- schedule
 module _ (R : Records) (e h : ℕ) (s : Schedulable (R .nodes) (R .entries) (R .clock) e) where
