@@ -1,5 +1,6 @@
 -- The laws of the wheel's public calls.
 pub mod Acting
+pub mod Deciding
 pub mod Calling
 pub mod Same
 pub mod Keeping

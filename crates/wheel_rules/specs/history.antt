@@ -1,2 +1,3 @@
 -- Histories of calls.
+pub mod Tells
 pub mod History

@@ -1,76 +1,58 @@
--- The promise of each public call: its refusal, or what it answers and every record afterwards; and that it does what
--- the rules say.
+-- inner: what each call writes and answers, as equations on the records (specs/calls/Work.antt). The code is proved to
+-- meet them; that they and the promise (specs/calls/Promise.antt) say the same is proved in proofs/calls/Promising.antt.
 use Prim.Native.Nat.{ℕ}
 use mathlib.Core.Path.{_≡_}
-use mathlib.Core.Bool.{Bool, cond}
-use mathlib.Core.Option.{none, some}
-use mathlib.Core.List.{List}
-use lib.ListN.{length}
+use mathlib.Core.Bool.{not}
 use Rattle.rules.specs.Geometry.{wheel01}
-use Rattle.rules.specs.Wheel.{Wheel, Call, enable, setEntry, schedule, reschedule, deschedule, start, pull, abandon, armedCount, nextDue, Answer, refused, ok}
+use Rattle.rules.specs.Wheel.{Wheel, Call, create, enable, setEntry, schedule, reschedule, deschedule, start, pull, abandon, armedCount, nextDue, Answer}
+use Rattle.rules.specs.Wheel.{refused, ok}
+use Rattle.rules.specs.Refusals.{isNone}
 use Rattle.rules.specs.Calls.{act}
 use Rattle.rules.specs.Sound.{SoundIfEnabled}
-use Rattle.wheel_rules.specs.declared.records.Clock.{Clock}
 use Rattle.wheel_rules.specs.records.Records.{Records}
 use Rattle.wheel_rules.specs.records.Shows.{Stands}
-use Rattle.wheel_rules.specs.declared.calls.Timed.{Timed}
-use Rattle.wheel_rules.specs.declared.calls.Noted.{Noted}
-use Rattle.wheel_rules.specs.declared.calls.Scheduled.{Scheduled}
-use Rattle.wheel_rules.specs.declared.calls.Rescheduled.{Rescheduled}
-use Rattle.wheel_rules.specs.declared.calls.Pulled.{Pulled}
-use Rattle.wheel_rules.specs.declared.calls.Counted.{Counted}
-use Rattle.wheel_rules.specs.declared.calls.Due.{Due}
-use Rattle.wheel_rules.specs.calls.Answers.{timedSays, notedSays, scheduledSays, rescheduledSays, pulledSays, countedSays, dueSays}
-use Rattle.wheel_rules.specs.refusals.Refuse.{enableRows, setRows, scheduleRows, handleRows, closedRows, openRows, countRows}
-use Rattle.wheel_rules.specs.calls.Work.{createdClock, emptyEnds, laidOut, entrySet, scheduled, handleOf, descheduled, rescheduled, rescheduleSays}
+use Rattle.wheel_rules.specs.refusals.Refuse.{rowsOn}
+use Rattle.wheel_rules.specs.calls.Work.{created, laidOut, entrySet, scheduled, handleOf, descheduled, rescheduled, rescheduleSays}
 use Rattle.wheel_rules.specs.calls.Work.{opened, pulled, pullSays, left, armedSays, nextSays}
+use Rattle.wheel_rules.specs.calls.Promise.{orZero}
+
+-- every record after a call that is not refused
+abbrev pub written : Call → Records → Records
+written (create n) R = created R n
+written (enable m k f) R = laidOut R
+written (setEntry e o h) R = entrySet R e (not (isNone o)) (orZero o) h
+written (schedule e h) R = scheduled R e h
+written (reschedule x n h) R = rescheduled R x
+written (deschedule x n h) R = descheduled R x
+written (start q) R = opened R q
+written pull R = pulled R
+written abandon R = left R
+written armedCount R = R
+written nextDue R = R
+
+-- what it answers
+abbrev pub says : Call → Records → Answer
+says (create n) R = ok
+says (enable m k f) R = ok
+says (setEntry e o h) R = ok
+says (schedule e h) R = handleOf R
+says (reschedule x n h) R = rescheduleSays R x
+says (deschedule x n h) R = ok
+says (start q) R = ok
+says pull R = pullSays R
+says abandon R = ok
+says armedCount R = armedSays R
+says nextDue R = nextSays R
 
 -- what the rules' call c is on every wheel that the records stand for: this answer, and these records afterwards
 abbrev pub Acts : Call → Records → Records → Answer → Type 0
 Acts c R R′ answer = (w : Wheel) → Stands wheel01 R w → SoundIfEnabled wheel01 w → (act wheel01 w c .0 ≡ answer) × Stands wheel01 R′ (act wheel01 w c .1)
 
 -- The rows give a number. Where it is not 0 the answer is that refusal and every record is as before; where it is 0 the
--- answer is `then`, the records are `after`, and that is what the rules' call c does.
-pub record Meets (c : Call) (rows : ℕ → Type 0) (R R′ : Records) (answer : Answer) (after : Records) (then : Answer) : Type 0 where
+-- answer and the records are as written, and that is what the rules' call c does.
+pub record Meets (c : Call) (R R′ : Records) (a : Answer) : Type 0 where
   pub number : ℕ
-  pub by : rows number
-  pub refusal : (number ≡ 0 → ⊥) → (answer ≡ refused number) × (R′ ≡ R)
-  pub result : number ≡ 0 → (answer ≡ then) × (R′ ≡ after)
-  pub acts : number ≡ 0 → Acts c R R′ answer
-
--- Create is never refused, whatever the records hold.
-pub record Create (first : ℕ) (clock : Clock) (heads tails : List ℕ) : Type 0 where
-  pub clock-is : clock ≡ createdClock first
-  pub heads-is : heads ≡ emptyEnds
-  pub tails-is : tails ≡ emptyEnds
-
--- the lent lengths are the numbers of node records and entries
-pub record Enable (R R′ : Records) (r : Timed) : Type 0 where
-  pub meets : Meets (enable (length (R .nodes .links .next)) (length (R .entries .dated))) (enableRows R) R R′ (timedSays r) (laidOut R) ok
-
-pub record SetEntry (R R′ : Records) (e : ℕ) (has : Bool) (d h : ℕ) (r : Noted) : Type 0 where
-  pub meets : Meets (setEntry e (cond has (some d) none) h) (setRows R e) R R′ (notedSays r) (entrySet R e has d h) ok
-
-pub record Schedule (R R′ : Records) (e h : ℕ) (r : Scheduled) : Type 0 where
-  pub meets : Meets (schedule e h) (scheduleRows R e h) R R′ (scheduledSays r) (scheduled R e h) (handleOf R)
-
-pub record Reschedule (R R′ : Records) (x n h : ℕ) (r : Rescheduled) : Type 0 where
-  pub meets : Meets (reschedule x n h) (handleRows R x n h) R R′ (rescheduledSays r) (rescheduled R x) (rescheduleSays R x)
-
-pub record Deschedule (R R′ : Records) (x n h : ℕ) (r : Timed) : Type 0 where
-  pub meets : Meets (deschedule x n h) (handleRows R x n h) R R′ (timedSays r) (descheduled R x) ok
-
-pub record Start (R R′ : Records) (q : ℕ) (r : Timed) : Type 0 where
-  pub meets : Meets (start q) (closedRows R) R R′ (timedSays r) (opened R q) ok
-
-pub record Pull (R R′ : Records) (r : Pulled) : Type 0 where
-  pub meets : Meets pull (openRows R) R R′ (pulledSays r) (pulled R) (pullSays R)
-
-pub record Abandon (R R′ : Records) (r : Timed) : Type 0 where
-  pub meets : Meets abandon (openRows R) R R′ (timedSays r) (left R) ok
-
-pub record ArmedCount (R : Records) (r : Counted) : Type 0 where
-  pub meets : Meets armedCount (countRows R) R R (countedSays r) R (armedSays R)
-
-pub record NextDue (R : Records) (r : Due) : Type 0 where
-  pub meets : Meets nextDue (closedRows R) R R (dueSays r) R (nextSays R)
+  pub by : rowsOn R c number
+  pub refusal : (number ≡ 0 → ⊥) → (a ≡ refused number) × (R′ ≡ R)
+  pub result : number ≡ 0 → (a ≡ says c R) × (R′ ≡ written c R)
+  pub acts : number ≡ 0 → Acts c R R′ a

@@ -1,0 +1,326 @@
+-- The rows of a call ask the same of records as of the wheel that they stand for: each test on records is decided by the
+-- test on the wheel, where the rows before it hold. So the rows give one number, and it is the rules'.
+use Prim.Native.Nat.{ℕ, _-_, _^_, _≤_, _<_}
+use native.Mathlib.Omega.{arith}
+use mathlib.Core.Path.{_≡_, refl, sym, ap, subst, _∙_}
+use mathlib.Core.Logic.{inl, inr, ⊎-elim}
+use mathlib.Core.Bool.{Bool, true, false, cond, not, _&&_, false≢true}
+use mathlib.Core.Option.{Option, none, some}
+use mathlib.Core.List.{List, [], _∷_}
+use lib.ListN.{length, getD}
+use lib.Dec.{eqb, leb, ltb}
+use borrow.Author.Tests.{eq-eqb, ne-eqb, eqb-true, lt-ltb, lt-leb, le-leb, ltb-true, leb-true}
+use Rattle.deque_rules.specs.Chain.{first, In}
+use Rattle.deque_rules.specs.Chain.{none as noSlot}
+use Rattle.deque_rules.specs.Lists.{homeOf}
+use Rattle.rules.specs.Geometry.{wheel01, buckets}
+use Rattle.rules.specs.Lists.{Node}
+use Rattle.rules.specs.Wheel.{Entry, Advance, closed, poised, within, Wheel, Call, create, enable, setEntry, schedule, reschedule, deschedule, start, pull, abandon}
+use Rattle.rules.specs.Wheel.{armedCount, nextDue}
+use Rattle.rules.specs.Refusals.{Row, Tests, rows, testsOf, pick, isOpen, isNone, isEmpty, isStale, inRange, refusal, refusalIf}
+use Rattle.numbers.proofs.Cases.{same?}
+use Rattle.rules.proofs.Passing.{fresh}
+use Rattle.wheel_rules.specs.declared.records.Clock.{Clock}
+use Rattle.wheel_rules.specs.records.Records.{Records}
+use Rattle.wheel_rules.specs.records.Shows.{nodeAt, ShowsAdvance, Shows}
+use Rattle.wheel_rules.specs.sound.Decides.{Decides}
+use Rattle.wheel_rules.specs.sound.Clauses.{Ranges}
+use Rattle.wheel_rules.specs.sound.Sound.{SoundRecords}
+use Rattle.wheel_rules.specs.sound.Shown.{shown}
+use Rattle.wheel_rules.specs.refusals.Refuse.{unless, answered, given, Live, Lendable, testsOn, rowsOn}
+use Rattle.wheel_rules.specs.calls.Promise.{allAre, fits, enabling, Looks}
+use Rattle.wheel_rules.specs.history.Tells.{Tells}
+use Rattle.wheel_rules.proofs.sound.Showing.{sound-shows, shown-sound}
+
+-- ---- lists of rows that ask the same
+-- the numbers are the same, and each test of bs decides that of ts where those before it hold
+abbrev pub Agree : List (Row (Type 0)) → List (Row Bool) → Type 0
+Agree [] [] = Unit {0}
+Agree [] (b ∷ bs) = ⊥
+Agree (t ∷ ts) [] = ⊥
+Agree (t ∷ ts) (b ∷ bs) = (t .1 ≡ b .1) × Decides (t .0) (b .0) × (t .0 → Agree ts bs)
+
+pick-row : (A : Type 0) (k : ℕ) (more : ℕ → Type 0) (b : Bool) (n m : ℕ) → Decides A b → (A → more n → m ≡ n) → unless A k more n → cond b m k ≡ n
+pick-row A k more true n m d f (inl p) = absurd (p .0 (d .sound refl))
+pick-row A k more true n m d f (inr p) = f (p .0) (p .1)
+pick-row A k more false n m d f (inl p) = sym (p .1)
+pick-row A k more false n m d f (inr p) = absurd (false≢true (d .complete (p .0)))
+
+-- a number that the rows give is the one picked
+pub picked : (ts : List (Row (Type 0))) (bs : List (Row Bool)) → Agree ts bs → (n : ℕ) → given ts n → pick bs ≡ n
+picked [] [] g n r = sym r
+picked [] (b ∷ bs) g n r = absurd g
+picked (t ∷ ts) [] g n r = absurd g
+picked (t ∷ ts) (b ∷ bs) g n r =
+    pick-row (t .0) (b .1) (given ts) (b .0) n (pick bs) (g .1) (λ a m. picked ts bs (g .2 a) n m)
+    (subst (λ (k : ℕ). unless (t .0) k (given ts) n) (g .0) r)
+
+-- and the one picked is given
+row-given : (A : Type 0) (k : ℕ) (more : ℕ → Type 0) (b : Bool) (m : ℕ) → Decides A b → (A → more m) → unless A k more (cond b m k)
+row-given A k more true m d f = inr (d .sound refl, f (d .sound refl))
+row-given A k more false m d f = inl (λ a. false≢true (d .complete a), refl)
+
+pub given-picked : (ts : List (Row (Type 0))) (bs : List (Row Bool)) → Agree ts bs → given ts (pick bs)
+given-picked [] [] g = refl
+given-picked [] (b ∷ bs) g = absurd g
+given-picked (t ∷ ts) [] g = absurd g
+given-picked (t ∷ ts) (b ∷ bs) g =
+    subst (λ (k : ℕ). unless (t .0) k (given ts) (cond (b .0) (pick bs) (b .1))) (sym (g .0))
+    (row-given (t .0) (b .1) (given ts) (b .0) (pick bs) (g .1) (λ a. given-picked ts bs (g .2 a)))
+
+-- ---- tests that decide
+pub is-decided : (b : Bool) → Decides (b ≡ true) b
+is-decided b = record { sound = λ e. e; complete = λ e. e }
+
+not-decided : (b : Bool) → Decides (b ≡ false) (not b)
+not-decided true = record { sound = λ e. absurd (false≢true e); complete = λ e. sym e }
+not-decided false = record { sound = λ e. refl; complete = λ e. refl }
+
+same-decided : (x y : ℕ) → Decides (x ≡ y) (eqb x y)
+same-decided x y = record { sound = eqb-true x y; complete = eq-eqb x y }
+
+other-decided : (x y : ℕ) → Decides (x ≡ y → ⊥) (not (eqb x y))
+other-decided x y =
+    ⊎-elim
+    (λ (e : x ≡ y).
+    record {
+      sound = λ i. absurd (false≢true (ap not (sym (eq-eqb x y e)) ∙ i));
+      complete = λ n. absurd (n e);
+    })
+    (λ (n : x ≡ y → ⊥). record { sound = λ _. n; complete = λ _. ap not (ne-eqb x y n) })
+    (same? x y)
+
+below-decided : (x y : ℕ) → Decides (x < y) (ltb x y)
+below-decided x y = record { sound = ltb-true x y; complete = lt-ltb x y }
+
+by-path : {A B : Type 0} {b c : Bool} → (A → B) → (B → A) → b ≡ c → Decides A b → Decides B c
+by-path f g e d = record { sound = λ i. f (d .sound (e ∙ i)); complete = λ i. sym e ∙ d .complete (g i) }
+
+open-is : (c : Clock) (A : Advance) → ShowsAdvance wheel01 c A → c .open ≡ isOpen A
+open-is c closed s = s
+open-is c (poised p bs) s = s .0
+open-is c (within p b bs) s = s .1
+
+dated-decided : (b : Bool) (d : ℕ) → Decides (b ≡ true) (not (isNone (cond b (some d) none)))
+dated-decided true d = record { sound = λ _. refl; complete = λ _. refl }
+dated-decided false d = record { sound = λ e. e; complete = λ e. e }
+
+some-free : (xs : List ℕ) (x : ℕ) → first xs ≡ x → ((y : ℕ) → In y xs → y < noSlot) → Decides (x ≡ noSlot → ⊥) (not (isEmpty xs))
+some-free [] x e f = record { sound = λ i. absurd (false≢true i); complete = λ n. absurd (n (sym e)) }
+some-free (y ∷ ys) x e f = record { sound = λ _ i. omega (arith, f y (inl refl), e, i); complete = λ _. refl }
+
+-- ---- conjunctions, and lengths
+both-decided : {A B : Type 0} {a b : Bool} → Decides A a → Decides B b → Decides (A × B) (a && b)
+both-decided {a = true} d f = record { sound = λ i. (d .sound refl, f .sound i); complete = λ p. f .complete (p .1) }
+both-decided {a = false} d f = record { sound = λ i. absurd (false≢true i); complete = λ p. d .complete (p .0) }
+
+most-decided : (x y : ℕ) → Decides (x ≤ y) (leb x y)
+most-decided x y = record { sound = leb-true x y; complete = le-leb x y }
+
+abbrev AllSame : ℕ → List ℕ → Type 0
+AllSame m [] = Unit {0}
+AllSame m (k ∷ ks) = (k ≡ m) × AllSame m ks
+
+all-decided : (m : ℕ) (ks : List ℕ) → Decides (AllSame m ks) (allAre m ks)
+all-decided m [] = record { sound = λ _. tt; complete = λ _. refl }
+all-decided m (k ∷ ks) = both-decided (same-decided k m) (all-decided m ks)
+
+module _ (R : Records) where
+  abbrev m : ℕ
+  m = length (R .nodes .links .next)
+
+  abbrev k : ℕ
+  k = length (R .entries .dated)
+
+  -- what is lent may be enabled exactly where the lengths are in range and fit
+  pub lendable-decided : Decides (Lendable R) (inRange wheel01 m k (fits R))
+  lendable-decided =
+      by-path
+      (λ (p : _ × _).
+      let ends = p .0 .0 in
+      let columns = p .0 .1 .0 in
+      let fields = p .0 .1 .1 in
+      record {
+        around =
+            record {
+              ranges = record { room = p .1 .0; nodes-most = p .1 .1 .0; some = p .1 .1 .1 .0; entries-most = p .1 .1 .1 .1 };
+              ends = record { heads-len = ends .0; tails-len = ends .1 .0 };
+              entries = record { dated-len = refl; deadline-len = fields .0; generation-len = fields .1 .0 };
+            };
+        nodes =
+            record {
+              next-len = refl;
+              prev-len = columns .0;
+              bucket-len = columns .1 .0;
+              entry-len = columns .1 .1 .0;
+              generation-len = columns .1 .1 .1 .0;
+              serial-len = columns .1 .1 .1 .1 .0;
+            };
+      })
+      (λ (l : Lendable R). (
+        (
+          (l .around .ends .heads-len, (l .around .ends .tails-len, tt)),
+          (
+            (l .nodes .prev-len, (l .nodes .bucket-len, (l .nodes .entry-len, (l .nodes .generation-len, (l .nodes .serial-len, tt))))),
+            (l .around .entries .deadline-len, (l .around .entries .generation-len, tt)),
+          ),
+        ),
+        (l .around .ranges .room, (l .around .ranges .nodes-most, (l .around .ranges .some, l .around .ranges .entries-most))),
+      ))
+      refl
+      (both-decided
+      (both-decided (all-decided _ _) (both-decided (all-decided _ _) (all-decided _ _)))
+      (both-decided (below-decided (buckets wheel01) m) (both-decided (most-decided m 4096) (both-decided (below-decided 0 k) (most-decided k 4096)))))
+
+-- ---- the rows of each call
+module _ (R : Records) (w : Wheel) (T : Tells R w) where
+  enabled-is : R .clock .enabled ≡ w .enabled
+  enabled-is = T .stands .enabled
+
+  -- ---- handles
+  module _ (s : Shows wheel01 R w) (on-w : w .enabled ≡ true) (x n : ℕ) where
+    abbrev v : Node
+    v = w .lists .node x
+
+    live-node : Live R x n → (v .armed ≡ true) × (v ≡ nodeAt (buckets wheel01) (R .nodes) x)
+    live-node l =
+        let i : x < w .nodes = omega (arith, l .slot, s .nodes-len) in
+        let a : v .armed ≡ true = s .armed x (l .after) i ∙ lt-ltb (homeOf (R .nodes .links) x) (buckets wheel01) (l .armed) in
+        (a, s .node x (l .after) i a)
+
+    live-fresh : Live R x n → isStale w x n ≡ false
+    live-fresh l =
+        let i : x < w .nodes = omega (arith, l .slot, s .nodes-len) in
+        let a = live-node l in
+        let e : v .serial ≡ n = ap (λ (u : Node). u .serial) (a .1) ∙ l .serial in
+        ap (λ (b : Bool). cond b true (cond (v .armed) (not (eqb (v .serial) n)) true)) (lt-leb (w .nodes) x i)
+        ∙ ap (λ (b : Bool). cond b (not (eqb (v .serial) n)) true) (a .0)
+        ∙ ap not (eq-eqb (v .serial) n e)
+
+    fresh-live : isStale w x n ≡ false → Live R x n
+    fresh-live e =
+        let j = fresh w x n e in
+        let D : buckets wheel01 ≤ x = T .sound on-w .lists .slot x (j .1) .0 in
+        record {
+          slot = omega (arith, j .0, s .nodes-len);
+          after = D;
+          armed = ltb-true (homeOf (R .nodes .links) x) (buckets wheel01) (sym (s .armed x D (j .0)) ∙ j .1);
+          serial = sym (ap (λ (u : Node). u .serial) (s .node x D (j .0) (j .1))) ∙ j .2;
+        }
+
+    live-decided : Decides (Live R x n) (not (isStale w x n))
+    live-decided = go (isStale w x n) refl
+      where
+        go : (b : Bool) → isStale w x n ≡ b → Decides (Live R x n) (not b)
+        go true e = record { sound = λ i. absurd (false≢true i); complete = λ l. absurd (false≢true (sym (live-fresh l) ∙ e)) }
+        go false e = record { sound = λ _. fresh-live e; complete = λ _. refl }
+
+  -- ---- the stages: what comes after them agrees, where they hold
+  while-enabled : (ts : List (Row (Type 0))) (bs : List (Row Bool)) → (w .enabled ≡ true → Shows wheel01 R w → Agree ts bs)
+      → Agree ((R .clock .enabled ≡ true, 1) ∷ (SoundRecords wheel01 R, 4) ∷ ts) ((w .enabled, 1) ∷ (true, 4) ∷ bs)
+  while-enabled ts bs f = (
+    refl,
+    by-path (λ i. i) (λ i. i) enabled-is (is-decided (R .clock .enabled)),
+    λ e. (
+      refl,
+      record { sound = λ _. T .kept e; complete = λ _. refl },
+      λ _. f (sym enabled-is ∙ e) (T .stands .shows (sym enabled-is ∙ e)),
+    ),
+  )
+
+  while-closed : (ts : List (Row (Type 0))) (bs : List (Row Bool)) → (w .enabled ≡ true → Shows wheel01 R w → Agree ts bs)
+      → Agree ((R .clock .enabled ≡ true, 1) ∷ (SoundRecords wheel01 R, 4) ∷ (R .clock .open ≡ false, 5) ∷ ts)
+      ((w .enabled, 1) ∷ (true, 4) ∷ (not (isOpen (w .advance)), 5) ∷ bs)
+  while-closed ts bs f =
+      while-enabled ((R .clock .open ≡ false, 5) ∷ ts) ((not (isOpen (w .advance)), 5) ∷ bs)
+      (λ e s. (
+        refl,
+        by-path (λ i. i) (λ i. i) (ap not (open-is (R .clock) (w .advance) (s .advance))) (not-decided (R .clock .open)),
+        λ _. f e s,
+      ))
+
+  while-open : Agree ((R .clock .enabled ≡ true, 1) ∷ (SoundRecords wheel01 R, 4) ∷ (R .clock .open ≡ true, 6) ∷ [])
+      ((w .enabled, 1) ∷ (true, 4) ∷ (isOpen (w .advance), 6) ∷ [])
+  while-open =
+      while-enabled ((R .clock .open ≡ true, 6) ∷ []) ((isOpen (w .advance), 6) ∷ [])
+      (λ e s. (refl, by-path (λ i. i) (λ i. i) (open-is (R .clock) (w .advance) (s .advance)) (is-decided (R .clock .open)), λ _. tt))
+
+  of-entry : (e : ℕ) → Shows wheel01 R w → Decides (e < R .clock .entries) (ltb e (w .entries))
+  of-entry e s =
+      by-path (λ i. omega (arith, i, s .entries-len)) (λ i. omega (arith, i, s .entries-len)) refl (below-decided e (w .entries))
+
+  of-handle : (x n h : ℕ) → w .enabled ≡ true → Shows wheel01 R w → Agree (((Live R x n), 12) ∷ (getD (R .nodes .generation) x 0 ≡ h, 13) ∷ [])
+      ((not (isStale w x n), 12) ∷ (eqb (w .lists .node x .generation) h, 13) ∷ [])
+  of-handle x n h e s = (
+    refl,
+    live-decided s e x n,
+    λ l. (
+      refl,
+      let g : w .lists .node x .generation ≡ getD (R .nodes .generation) x 0 = ap (λ (u : Node). u .generation) (live-node s e x n l .1) in
+      by-path (λ i. sym g ∙ i) (λ i. g ∙ i) refl (same-decided (w .lists .node x .generation) h),
+      λ _. tt,
+    ),
+  )
+
+  -- the entry of a schedule, and room for it
+  of-arming : (e h : ℕ) → Shows wheel01 R w → e < w .entries
+      → Agree ((getD (R .entries .generation) e 0 ≡ h, 8) ∷ (getD (R .entries .dated) e false ≡ true, 9) ∷ ((R .clock .free ≡ noSlot → ⊥), 10) ∷
+      ((R .clock .serial ≡ 2 ^ 64 - 1 → ⊥), 11) ∷ [])
+      ((eqb (w .entry e .generation) h, 8) ∷ (not (isNone (w .entry e .deadline)), 9) ∷ (not (isEmpty (w .lists .free)), 10) ∷
+      (not (eqb (w .next) (2 ^ 64 - 1)), 11) ∷ [])
+  of-arming e h s i =
+      let g : w .entry e .generation ≡ getD (R .entries .generation) e 0 = ap (λ (v : Entry). v .generation) (s .entry e i) in
+      let d : w .entry e .deadline ≡ cond (getD (R .entries .dated) e false) (some (getD (R .entries .deadline) e 0)) none = ap (λ (v : Entry). v .deadline)
+      (s .entry e i) in (
+        refl,
+        by-path (λ j. sym g ∙ j) (λ j. g ∙ j) refl (same-decided (w .entry e .generation) h),
+        λ _. (
+          refl,
+          by-path (λ j. j) (λ j. j) (ap (λ (o : Option ℕ). not (isNone o)) (sym d)) (dated-decided (getD (R .entries .dated) e false) (getD (R .entries .deadline) e 0)),
+          λ _. (
+            refl,
+            by-path (λ j. j) (λ j. j) (ap (λ (xs : List ℕ). not (isEmpty xs)) (sym (s .free)))
+                (some-free (s .lists .free) (R .clock .free) (s .free-is) (λ y j. omega (arith, s .rep .spare y j .0, s .rep .small))),
+            λ _. (
+              refl,
+              by-path (λ j k. j (sym (s .next) ∙ k)) (λ j k. j (s .next ∙ k)) refl (other-decided (w .next) (2 ^ 64 - 1)),
+              λ _. tt,
+            ),
+          ),
+        ),
+      )
+
+  -- ---- every call
+  pub agree : (c : Call) (b : Bool) → Looks c R b → Agree (rows (testsOn R) c) (rows (testsOf wheel01 true w) c)
+  agree (create n) b l = tt
+  agree (enable i j f) b l = (
+    refl,
+    by-path (λ e. e) (λ e. e) (ap not enabled-is) (not-decided (R .clock .enabled)),
+    λ _. (refl, subst (λ (c : Call). Decides (Lendable R) (lends c)) (sym l) (lendable-decided R), λ _. tt),
+  )
+    where
+      lends : Call → Bool
+      lends (create n) = true
+      lends (enable i j f) = inRange wheel01 i j f
+      lends (setEntry e o h) = true
+      lends (schedule e h) = true
+      lends (reschedule x n h) = true
+      lends (deschedule x n h) = true
+      lends (start q) = true
+      lends pull = true
+      lends abandon = true
+      lends armedCount = true
+      lends nextDue = true
+  agree (setEntry e o h) b l = while-closed _ _ (λ _ s. (refl, of-entry e s, λ _. tt))
+  agree (schedule e h) b l = while-closed _ _ (λ _ s. (refl, of-entry e s, λ i. of-arming e h s (omega (arith, i, s .entries-len))))
+  agree (reschedule x n h) b l = while-closed _ _ (λ i s. of-handle x n h i s)
+  agree (deschedule x n h) b l = while-closed _ _ (λ i s. of-handle x n h i s)
+  agree (start q) b l = while-closed [] [] (λ _ _. tt)
+  agree pull b l = while-open
+  agree abandon b l = while-open
+  agree armedCount b l = while-enabled [] [] (λ _ _. tt)
+  agree nextDue b l = while-closed [] [] (λ _ _. tt)
+
+  -- the number that the rows give on records is the rules' number
+  pub number-is : (c : Call) (b : Bool) → Looks c R b → (n : ℕ) → rowsOn R c n → refusal wheel01 w c ≡ n
+  number-is c b l n r = picked (rows (testsOn R) c) (rows (testsOf wheel01 true w) c) (agree c b l) n r
