@@ -6,22 +6,21 @@ use mathlib.Core.Bool.{Bool, true, false, cond}
 use mathlib.Core.Option.{Option, none, some}
 use lib.ListN.{length, getD}
 use Rattle.deque_rules.specs.Lists.{Links}
-use Rattle.deque_rules.specs.Change.{linkBack, removed, moveBack, Pushable, PushesBack}
-use Rattle.deque_rules.proofs.Laws.{first-in, pushes, removes, moves}
-use Rattle.rules.specs.Geometry.{wheel01, buckets}
+use Rattle.deque_rules.specs.Change.{linkBack, Pushable}
+use Rattle.deque_rules.proofs.Laws.{first-in, pushes}
+use Rattle.rules.specs.Geometry.{wheel01}
 use Rattle.rules.specs.Place.{bucketOf}
 use Rattle.rules.specs.Wheel.{Wheel, enable, setEntry, schedule, reschedule, deschedule, start, pull, abandon, armedCount, nextDue, Answer, ok, number, due}
-use Rattle.rules.specs.Wheel.{removed as removedAnswer}
+use Rattle.rules.specs.Wheel.{removed}
 use Rattle.rules.specs.Calls.{act, rearmed}
 use Rattle.rules.proofs.Placing.{bucketOf-in}
-use Rattle.wheel_rules.specs.place.Promises.{InBucket}
 use Rattle.wheel_rules.specs.declared.records.Clock.{Clock}
 use Rattle.wheel_rules.specs.records.Records.{Nodes, Entries, Records}
 use Rattle.wheel_rules.specs.records.Shows.{Shows}
-use Rattle.wheel_rules.specs.records.Clocks.{setFree, ended}
+use Rattle.wheel_rules.specs.records.Clocks.{ended}
 use Rattle.wheel_rules.specs.records.Settings.{EntryReady}
-use Rattle.wheel_rules.specs.timers.Change.{written, freedFrom, Writes}
-use Rattle.wheel_rules.specs.timers.Timers.{Ready, SlotReady, MoveReady, Disarms, Rearms}
+use Rattle.wheel_rules.specs.timers.Change.{written}
+use Rattle.wheel_rules.specs.timers.Timers.{SlotReady, MoveReady}
 use Rattle.wheel_rules.specs.layout.Layout.{LayReady}
 use Rattle.wheel_rules.specs.popping.Pop.{TurnReady}
 use Rattle.wheel_rules.specs.refusals.Refuse.{answered, unless, enableRows, setRows, scheduleRows, handleRows, closedRows, openRows, countRows}
@@ -38,7 +37,8 @@ use Rattle.wheel_rules.proofs.layout.Doing.{lay-does}
 use Rattle.wheel_rules.proofs.pull.Doing.{pull-does}
 use Rattle.wheel_rules.proofs.refusals.Rows.{past, standing-past, closed-past}
 use Rattle.wheel_rules.proofs.refusals.Refusing.{set-past}
-use Rattle.wheel_rules.proofs.calls.Acting.{lay-ready, Schedulable, schedulable-by, ready, Handled, handled-by, slot-ready, entry-ready, turn-ready, deadline-is, held-is}
+use Rattle.wheel_rules.proofs.calls.Acting.{lay-ready, Schedulable, schedulable-by, ready, Handled, handled-by, slot-ready, entry-ready, turn-ready}
+use Rattle.wheel_rules.proofs.calls.Acting.{deadline-is, held-is}
 use Rattle.wheel_rules.proofs.calls.Calling.{stands-of, lift, same-option}
 
 -- ---- enable
@@ -97,7 +97,7 @@ module _ (R : Records) (x n h : ℕ) (f : handleRows R x n h 0) where
       lift (deschedule x n h) R (descheduled R x) ok (held .enabled) (λ w t o. (refl, disarms (R .nodes) (R .clock) x slot .does (R .entries) w t o n h))
 
   -- with a deadline, and without
-  reschedule-by : (b : Bool) → hasDeadline R x ≡ b → Acts (reschedule x n h) R (cond b (moved R x) (descheduled R x)) (cond b ok removedAnswer)
+  reschedule-by : (b : Bool) → hasDeadline R x ≡ b → Acts (reschedule x n h) R (cond b (moved R x) (descheduled R x)) (cond b ok removed)
   reschedule-by true e =
       let N : Nodes = R .nodes in
       let c : Clock = R .clock in
@@ -108,9 +108,9 @@ module _ (R : Records) (x n h : ℕ) (f : handleRows R x n h 0) where
       rearms (N .links) (c .reading) x (deadlineAt R (entryOf R x)) y .does (N .entry) (N .generation) (N .serial) (R .entries) c w t o refl
       (held-is N (R .entries) c x n w true held t e) n h)
   reschedule-by false e =
-      lift (reschedule x n h) R (descheduled R x) removedAnswer (held .enabled)
+      lift (reschedule x n h) R (descheduled R x) removed (held .enabled)
       (λ w t o.
-      subst (λ (m : Answer × Wheel). (m .0 ≡ removedAnswer) × Shows wheel01 (descheduled R x) (m .1))
+      subst (λ (m : Answer × Wheel). (m .0 ≡ removed) × Shows wheel01 (descheduled R x) (m .1))
       (sym (ap (rearmed wheel01 w x) (held-is (R .nodes) (R .entries) (R .clock) x n w false held t e)))
       (refl, disarms (R .nodes) (R .clock) x slot .does (R .entries) w t o n h))
 

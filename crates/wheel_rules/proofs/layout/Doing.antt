@@ -3,7 +3,6 @@ use Prim.Native.Nat.{ℕ, zero, suc, _≤_}
 use native.Mathlib.Omega.{arith}
 use native.Mathlib.Numerals.{add-one}
 use mathlib.Core.Path.{_≡_, refl, subst}
-use mathlib.Core.Bool.{false}
 use lib.ListN.{length, replicate}
 use Rattle.deque_rules.specs.Chain.{first, upFrom}
 use Rattle.deque_rules.specs.Lists.{Links}
@@ -16,7 +15,7 @@ use Rattle.wheel_rules.specs.declared.records.Clock.{Clock}
 use Rattle.wheel_rules.specs.records.Records.{Nodes, Entries, records, join}
 use Rattle.wheel_rules.specs.records.Shows.{Shows}
 use Rattle.wheel_rules.specs.layout.Layout.{bareNodes, bareEntries, enabledWith, SeatReady, Seats, LayReady, Lays}
-use Rattle.wheel_rules.proofs.layout.Seating.{Seating, counts, seating-begins, seating-asks, seating-again, seating-ends, laid}
+use Rattle.wheel_rules.proofs.layout.Seating.{Seating, seating-begins, seating-asks, seating-again, seating-ends, laid}
 
 -- ---- the sentinels, one after another
 module _ (z : Links) (y : SeatReady z) where
@@ -37,8 +36,7 @@ module _ (z : Links) (y : SeatReady z) where
   seats-to zero l = (o, _, seating-begins z o _ y out)
   seats-to (suc b) l =
       let s = seats-to b (omega arith) in
-      let h : suc b ≤ length (s .0 .heads) = omega (arith, s .2 .heads-len) in
-      (
+      let h : suc b ≤ length (s .0 .heads) = omega (arith, s .2 .heads-len) in (
         _,
         _,
         subst (Seating D n o _ _) (add-one b)
@@ -66,8 +64,7 @@ module _ (N : Nodes) (E : Entries) (c : Clock) (y : LayReady wheel01 N E) where
   lays-right =
       let a : Links = N .links in
       let s = seats a (y .seat) in
-      let b : Links = s .0 in
-      (
+      let b : Links = s .0 in (
         b,
         laid (a .heads) (a .tails) (a .next) (a .prev) (a .home) (N .entry) (N .generation) (N .serial) (b .heads) (b .tails) (b .next) (b .prev) (b .home)
             _ _ _ (E .dated) (E .deadline) (E .generation) _ _ _ c clock y refl (s .1)

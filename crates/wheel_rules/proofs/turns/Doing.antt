@@ -14,12 +14,12 @@ use Rattle.rules.specs.Visits.{bucketAt}
 use Rattle.numbers.proofs.Cases.{below?}
 use Rattle.wheel_rules.specs.declared.records.Clock.{Clock}
 use Rattle.wheel_rules.specs.records.Records.{Nodes, withLinks}
-use Rattle.wheel_rules.specs.records.Clocks.{setFree, standing, ended}
+use Rattle.wheel_rules.specs.records.Clocks.{setFree, ended}
 use Rattle.wheel_rules.specs.timers.Change.{freedFrom}
 use Rattle.wheel_rules.specs.timers.Timers.{Disarms}
 use Rattle.wheel_rules.specs.declared.popping.Position.{Position}
 use Rattle.wheel_rules.specs.declared.popping.Turn.{Turn}
-use Rattle.wheel_rules.specs.popping.Pop.{goes, waitingAt, nextPosition, TurnReady, PopReady, Pops}
+use Rattle.wheel_rules.specs.popping.Pop.{waitingAt, nextPosition, TurnReady, PopReady, Pops}
 use Rattle.wheel_rules.specs.turns.Turns.{OnReady, Waits, GoesOn, Turned}
 use Rattle.wheel_rules.proofs.records.Retiming.{end-does}
 use Rattle.wheel_rules.proofs.timers.Doing.{disarms, rearms}
