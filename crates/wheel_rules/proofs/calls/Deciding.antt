@@ -68,6 +68,16 @@ given-picked (t ∷ ts) (b ∷ bs) g =
     subst (λ (k : ℕ). unless (t .0) k (given ts) (cond (b .0) (pick bs) (b .1))) (sym (g .0))
     (row-given (t .0) (b .1) (given ts) (b .0) (pick bs) (g .1) (λ a. given-picked ts bs (g .2 a)))
 
+-- the rows after the first two, and after the first
+abbrev pub later {ℓ} : {T : Type ℓ} → List (Row T) → List (Row T)
+later [] = []
+later (a ∷ []) = []
+later (a ∷ b ∷ ts) = ts
+
+abbrev pub rest {ℓ} : {T : Type ℓ} → List (Row T) → List (Row T)
+rest [] = []
+rest (a ∷ ts) = ts
+
 -- ---- tests that decide
 pub is-decided : (b : Bool) → Decides (b ≡ true) b
 is-decided b = record { sound = λ e. e; complete = λ e. e }
@@ -95,6 +105,10 @@ below-decided x y = record { sound = ltb-true x y; complete = lt-ltb x y }
 
 by-path : {A B : Type 0} {b c : Bool} → (A → B) → (B → A) → b ≡ c → Decides A b → Decides B c
 by-path f g e d = record { sound = λ i. f (d .sound (e ∙ i)); complete = λ i. sym e ∙ d .complete (g i) }
+
+not-true : (b : Bool) → (b ≡ true → ⊥) → b ≡ false
+not-true true n = absurd (n refl)
+not-true false n = refl
 
 open-is : (c : Clock) (A : Advance) → ShowsAdvance wheel01 c A → c .open ≡ isOpen A
 open-is c closed s = s
@@ -132,29 +146,47 @@ module _ (R : Records) where
   abbrev k : ℕ
   k = length (R .entries .dated)
 
+  -- the lengths of heads and tails; of the fields of the nodes beside next; of the fields of the entries beside dated
+  abbrev ends : List ℕ
+  ends = length (R .nodes .links .heads) ∷ length (R .nodes .links .tails) ∷ []
+
+  abbrev columns : List ℕ
+  columns =
+      length (R .nodes .links .prev) ∷ length (R .nodes .links .home) ∷ length (R .nodes .entry) ∷ length (R .nodes .generation) ∷
+      length (R .nodes .serial) ∷ []
+
+  abbrev fields : List ℕ
+  fields = length (R .entries .deadline) ∷ length (R .entries .generation) ∷ []
+
+  abbrev Fit : Type 0
+  Fit = AllSame (buckets wheel01) ends × (AllSame m columns × AllSame k fields)
+
+  abbrev InRange : Type 0
+  InRange = (buckets wheel01 < m) × ((m ≤ 4096) × ((0 < k) × (k ≤ 4096)))
+
   -- what is lent may be enabled exactly where the lengths are in range and fit
   pub lendable-decided : Decides (Lendable R) (inRange wheel01 m k (fits R))
   lendable-decided =
       by-path
-      (λ (p : _ × _).
-      let ends = p .0 .0 in
-      let columns = p .0 .1 .0 in
-      let fields = p .0 .1 .1 in
+      (λ (p : Fit × InRange).
+      let e = p .0 .0 in
+      let c = p .0 .1 .0 in
+      let f = p .0 .1 .1 in
       record {
         around =
             record {
               ranges = record { room = p .1 .0; nodes-most = p .1 .1 .0; some = p .1 .1 .1 .0; entries-most = p .1 .1 .1 .1 };
-              ends = record { heads-len = ends .0; tails-len = ends .1 .0 };
-              entries = record { dated-len = refl; deadline-len = fields .0; generation-len = fields .1 .0 };
+              ends = record { heads-len = e .0; tails-len = e .1 .0 };
+              entries = record { dated-len = refl; deadline-len = f .0; generation-len = f .1 .0 };
             };
         nodes =
             record {
               next-len = refl;
-              prev-len = columns .0;
-              bucket-len = columns .1 .0;
-              entry-len = columns .1 .1 .0;
-              generation-len = columns .1 .1 .1 .0;
-              serial-len = columns .1 .1 .1 .1 .0;
+              prev-len = c .0;
+              bucket-len = c .1 .0;
+              entry-len = c .1 .1 .0;
+              generation-len = c .1 .1 .1 .0;
+              serial-len = c .1 .1 .1 .1 .0;
             };
       })
       (λ (l : Lendable R). (
@@ -169,10 +201,45 @@ module _ (R : Records) where
       ))
       refl
       (both-decided
-      (both-decided (all-decided _ _) (both-decided (all-decided _ _) (all-decided _ _)))
+      (both-decided (all-decided (buckets wheel01) ends) (both-decided (all-decided m columns) (all-decided k fields)))
       (both-decided (below-decided (buckets wheel01) m) (both-decided (most-decided m 4096) (both-decided (below-decided 0 k) (most-decided k 4096)))))
 
 -- ---- the rows of each call
+-- an enable is given the lent lengths
+abbrev pub LentTo : Records → Call → Type 0
+LentTo R (create n) = Unit {0}
+LentTo R (enable m k f) = enable m k f ≡ enabling R
+LentTo R (setEntry e o h) = Unit {0}
+LentTo R (schedule e h) = Unit {0}
+LentTo R (reschedule x n h) = Unit {0}
+LentTo R (deschedule x n h) = Unit {0}
+LentTo R (start q) = Unit {0}
+LentTo R pull = Unit {0}
+LentTo R abandon = Unit {0}
+LentTo R armedCount = Unit {0}
+LentTo R nextDue = Unit {0}
+
+abbrev lends : Call → Bool
+lends (create n) = true
+lends (enable i j f) = inRange wheel01 i j f
+lends (setEntry e o h) = true
+lends (schedule e h) = true
+lends (reschedule x n h) = true
+lends (deschedule x n h) = true
+lends (start q) = true
+lends pull = true
+lends abandon = true
+lends armedCount = true
+lends nextDue = true
+
+enable-rows : (R : Records) (on : Bool) → R .clock .enabled ≡ on → (i j : ℕ) (f : Bool) → enable i j f ≡ enabling R
+    → Agree ((R .clock .enabled ≡ false, 2) ∷ (Lendable R, 3) ∷ []) ((not on, 2) ∷ (inRange wheel01 i j f, 3) ∷ [])
+enable-rows R on e i j f l = (
+  refl,
+  by-path (λ i. i) (λ i. i) (ap not e) (not-decided (R .clock .enabled)),
+  λ _. (refl, subst (λ (c : Call). Decides (Lendable R) (lends c)) (sym l) (lendable-decided R), λ _. tt),
+)
+
 module _ (R : Records) (w : Wheel) (T : Tells R w) where
   enabled-is : R .clock .enabled ≡ w .enabled
   enabled-is = T .stands .enabled
@@ -291,36 +358,119 @@ module _ (R : Records) (w : Wheel) (T : Tells R w) where
       )
 
   -- ---- every call
-  pub agree : (c : Call) (b : Bool) → Looks c R b → Agree (rows (testsOn R) c) (rows (testsOf wheel01 true w) c)
-  agree (create n) b l = tt
-  agree (enable i j f) b l = (
-    refl,
-    by-path (λ e. e) (λ e. e) (ap not enabled-is) (not-decided (R .clock .enabled)),
-    λ _. (refl, subst (λ (c : Call). Decides (Lendable R) (lends c)) (sym l) (lendable-decided R), λ _. tt),
-  )
-    where
-      lends : Call → Bool
-      lends (create n) = true
-      lends (enable i j f) = inRange wheel01 i j f
-      lends (setEntry e o h) = true
-      lends (schedule e h) = true
-      lends (reschedule x n h) = true
-      lends (deschedule x n h) = true
-      lends (start q) = true
-      lends pull = true
-      lends abandon = true
-      lends armedCount = true
-      lends nextDue = true
-  agree (setEntry e o h) b l = while-closed _ _ (λ _ s. (refl, of-entry e s, λ _. tt))
-  agree (schedule e h) b l = while-closed _ _ (λ _ s. (refl, of-entry e s, λ i. of-arming e h s (omega (arith, i, s .entries-len))))
-  agree (reschedule x n h) b l = while-closed _ _ (λ i s. of-handle x n h i s)
-  agree (deschedule x n h) b l = while-closed _ _ (λ i s. of-handle x n h i s)
-  agree (start q) b l = while-closed [] [] (λ _ _. tt)
-  agree pull b l = while-open
-  agree abandon b l = while-open
-  agree armedCount b l = while-enabled [] [] (λ _ _. tt)
-  agree nextDue b l = while-closed [] [] (λ _ _. tt)
+  pub agree : (c : Call) → LentTo R c → Agree (rows (testsOn R) c) (rows (testsOf wheel01 true w) c)
+  agree (create n) l = tt
+  agree (enable i j f) l = enable-rows R (w .enabled) enabled-is i j f l
+  agree (setEntry e o h) l =
+      while-closed ((e < R .clock .entries, 7) ∷ []) ((ltb e (w .entries), 7) ∷ []) (λ _ s. (refl, of-entry e s, λ _. tt))
+  agree (schedule e h) l =
+      while-closed (rest (later (rows (testsOn R) (schedule e h)))) (rest (later (rows (testsOf wheel01 true w) (schedule e h))))
+      (λ _ s. (refl, of-entry e s, λ i. of-arming e h s (omega (arith, i, s .entries-len))))
+  agree (reschedule x n h) l =
+      while-closed (rest (later (rows (testsOn R) (reschedule x n h)))) (rest (later (rows (testsOf wheel01 true w) (reschedule x n h)))) (of-handle x n h)
+  agree (deschedule x n h) l =
+      while-closed (rest (later (rows (testsOn R) (deschedule x n h)))) (rest (later (rows (testsOf wheel01 true w) (deschedule x n h)))) (of-handle x n h)
+  agree (start q) l = while-closed [] [] (λ _ _. tt)
+  agree pull l = while-open
+  agree abandon l = while-open
+  agree armedCount l = while-enabled [] [] (λ _ _. tt)
+  agree nextDue l = while-closed [] [] (λ _ _. tt)
 
   -- the number that the rows give on records is the rules' number
-  pub number-is : (c : Call) (b : Bool) → Looks c R b → (n : ℕ) → rowsOn R c n → refusal wheel01 w c ≡ n
-  number-is c b l n r = picked (rows (testsOn R) c) (rows (testsOf wheel01 true w) c) (agree c b l) n r
+  pub number-is : (c : Call) → LentTo R c → (n : ℕ) → rowsOn R c n → refusal wheel01 w c ≡ n
+  number-is c l n r = picked (rows (testsOn R) c) (rows (testsOf wheel01 true w) c) (agree c l) n r
+
+-- ---- whether the records are sound or not
+pub tells-shown : (R : Records) → R .clock .enabled ≡ true → SoundRecords wheel01 R → Tells R (shown wheel01 R)
+tells-shown R on s =
+    record {
+      stands = record { enabled = refl; reading = refl; next = refl; shows = λ _. sound-shows wheel01 R s on };
+      sound = λ _. shown-sound wheel01 R s;
+      kept = λ _. s;
+    }
+
+-- the calls of 1: enabled, sound, then the rows ts, which are bs on the wheel that the records show
+module _ (R : Records) (ts : List (Row (Type 0))) (bs : List (Row Bool)) where
+  abbrev all : List (Row (Type 0))
+  all = (R .clock .enabled ≡ true, 1) ∷ (SoundRecords wheel01 R, 4) ∷ ts
+
+  abbrev number : Bool → ℕ
+  number s = cond (R .clock .enabled) (cond s (pick bs) 4) 1
+
+  module _ (g : Tells R (shown wheel01 R) → Agree all ((R .clock .enabled, 1) ∷ (true, 4) ∷ bs)) where
+    -- the number that the rows give is the rules' number
+    pub judged-by : (n : ℕ) → given all n → (s : Bool) × (R .clock .enabled ≡ true → Decides (SoundRecords wheel01 R) s) × (number s ≡ n)
+    judged-by n (inl p) =
+        (false, λ e. absurd (p .0 e), ap (λ (b : Bool). cond b (cond false (pick bs) 4) 1) (not-true (R .clock .enabled) (p .0)) ∙ sym (p .1))
+    judged-by n (inr (on, inl p)) = (
+      false,
+      λ _. record { sound = λ i. absurd (false≢true i); complete = λ s. absurd (p .0 s) },
+      ap (λ (b : Bool). cond b (cond false (pick bs) 4) 1) on ∙ sym (p .1),
+    )
+    judged-by n (inr (on, inr p)) = (
+      true,
+      λ _. record { sound = λ _. p .0; complete = λ _. refl },
+      picked all ((R .clock .enabled, 1) ∷ (true, 4) ∷ bs) (g (tells-shown R on (p .0))) n (inr (on, inr p)),
+    )
+
+    -- and the rules' number is the one that the rows give
+    pub given-by : (s : Bool) → (R .clock .enabled ≡ true → Decides (SoundRecords wheel01 R) s) → given all (number s)
+    given-by s d = go (R .clock .enabled) refl s d
+      where
+        go : (b : Bool) → R .clock .enabled ≡ b → (s : Bool) → (R .clock .enabled ≡ true → Decides (SoundRecords wheel01 R) s) → given all (number s)
+        go false e s d = inl (λ i. false≢true (sym e ∙ i), ap (λ (b : Bool). cond b (cond s (pick bs) 4) 1) e)
+        go true e false d =
+            inr (e, inl (λ i. false≢true (d e .complete i), ap (λ (b : Bool). cond b (cond false (pick bs) 4) 1) e))
+        go true e true d =
+            given-picked all ((R .clock .enabled, 1) ∷ (true, 4) ∷ bs) (g (tells-shown R e (d e .sound refl)))
+
+-- ---- every call, on the wheel that the records show
+module _ (R : Records) where
+  abbrev w : Wheel
+  w = shown wheel01 R
+
+  module _ (c : Call) where
+    abbrev ts : List (Row (Type 0))
+    ts = later (rows (testsOn R) c)
+
+    abbrev bs : List (Row Bool)
+    bs = later (rows (testsOf wheel01 true w) c)
+
+  pub numbered : (c : Call) → LentTo R c → (n : ℕ) → rowsOn R c n → (s : Bool) × Looks c R s × (refusalIf wheel01 s w c ≡ n)
+  numbered (create m) l n r = (false, tt, sym r)
+  numbered (enable i j f) l n r = (false, l, picked (rows (testsOn R) (enable i j f)) (rows (testsOf wheel01 true w) (enable i j f)) (enable-rows R (R .clock .enabled) refl i j f l) n r)
+  numbered (setEntry e o h) l n r = judged-by R (ts (setEntry e o h)) (bs (setEntry e o h)) (λ T. agree R w T (setEntry e o h) tt) n r
+  numbered (schedule e h) l n r = judged-by R (ts (schedule e h)) (bs (schedule e h)) (λ T. agree R w T (schedule e h) tt) n r
+  numbered (reschedule x m h) l n r = judged-by R (ts (reschedule x m h)) (bs (reschedule x m h)) (λ T. agree R w T (reschedule x m h) tt) n r
+  numbered (deschedule x m h) l n r = judged-by R (ts (deschedule x m h)) (bs (deschedule x m h)) (λ T. agree R w T (deschedule x m h) tt) n r
+  numbered (start q) l n r = judged-by R (ts (start q)) (bs (start q)) (λ T. agree R w T (start q) tt) n r
+  numbered pull l n r = judged-by R (ts pull) (bs pull) (λ T. agree R w T pull tt) n r
+  numbered abandon l n r = judged-by R (ts abandon) (bs abandon) (λ T. agree R w T abandon tt) n r
+  numbered armedCount l n r = judged-by R (ts armedCount) (bs armedCount) (λ T. agree R w T armedCount tt) n r
+  numbered nextDue l n r = judged-by R (ts nextDue) (bs nextDue) (λ T. agree R w T nextDue tt) n r
+
+  pub given-number : (c : Call) (s : Bool) → Looks c R s → rowsOn R c (refusalIf wheel01 s w c)
+  given-number (create m) s l = refl
+  given-number (enable i j f) s l = given-picked (rows (testsOn R) (enable i j f)) (rows (testsOf wheel01 true w) (enable i j f)) (enable-rows R (R .clock .enabled) refl i j f l)
+  given-number (setEntry e o h) s l = given-by R (ts (setEntry e o h)) (bs (setEntry e o h)) (λ T. agree R w T (setEntry e o h) tt) s l
+  given-number (schedule e h) s l = given-by R (ts (schedule e h)) (bs (schedule e h)) (λ T. agree R w T (schedule e h) tt) s l
+  given-number (reschedule x m h) s l = given-by R (ts (reschedule x m h)) (bs (reschedule x m h)) (λ T. agree R w T (reschedule x m h) tt) s l
+  given-number (deschedule x m h) s l = given-by R (ts (deschedule x m h)) (bs (deschedule x m h)) (λ T. agree R w T (deschedule x m h) tt) s l
+  given-number (start q) s l = given-by R (ts (start q)) (bs (start q)) (λ T. agree R w T (start q) tt) s l
+  given-number pull s l = given-by R (ts pull) (bs pull) (λ T. agree R w T pull tt) s l
+  given-number abandon s l = given-by R (ts abandon) (bs abandon) (λ T. agree R w T abandon tt) s l
+  given-number armedCount s l = given-by R (ts armedCount) (bs armedCount) (λ T. agree R w T armedCount tt) s l
+  given-number nextDue s l = given-by R (ts nextDue) (bs nextDue) (λ T. agree R w T nextDue tt) s l
+
+  pub lent-to : (c : Call) (s : Bool) → Looks c R s → LentTo R c
+  lent-to (create m) s l = tt
+  lent-to (enable i j f) s l = l
+  lent-to (setEntry e o h) s l = tt
+  lent-to (schedule e h) s l = tt
+  lent-to (reschedule x m h) s l = tt
+  lent-to (deschedule x m h) s l = tt
+  lent-to (start q) s l = tt
+  lent-to pull s l = tt
+  lent-to abandon s l = tt
+  lent-to armedCount s l = tt
+  lent-to nextDue s l = tt

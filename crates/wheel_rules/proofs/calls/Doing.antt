@@ -4,13 +4,13 @@ use native.Mathlib.Omega.{arith}
 use mathlib.Core.Path.{_≡_, refl, sym, ap, subst}
 use mathlib.Core.Bool.{Bool, true, false, cond}
 use mathlib.Core.Option.{Option, none, some}
-use lib.ListN.{length, getD}
+use lib.ListN.{getD}
 use Rattle.deque_rules.specs.Lists.{Links}
 use Rattle.deque_rules.specs.Change.{linkBack, Pushable}
 use Rattle.deque_rules.proofs.Laws.{first-in, pushes}
 use Rattle.rules.specs.Geometry.{wheel01}
 use Rattle.rules.specs.Place.{bucketOf}
-use Rattle.rules.specs.Wheel.{Wheel, enable, setEntry, schedule, reschedule, deschedule, start, pull, abandon, armedCount, nextDue, Answer, ok, number, due}
+use Rattle.rules.specs.Wheel.{Wheel, setEntry, schedule, reschedule, deschedule, start, pull, abandon, armedCount, nextDue, Answer, ok, number, due}
 use Rattle.rules.specs.Wheel.{removed}
 use Rattle.rules.specs.Calls.{act, rearmed}
 use Rattle.rules.proofs.Placing.{bucketOf-in}
@@ -28,6 +28,7 @@ use Rattle.wheel_rules.specs.refusals.Refuse.{RefusesSet, RefusesHandle}
 use Rattle.wheel_rules.specs.calls.Work.{entrySet, deadlineAt, scheduled, handleOf, descheduled, moved, hasDeadline, rescheduled, rescheduleSays}
 use Rattle.wheel_rules.specs.calls.Work.{laidOut, entryOf, opened, left, pulled, pullSays, armedSays, nextSays}
 use Rattle.wheel_rules.specs.calls.Calls.{Acts}
+use Rattle.wheel_rules.specs.calls.Promise.{enabling}
 use Rattle.wheel_rules.proofs.records.Setting.{sets-does}
 use Rattle.wheel_rules.proofs.records.Retiming.{start-does, end-does, abandon-does}
 use Rattle.wheel_rules.proofs.records.Counting.{count-same, due-same}
@@ -39,10 +40,10 @@ use Rattle.wheel_rules.proofs.refusals.Rows.{past, standing-past, close
 use Rattle.wheel_rules.proofs.refusals.Refusing.{set-past}
 use Rattle.wheel_rules.proofs.calls.Acting.{lay-ready, Schedulable, schedulable-by, ready, Handled, handled-by, slot-ready, entry-ready, turn-ready}
 use Rattle.wheel_rules.proofs.calls.Acting.{deadline-is, held-is}
-use Rattle.wheel_rules.proofs.calls.Calling.{stands-of, lift, same-option}
+use Rattle.wheel_rules.proofs.calls.Lifting.{stands-of, lift, same-option}
 
 -- ---- enable
-pub enable-acts : (R : Records) → enableRows R 0 → Acts (enable (length (R .nodes .links .next)) (length (R .entries .dated))) R (laidOut R) ok
+pub enable-acts : (R : Records) → enableRows R 0 → Acts (enabling R) R (laidOut R) ok
 enable-acts R f w t o =
     let y : LayReady wheel01 (R .nodes) (R .entries) = lay-ready (R .nodes) (R .entries) (R .clock) 0 (record { by = f }) refl in
     (refl, stands-of (laidOut R) _ (lay-does (R .nodes) (R .entries) (R .clock) y w (t .reading) (t .next)))

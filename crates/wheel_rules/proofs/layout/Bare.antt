@@ -7,7 +7,7 @@ use Prim.Native.Nat.{ℕ, zero, suc, _+_, _≤_, _<_}
 use native.Mathlib.Omega.{arith}
 use mathlib.Core.Path.{_≡_, refl, sym, ap, subst, _∙_}
 use mathlib.Core.Logic.{⊎-elim}
-use mathlib.Core.Bool.{cond}
+use mathlib.Core.Bool.{true, cond}
 use mathlib.Core.List.{List, []}
 use lib.ListN.{length, getD, set, length-set, length-replicate, getD-replicate}
 use lib.Seq.{getD-set-same, getD-set-other, ext-getD}
@@ -211,6 +211,6 @@ bare-lays N E c y =
       clock-is = refl;
       does = λ w er es.
           let room : B < m = omega (arith, y .seat .room, y .heads-len) in
-          subst (λ (D : ℕ). Shows wheel01 (records (bareNodes D m) (bareEntries k) (enabledWith D m k c)) (act wheel01 w (enable m k) .1)) (sym (y .heads-len))
+          subst (λ (D : ℕ). Shows wheel01 (records (bareNodes D m) (bareEntries k) (enabledWith D m k c)) (act wheel01 w (enable m k true) .1)) (sym (y .heads-len))
           (bare-shows wheel01 (bareLinks B m) m k c w (bare-rep B m room (y .seat .sizes .small)) room er es);
     }

@@ -2,6 +2,7 @@
 use Prim.Native.Nat.{ℕ, zero, suc, _≤_}
 use native.Mathlib.Omega.{arith}
 use native.Mathlib.Numerals.{add-one}
+use mathlib.Core.Bool.{true}
 use mathlib.Core.Path.{_≡_, refl, subst}
 use lib.ListN.{length, replicate}
 use Rattle.deque_rules.specs.Chain.{first, upFrom}
@@ -73,7 +74,7 @@ module _ (N : Nodes) (E : Entries) (c : Clock) (y : LayReady wheel01 N E) where
 
   -- what is written is the rules' enabling
   pub lay-does : (w : Wheel) → c .reading ≡ w .reading → c .serial ≡ w .next
-      → Shows wheel01 (records (bareNodes (length (N .links .heads)) slots) (bareEntries total) clock) (act wheel01 w (enable slots total) .1)
+      → Shows wheel01 (records (bareNodes (length (N .links .heads)) slots) (bareEntries total) clock) (act wheel01 w (enable slots total true) .1)
   lay-does w er es =
       let u = lays-right .1 in
-      subst (λ (M : Nodes). Shows wheel01 (records M (bareEntries total) clock) (act wheel01 w (enable slots total) .1)) (u .nodes-are) (u .does w er es)
+      subst (λ (M : Nodes). Shows wheel01 (records M (bareEntries total) clock) (act wheel01 w (enable slots total true) .1)) (u .nodes-are) (u .does w er es)

@@ -4,7 +4,7 @@ use native.Mathlib.Omega.{arith}
 use native.Mathlib.Numerals.{add-one}
 use mathlib.Core.Path.{_≡_, refl, sym, ap, subst, _∙_}
 use mathlib.Core.Logic.{inl, inr, ⊎-elim}
-use mathlib.Core.Bool.{Bool, false}
+use mathlib.Core.Bool.{Bool, true, false}
 use mathlib.Core.List.{List, [], _∷_, _++_}
 use lib.ListN.{length, length-set, replicate, length-replicate, getD-replicate}
 use lib.Seq.{getD-set-same, getD-set-other}
@@ -185,7 +185,7 @@ module _ (g : Geometry) (a : Links) (m k : ℕ) (c : Clock) (w : Wheel) (r : Rep
         alone (inl e) b = omega arith
         alone (inr e) b = e
 
-    pub bare-shows : c .reading ≡ w .reading → c .serial ≡ w .next → Shows g (records N (bareEntries k) (enabledWith D m k c)) (act g w (enable m k) .1)
+    pub bare-shows : c .reading ≡ w .reading → c .serial ≡ w .next → Shows g (records N (bareEntries k) (enabledWith D m k c)) (act g w (enable m k true) .1)
     bare-shows er es =
         record {
           lists = seatedLists D (allFree D m);

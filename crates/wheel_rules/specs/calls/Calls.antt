@@ -49,10 +49,9 @@ abbrev pub Acts : Call → Records → Records → Answer → Type 0
 Acts c R R′ answer = (w : Wheel) → Stands wheel01 R w → SoundIfEnabled wheel01 w → (act wheel01 w c .0 ≡ answer) × Stands wheel01 R′ (act wheel01 w c .1)
 
 -- The rows give a number. Where it is not 0 the answer is that refusal and every record is as before; where it is 0 the
--- answer and the records are as written, and that is what the rules' call c does.
+-- answer and the records are as written.
 pub record Meets (c : Call) (R R′ : Records) (a : Answer) : Type 0 where
   pub number : ℕ
   pub by : rowsOn R c number
   pub refusal : (number ≡ 0 → ⊥) → (a ≡ refused number) × (R′ ≡ R)
   pub result : number ≡ 0 → (a ≡ says c R) × (R′ ≡ written c R)
-  pub acts : number ≡ 0 → Acts c R R′ a

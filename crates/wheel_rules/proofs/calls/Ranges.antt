@@ -44,8 +44,8 @@ module _ (c : Clock) (i : InRange wheel01 c) where
   abandoning = record { some = i .some; most = i .most; known = λ o. absurd (false≢true o) }
 
 -- enabled over lent records
-pub enabling : (R : Records) → Lendable R → InRange wheel01 (laidOut R .clock)
-enabling R l = record { some = l .around .ranges .some; most = l .around .ranges .entries-most; known = λ o. absurd (false≢true o) }
+pub enabling-range : (R : Records) → Lendable R → InRange wheel01 (laidOut R .clock)
+enabling-range R l = record { some = l .around .ranges .some; most = l .around .ranges .entries-most; known = λ o. absurd (false≢true o) }
 
 -- moved, or removed
 pub moving : (R : Records) (x : ℕ) (b : Bool) → InRange wheel01 (R .clock) → InRange wheel01 (cond b (moved R x) (descheduled R x) .clock)
