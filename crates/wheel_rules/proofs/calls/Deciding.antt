@@ -324,7 +324,7 @@ module _ (R : Records) (w : Wheel) (T : Tells R w) where
     λ l. (
       refl,
       let g : w .lists .node x .generation ≡ getD (R .nodes .generation) x 0 = ap (λ (u : Node). u .generation) (live-node s e x n l .1) in
-      by-path (λ i. sym g ∙ i) (λ i. g ∙ i) refl (same-decided (w .lists .node x .generation) h),
+          by-path (λ i. sym g ∙ i) (λ i. g ∙ i) refl (same-decided (w .lists .node x .generation) h),
       λ _. tt,
     ),
   )

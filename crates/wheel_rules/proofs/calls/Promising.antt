@@ -302,17 +302,24 @@ module _ (R R₁ R₂ : Records) where
       )
 
 -- ---- the promise gives the equations
-pub equations : (c : Call) (R R′ : Records) (a : Answer) → Promised c R R′ a → Meets c R R′ a
-equations c R R′ a p =
-    let w : Wheel = shown wheel01 R in
-    let k : ℕ = refusalIf wheel01 (p .sound) w c in
-    let r : rowsOn R c k = given-number R c (p .sound) (p .looks) in
-    record {
-      number = k;
-      by = r;
-      refusal = λ n. (p .answer-is ∙ ap (λ (y : Answer × Wheel). y .0) (judged-no k (act wheel01 w c) w n), p .stays n);
-      result = λ z.
-          coincide R R′ (written c R) c a (says c R) p
-          (promise c R (written c R) (says c R) (lent-to R c (p .sound) (p .looks))
-          (record { number = 0; by = subst (rowsOn R c) z r; refusal = λ n. absurd (n refl); result = λ _. (refl, refl) }));
-    }
+module _ (c : Call) (R R′ : Records) (a : Answer) (p : Promised c R R′ a) where
+  -- the number that it is refused with, or 0
+  abbrev pub numberOf : ℕ
+  numberOf = refusalIf wheel01 (p .sound) (shown wheel01 R) c
+
+  pub number-given : rowsOn R c numberOf
+  number-given = given-number R c (p .sound) (p .looks)
+
+  pub refuses : (numberOf ≡ 0 → ⊥) → (a ≡ refused numberOf) × (R′ ≡ R)
+  refuses n =
+      let w : Wheel = shown wheel01 R in
+      (p .answer-is ∙ ap (λ (y : Answer × Wheel). y .0) (judged-no numberOf (act wheel01 w c) w n), p .stays n)
+
+  pub writes : numberOf ≡ 0 → (a ≡ says c R) × (R′ ≡ written c R)
+  writes z =
+      coincide R R′ (written c R) c a (says c R) p
+      (promise c R (written c R) (says c R) (lent-to R c (p .sound) (p .looks))
+      (record { number = 0; by = subst (rowsOn R c) z number-given; refusal = λ n. absurd (n refl); result = λ _. (refl, refl) }))
+
+  pub equations : Meets c R R′ a
+  equations = record { number = numberOf; by = number-given; refusal = refuses; result = writes }

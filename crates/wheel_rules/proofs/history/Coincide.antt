@@ -1,13 +1,9 @@
 -- Two results that meet a promise coincide: the answer itself, every record and the clock.
 use Prim.Native.Nat.{ℕ}
 use native.Mathlib.Omega.{arith}
-use mathlib.Core.Path.{_≡_, refl, sym, ap, _∙_}
-use mathlib.Core.Logic.{⊎-elim}
-use mathlib.Core.Bool.{Bool}
+use mathlib.Core.Path.{_≡_, refl, ap}
 use mathlib.Core.List.{List}
-use Rattle.rules.specs.Wheel.{Call, Answer, refused, number}
-use Rattle.numbers.proofs.Cases.{same?}
-use Rattle.numbers.proofs.Rows.{Single, none-left, row}
+use Rattle.rules.specs.Wheel.{Call, create, Answer}
 use Rattle.wheel_rules.specs.declared.records.Clock.{Clock}
 use Rattle.wheel_rules.specs.records.Records.{Nodes, Entries, Records, records}
 use Rattle.wheel_rules.specs.declared.calls.Timed.{Timed}
@@ -26,49 +22,8 @@ use Rattle.wheel_rules.specs.declared.calls.Due.{Due}
 use Rattle.wheel_rules.specs.declared.calls.Due.the-variants.{At, Never, Refused as DueRefused}
 use Rattle.wheel_rules.specs.calls.Answers.{timedSays, notedSays, scheduledSays, rescheduledSays, pulledSays, countedSays, dueSays, timedClock}
 use Rattle.wheel_rules.specs.calls.Answers.{scheduledClock, rescheduledClock, pulledClock}
-use Rattle.wheel_rules.specs.refusals.Refuse.{enableRows, setRows, scheduleRows, handleRows, closedRows, openRows, countRows}
-use Rattle.wheel_rules.specs.calls.Calls.{Meets, Create, Enable, SetEntry, Schedule, Reschedule, Deschedule, Start, Pull, Abandon, ArmedCount, NextDue}
-
--- ---- rows give one number
-module _ (R : Records) where
-  pub enable-single : Single (enableRows R)
-  enable-single = row _ 2 _ (row _ 3 _ none-left)
-
-  pub count-single : Single (countRows R)
-  count-single = row _ 1 _ (row _ 4 _ none-left)
-
-  pub closed-single : Single (closedRows R)
-  closed-single = row _ 1 _ (row _ 4 _ (row _ 5 _ none-left))
-
-  pub open-single : Single (openRows R)
-  open-single = row _ 1 _ (row _ 4 _ (row _ 6 _ none-left))
-
-  pub set-single : (e : ℕ) → Single (setRows R e)
-  set-single e = row _ 1 _ (row _ 4 _ (row _ 5 _ (row _ 7 _ none-left)))
-
-  pub schedule-single : (e h : ℕ) → Single (scheduleRows R e h)
-  schedule-single e h =
-      row _ 1 _ (row _ 4 _ (row _ 5 _ (row _ 7 _ (row _ 8 _ (row _ 9 _ (row _ 10 _ (row _ 11 _ none-left)))))))
-
-  pub handle-single : (x n h : ℕ) → Single (handleRows R x n h)
-  handle-single x n h = row _ 1 _ (row _ 4 _ (row _ 5 _ (row _ 12 _ (row _ 13 _ none-left))))
-
--- ---- a promise determines what is said and the records
-pub met : (c : Call) (rows : ℕ → Type 0) (R R₁ R₂ after : Records) (a b then : Answer) → Single rows → Meets c rows R R₁ a after then → Meets c rows R R₂ b
-    after then
-    → (a ≡ b) × (R₁ ≡ R₂)
-met c rows R R₁ R₂ after a b then s m n =
-    let e : n .number ≡ m .number = s (n .number) (m .number) (n .by) (m .by) in
-    ⊎-elim
-    (λ (z : m .number ≡ 0).
-    let p = m .result z in
-    let q = n .result (e ∙ z) in
-    (p .0 ∙ sym (q .0), p .1 ∙ sym (q .1)))
-    (λ (z : m .number ≡ 0 → ⊥).
-    let p = m .refusal z in
-    let q = n .refusal (λ i. z (sym e ∙ i)) in
-    (p .0 ∙ ap refused (sym e) ∙ sym (q .0), p .1 ∙ sym (q .1)))
-    (same? (m .number) 0)
+use Rattle.wheel_rules.specs.calls.Promise.{Promised, over, Begins}
+use Rattle.wheel_rules.proofs.calls.Promising.{coincide}
 
 -- ---- what is said, and the clock, determine the answer
 module _ (c : Clock) where
@@ -140,62 +95,51 @@ dued (DueRefused x) (DueRefused y) e = cc
 abbrev pub clockOf : Records → Clock
 clockOf R = R .clock
 
-pub create-coincides : (first : ℕ) (c k : Clock) (h t h′ t′ : List ℕ) → Create first c h t → Create first k h′ t′ → (c ≡ k) × (h ≡ h′) × (t ≡ t′)
-create-coincides first c k h t h′ t′ m n =
-    (m .clock-is ∙ sym (n .clock-is), m .heads-is ∙ sym (n .heads-is), m .tails-is ∙ sym (n .tails-is))
+-- create hands out one clock, and one list of heads and of tails, whatever is lent
+pub create-coincides : (first : ℕ) (R : Records) (c k : Clock) (h t h′ t′ : List ℕ) (a b : Answer) → Begins first c h t a → Begins first k h′ t′ b
+    → (c ≡ k) × (h ≡ h′) × (t ≡ t′) × (a ≡ b)
+create-coincides first R c k h t h′ t′ a b p q =
+    let u = coincide R (over R c h t) (over R k h′ t′) (create first) a b (p .promised R) (q .promised R) in (
+      ap clockOf (u .1),
+      ap (λ (x : Records). x .nodes .links .heads) (u .1),
+      ap (λ (x : Records). x .nodes .links .tails) (u .1),
+      u .0,
+    )
 
-module _ (R : Records) (N M : Nodes) (E F : Entries) where
-  pub enable-coincides : (r s : Timed) → Enable R (records N E (timedClock (R .clock) r)) r → Enable R (records M F (timedClock (R .clock) s)) s
-      → (r ≡ s) × (N ≡ M) × (E ≡ F)
-  enable-coincides r s m n =
-      let u = met _ _ R _ _ _ _ _ _ (enable-single R) (m .meets) (n .meets) in
-      (timed (R .clock) r s (u .0) (ap clockOf (u .1)), ap (λ (x : Records). x .nodes) (u .1), ap (λ (x : Records). x .entries) (u .1))
+module _ (R : Records) (N M : Nodes) (E F : Entries) (c : Call) where
+  -- what is said, nodes, entries and clock
+  one : (a b : Answer) (k l : Clock) → Promised c R (records N E k) a → Promised c R (records M F l) b → (a ≡ b) × (k ≡ l) × (N ≡ M) × (E ≡ F)
+  one a b k l p q =
+      let u = coincide R (records N E k) (records M F l) c a b p q in
+      (u .0, ap clockOf (u .1), ap (λ (x : Records). x .nodes) (u .1), ap (λ (x : Records). x .entries) (u .1))
 
-  pub schedule-coincides : (e h : ℕ) (r s : Scheduled) → Schedule R (records N E (scheduledClock (R .clock) r)) e h r → Schedule R
-      (records M F (scheduledClock (R .clock) s)) e h s
-      → (r ≡ s) × (N ≡ M) × (E ≡ F)
-  schedule-coincides e h r s m n =
-      let u = met _ _ R _ _ _ _ _ _ (schedule-single R e h) (m .meets) (n .meets) in
-      (scheduled (R .clock) r s (u .0) (ap clockOf (u .1)), ap (λ (x : Records). x .nodes) (u .1), ap (λ (x : Records). x .entries) (u .1))
+  -- enable, deschedule, start, abandon
+  pub timed-coincides : (r s : Timed) → Promised c R (records N E (timedClock (R .clock) r)) (timedSays r)
+      → Promised c R (records M F (timedClock (R .clock) s)) (timedSays s) → (r ≡ s) × (N ≡ M) × (E ≡ F)
+  timed-coincides r s p q = let u = one _ _ _ _ p q in (timed (R .clock) r s (u .0) (u .1), u .2, u .3)
 
-  pub reschedule-coincides : (x n h : ℕ) (r s : Rescheduled) → Reschedule R (records N E (rescheduledClock (R .clock) r)) x n h r
-      → Reschedule R (records M F (rescheduledClock (R .clock) s)) x n h s → (r ≡ s) × (N ≡ M) × (E ≡ F)
-  reschedule-coincides x n h r s m k =
-      let u = met _ _ R _ _ _ _ _ _ (handle-single R x n h) (m .meets) (k .meets) in
-      (rescheduled (R .clock) r s (u .0) (ap clockOf (u .1)), ap (λ (y : Records). y .nodes) (u .1), ap (λ (y : Records). y .entries) (u .1))
+  -- schedule
+  pub scheduled-coincides : (r s : Scheduled) → Promised c R (records N E (scheduledClock (R .clock) r)) (scheduledSays r)
+      → Promised c R (records M F (scheduledClock (R .clock) s)) (scheduledSays s) → (r ≡ s) × (N ≡ M) × (E ≡ F)
+  scheduled-coincides r s p q = let u = one _ _ _ _ p q in (scheduled (R .clock) r s (u .0) (u .1), u .2, u .3)
 
-  pub deschedule-coincides : (x n h : ℕ) (r s : Timed) → Deschedule R (records N E (timedClock (R .clock) r)) x n h r
-      → Deschedule R (records M F (timedClock (R .clock) s)) x n h s → (r ≡ s) × (N ≡ M) × (E ≡ F)
-  deschedule-coincides x n h r s m k =
-      let u = met _ _ R _ _ _ _ _ _ (handle-single R x n h) (m .meets) (k .meets) in
-      (timed (R .clock) r s (u .0) (ap clockOf (u .1)), ap (λ (y : Records). y .nodes) (u .1), ap (λ (y : Records). y .entries) (u .1))
+  -- reschedule
+  pub rescheduled-coincides : (r s : Rescheduled) → Promised c R (records N E (rescheduledClock (R .clock) r)) (rescheduledSays r)
+      → Promised c R (records M F (rescheduledClock (R .clock) s)) (rescheduledSays s) → (r ≡ s) × (N ≡ M) × (E ≡ F)
+  rescheduled-coincides r s p q = let u = one _ _ _ _ p q in (rescheduled (R .clock) r s (u .0) (u .1), u .2, u .3)
 
-  pub start-coincides : (q : ℕ) (r s : Timed) → Start R (records N E (timedClock (R .clock) r)) q r → Start R (records M F (timedClock (R .clock) s)) q s
-      → (r ≡ s) × (N ≡ M) × (E ≡ F)
-  start-coincides q r s m n =
-      let u = met _ _ R _ _ _ _ _ _ (closed-single R) (m .meets) (n .meets) in
-      (timed (R .clock) r s (u .0) (ap clockOf (u .1)), ap (λ (x : Records). x .nodes) (u .1), ap (λ (x : Records). x .entries) (u .1))
+  -- pull
+  pub pulled-coincides : (r s : Pulled) → Promised c R (records N E (pulledClock (R .clock) r)) (pulledSays r)
+      → Promised c R (records M F (pulledClock (R .clock) s)) (pulledSays s) → (r ≡ s) × (N ≡ M) × (E ≡ F)
+  pulled-coincides r s p q = let u = one _ _ _ _ p q in (pulledAnswer (R .clock) r s (u .0) (u .1), u .2, u .3)
 
-  pub pull-coincides : (r s : Pulled) → Pull R (records N E (pulledClock (R .clock) r)) r → Pull R (records M F (pulledClock (R .clock) s)) s
-      → (r ≡ s) × (N ≡ M) × (E ≡ F)
-  pull-coincides r s m n =
-      let u = met _ _ R _ _ _ _ _ _ (open-single R) (m .meets) (n .meets) in
-      (pulledAnswer (R .clock) r s (u .0) (ap clockOf (u .1)), ap (λ (x : Records). x .nodes) (u .1), ap (λ (x : Records). x .entries) (u .1))
+-- set entry; the two counts, which change nothing
+module _ (R S T : Records) (c : Call) where
+  pub noted-coincides : (r s : Noted) → Promised c R S (notedSays r) → Promised c R T (notedSays s) → (r ≡ s) × (S ≡ T)
+  noted-coincides r s p q = let u = coincide R S T c _ _ p q in (noted r s (u .0), u .1)
 
-  pub abandon-coincides : (r s : Timed) → Abandon R (records N E (timedClock (R .clock) r)) r → Abandon R (records M F (timedClock (R .clock) s)) s
-      → (r ≡ s) × (N ≡ M) × (E ≡ F)
-  abandon-coincides r s m n =
-      let u = met _ _ R _ _ _ _ _ _ (open-single R) (m .meets) (n .meets) in
-      (timed (R .clock) r s (u .0) (ap clockOf (u .1)), ap (λ (x : Records). x .nodes) (u .1), ap (λ (x : Records). x .entries) (u .1))
+  pub counted-coincides : (r s : Counted) → Promised c R S (countedSays r) → Promised c R T (countedSays s) → (r ≡ s) × (S ≡ T)
+  counted-coincides r s p q = let u = coincide R S T c _ _ p q in (counted r s (u .0), u .1)
 
-module _ (R R₁ R₂ : Records) where
-  pub set-coincides : (e : ℕ) (has : Bool) (d h : ℕ) (r s : Noted) → SetEntry R R₁ e has d h r → SetEntry R R₂ e has d h s → (r ≡ s) × (R₁ ≡ R₂)
-  set-coincides e has d h r s m n =
-      let u = met _ _ R _ _ _ _ _ _ (set-single R e) (m .meets) (n .meets) in
-      (noted r s (u .0), u .1)
-
-  pub count-coincides : (r s : Counted) → ArmedCount R r → ArmedCount R s → r ≡ s
-  count-coincides r s m n = counted r s (met _ _ R _ _ _ _ _ _ (count-single R) (m .meets) (n .meets) .0)
-
-  pub due-coincides : (r s : Due) → NextDue R r → NextDue R s → r ≡ s
-  due-coincides r s m n = dued r s (met _ _ R _ _ _ _ _ _ (closed-single R) (m .meets) (n .meets) .0)
+  pub due-coincides : (r s : Due) → Promised c R S (dueSays r) → Promised c R T (dueSays s) → (r ≡ s) × (S ≡ T)
+  due-coincides r s p q = let u = coincide R S T c _ _ p q in (dued r s (u .0), u .1)
