@@ -1,7 +1,8 @@
 // Start and abandon: refusals in order, then the clock. They move no node. No `requires`. A refused call leaves every
 // record as found.
-ghost use Rattle.wheel_rules.specs.calls.Answers.{timedClock};
-ghost use Rattle.wheel_rules.specs.calls.Calls.{Start, Abandon};
+ghost use Rattle.wheel_rules.specs.calls.Answers.{timedClock, timedSays};
+ghost use Rattle.rules.specs.Wheel.{start, abandon};
+ghost use Rattle.wheel_rules.specs.calls.Promise.{Promised};
 ghost use Rattle.wheel_rules.specs.refusals.Lending.{before, after};
 use wheel_refusals::closed_refusal;
 use wheel_refusals::open_refusal;
@@ -25,9 +26,10 @@ pub fn start(
     clock: Clock,
     q: u64,
 ) -> Timed
-    ensures { λ r. ⌜ Start
+    ensures { λ r. ⌜ Promised (start q)
         (before heads tails next prev bucket entry generation serial dated deadline stamp clock)
-        (after heads tails next prev bucket entry generation serial dated deadline stamp (timedClock clock r)) q r ⌝ }
+        (after heads tails next prev bucket entry generation serial dated deadline stamp (timedClock clock r))
+        (timedSays r) ⌝ }
 {
     let no = closed_refusal(
         heads,
@@ -66,9 +68,10 @@ pub fn abandon(
     stamp: &[u32],
     clock: Clock,
 ) -> Timed
-    ensures { λ r. ⌜ Abandon
+    ensures { λ r. ⌜ Promised abandon
         (before heads tails next prev bucket entry generation serial dated deadline stamp clock)
-        (after heads tails next prev bucket entry generation serial dated deadline stamp (timedClock clock r)) r ⌝ }
+        (after heads tails next prev bucket entry generation serial dated deadline stamp (timedClock clock r))
+        (timedSays r) ⌝ }
 {
     let no = open_refusal(
         heads,

@@ -1,6 +1,7 @@
 // Schedule: refusals in order, then the work. No `requires`. A refused call leaves every record as found.
-ghost use Rattle.wheel_rules.specs.calls.Answers.{scheduledClock};
-ghost use Rattle.wheel_rules.specs.calls.Calls.{Schedule};
+ghost use Rattle.wheel_rules.specs.calls.Answers.{scheduledClock, scheduledSays};
+ghost use Rattle.rules.specs.Wheel.{schedule};
+ghost use Rattle.wheel_rules.specs.calls.Promise.{Promised};
 ghost use Rattle.wheel_rules.specs.refusals.Lending.{before, after};
 use wheel_refusals::schedule_refusal;
 use wheel_rules::calls::Scheduled;
@@ -25,9 +26,10 @@ pub fn schedule(
     e: usize,
     h: u32,
 ) -> Scheduled
-    ensures { λ r. ⌜ Schedule
+    ensures { λ r. ⌜ Promised (schedule e h)
         (before heads tails next prev bucket entry generation serial dated deadline stamp clock)
-        (after heads tails next prev bucket entry generation serial dated deadline stamp (scheduledClock clock r)) e h r ⌝ }
+        (after heads tails next prev bucket entry generation serial dated deadline stamp (scheduledClock clock r))
+        (scheduledSays r) ⌝ }
 {
     let no = schedule_refusal(
         heads,

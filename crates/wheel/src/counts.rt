@@ -1,7 +1,8 @@
 // Armed count and next due: refusals in order, then the count. They change nothing. No `requires`.
-ghost use Rattle.wheel_rules.specs.calls.Answers.{TellsDue};
-ghost use Rattle.wheel_rules.specs.calls.Calls.{ArmedCount, NextDue};
-ghost use Rattle.wheel_rules.specs.refusals.Lending.{before};
+ghost use Rattle.wheel_rules.specs.calls.Answers.{TellsDue, countedSays, dueSays};
+ghost use Rattle.rules.specs.Wheel.{armedCount, nextDue};
+ghost use Rattle.wheel_rules.specs.calls.Promise.{Promised};
+ghost use Rattle.wheel_rules.specs.refusals.Lending.{before, after};
 use wheel_refusals::closed_refusal;
 use wheel_refusals::standing_refusal;
 use wheel_rules::calls::Counted;
@@ -34,7 +35,9 @@ pub fn armed_count(
     stamp: &[u32],
     clock: Clock,
 ) -> Counted
-    ensures { λ r. ⌜ ArmedCount (before heads tails next prev bucket entry generation serial dated deadline stamp clock) r ⌝ }
+    ensures { λ r. ⌜ Promised armedCount
+        (before heads tails next prev bucket entry generation serial dated deadline stamp clock)
+        (after heads tails next prev bucket entry generation serial dated deadline stamp clock) (countedSays r) ⌝ }
 {
     let no = standing_refusal(
         heads,
@@ -72,7 +75,9 @@ pub fn next_due(
     stamp: &[u32],
     clock: Clock,
 ) -> Due
-    ensures { λ r. ⌜ NextDue (before heads tails next prev bucket entry generation serial dated deadline stamp clock) r ⌝ }
+    ensures { λ r. ⌜ Promised nextDue
+        (before heads tails next prev bucket entry generation serial dated deadline stamp clock)
+        (after heads tails next prev bucket entry generation serial dated deadline stamp clock) (dueSays r) ⌝ }
 {
     let no = closed_refusal(
         heads,

@@ -1,6 +1,6 @@
 // Enable: refusals in order, then the work. No `requires`. A refused call leaves every record as found.
-ghost use Rattle.wheel_rules.specs.calls.Answers.{timedClock};
-ghost use Rattle.wheel_rules.specs.calls.Calls.{Enable};
+ghost use Rattle.wheel_rules.specs.calls.Answers.{timedClock, timedSays};
+ghost use Rattle.wheel_rules.specs.calls.Promise.{enabling, Promised};
 ghost use Rattle.wheel_rules.specs.refusals.Lending.{before, after};
 use wheel_refusals::enable_refusal;
 use wheel_rules::calls::Timed;
@@ -24,9 +24,11 @@ pub fn enable(
     stamp: &mut [u32],
     clock: Clock,
 ) -> Timed
-    ensures { λ r. ⌜ Enable
+    ensures { λ r. ⌜ Promised
+        (enabling (before heads tails next prev bucket entry generation serial dated deadline stamp clock))
         (before heads tails next prev bucket entry generation serial dated deadline stamp clock)
-        (after heads tails next prev bucket entry generation serial dated deadline stamp (timedClock clock r)) r ⌝ }
+        (after heads tails next prev bucket entry generation serial dated deadline stamp (timedClock clock r))
+        (timedSays r) ⌝ }
 {
     let no = enable_refusal(
         heads,

@@ -1,7 +1,8 @@
 // The calls with a handle, reschedule and deschedule: refusals in order, then the work. No `requires`. A refused call
 // leaves every record as found.
-ghost use Rattle.wheel_rules.specs.calls.Answers.{rescheduledClock, timedClock};
-ghost use Rattle.wheel_rules.specs.calls.Calls.{Reschedule, Deschedule};
+ghost use Rattle.wheel_rules.specs.calls.Answers.{rescheduledClock, timedClock, rescheduledSays, timedSays};
+ghost use Rattle.rules.specs.Wheel.{reschedule, deschedule};
+ghost use Rattle.wheel_rules.specs.calls.Promise.{Promised};
 ghost use Rattle.wheel_rules.specs.refusals.Lending.{before, after};
 use wheel_refusals::handle_refusal;
 use wheel_rules::calls::Rescheduled;
@@ -29,10 +30,10 @@ pub fn reschedule(
     number: u64,
     h: u32,
 ) -> Rescheduled
-    ensures { λ r. ⌜ Reschedule
+    ensures { λ r. ⌜ Promised (reschedule slot number h)
         (before heads tails next prev bucket entry generation serial dated deadline stamp clock)
         (after heads tails next prev bucket entry generation serial dated deadline stamp (rescheduledClock clock r))
-        slot number h r ⌝ }
+        (rescheduledSays r) ⌝ }
 {
     let no = handle_refusal(
         heads,
@@ -93,10 +94,10 @@ pub fn deschedule(
     number: u64,
     h: u32,
 ) -> Timed
-    ensures { λ r. ⌜ Deschedule
+    ensures { λ r. ⌜ Promised (deschedule slot number h)
         (before heads tails next prev bucket entry generation serial dated deadline stamp clock)
-        (after heads tails next prev bucket entry generation serial dated deadline stamp (timedClock clock r)) slot
-        number h r ⌝ }
+        (after heads tails next prev bucket entry generation serial dated deadline stamp (timedClock clock r))
+        (timedSays r) ⌝ }
 {
     let no = handle_refusal(
         heads,

@@ -1,5 +1,6 @@
 // Create. No `requires`.
-ghost use Rattle.wheel_rules.specs.calls.Calls.{Create};
+ghost use Rattle.rules.specs.Wheel.{ok};
+ghost use Rattle.wheel_rules.specs.calls.Promise.{Begins};
 use deque::NONE;
 use wheel_rules::calls::Created;
 use wheel_rules::records::Clock;
@@ -7,7 +8,7 @@ use wheel_rules::records::Clock;
 // Begins a wheel with this first serial: reading 0, not enabled, no slot in any bucket. Nodes and entries stay as
 // found. Never refused.
 pub fn create(first: u64) -> Created
-    ensures { λ r. ⌜ Create first (r .clock) (r .heads) (r .tails) ⌝ }
+    ensures { λ r. ⌜ Begins first (r .clock) (r .heads) (r .tails) ok ⌝ }
 {
     let clock = Clock {
         enabled: false,

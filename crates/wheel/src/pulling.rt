@@ -1,6 +1,7 @@
 // Pull: refusals in order, then the work. No `requires`. A refused call leaves every record as found.
-ghost use Rattle.wheel_rules.specs.calls.Answers.{pulledClock, TellsEvent};
-ghost use Rattle.wheel_rules.specs.calls.Calls.{Pull};
+ghost use Rattle.wheel_rules.specs.calls.Answers.{pulledClock, TellsEvent, pulledSays};
+ghost use Rattle.rules.specs.Wheel.{pull};
+ghost use Rattle.wheel_rules.specs.calls.Promise.{Promised};
 ghost use Rattle.wheel_rules.specs.refusals.Lending.{before, after};
 use wheel_advance::pop;
 use wheel_advance::pull;
@@ -53,9 +54,10 @@ pub fn pull(
     stamp: &[u32],
     clock: Clock,
 ) -> Pulled
-    ensures { λ r. ⌜ Pull
+    ensures { λ r. ⌜ Promised pull
         (before heads tails next prev bucket entry generation serial dated deadline stamp clock)
-        (after heads tails next prev bucket entry generation serial dated deadline stamp (pulledClock clock r)) r ⌝ }
+        (after heads tails next prev bucket entry generation serial dated deadline stamp (pulledClock clock r))
+        (pulledSays r) ⌝ }
 {
     let no = open_refusal(
         heads,

@@ -1,7 +1,10 @@
 // Set entry: refusals in order, then the work. No `requires`. A refused call leaves every record as found.
 ghost use mathlib.Core.Path.{_≡_};
 ghost use mathlib.Core.Bool.{cond};
-ghost use Rattle.wheel_rules.specs.calls.Calls.{SetEntry};
+ghost use mathlib.Core.Option.{none, some};
+ghost use Rattle.wheel_rules.specs.calls.Answers.{notedSays};
+ghost use Rattle.rules.specs.Wheel.{setEntry};
+ghost use Rattle.wheel_rules.specs.calls.Promise.{Promised};
 ghost use Rattle.wheel_rules.specs.refusals.Lending.{before, after};
 use wheel_refusals::entry_refusal;
 use wheel_rules::calls::Noted;
@@ -34,9 +37,9 @@ pub fn set_entry(
     due: u64,
     h: u32,
 ) -> Noted
-    ensures { λ r. ⌜ SetEntry
+    ensures { λ r. ⌜ Promised (setEntry e (cond has (some due) none) h)
         (before heads tails next prev bucket entry generation serial dated deadline stamp clock)
-        (after heads tails next prev bucket entry generation serial dated deadline stamp clock) e has due h r ⌝ }
+        (after heads tails next prev bucket entry generation serial dated deadline stamp clock) (notedSays r) ⌝ }
 {
     let no = entry_refusal(
         heads,
