@@ -8,7 +8,8 @@ use Rattle.rules.specs.Runs.{Run, answer, after}
 use Rattle.rules.specs.Worked.{nothing}
 use Rattle.rules.proofs.Advances.{after-app}
 use Rattle.wheel_rules.specs.records.Records.{Records}
-use Rattle.wheel_rules.specs.history.History.{Tells, Promised}
+use Rattle.wheel_rules.specs.history.Tells.{Tells}
+use Rattle.wheel_rules.specs.calls.Promise.{Promised}
 use Rattle.wheel_rules.proofs.history.Steps.{create-is, step-is}
 use Rattle.story.specs.Story.{Reached}
 

@@ -11,7 +11,7 @@ use Rattle.wheel_rules.specs.declared.calls.Scheduled.the-variants.{Armed}
 use Rattle.wheel_rules.specs.declared.calls.Pulled.{Pulled}
 use Rattle.wheel_rules.specs.declared.calls.Pulled.the-variants.{Expired, Moved, End}
 use Rattle.wheel_rules.specs.calls.Answers.{timedClock, scheduledClock, pulledClock}
-use Rattle.wheel_rules.specs.calls.Calls.{Meets}
+use Rattle.wheel_rules.specs.calls.Promise.{Promised}
 
 module _ (c k : Clock) where
   pub done : (a : Timed) → a ≡ Done k → k ≡ timedClock c a
@@ -32,6 +32,6 @@ module _ (c k : Clock) where
 pub ruleset clocks = (done, armed, expired, moved, ended)
 
 -- the clock may be given by an equation
-pub with-clock : (c : Call) (rows : ℕ → Type 0) (R : Records) (N : Nodes) (E : Entries) (k k′ : Clock) (a : Answer) (after : Records) (then : Answer) → k ≡ k′
-    → Meets c rows R (records N E k′) a after then → Meets c rows R (records N E k) a after then
-with-clock c rows R N E k k′ a after then e m = subst (λ (x : Clock). Meets c rows R (records N E x) a after then) (sym e) m
+pub with-clock : (c : Call) (R : Records) (N : Nodes) (E : Entries) (k k′ : Clock) (a : Answer) → k ≡ k′ → Promised c R (records N E k′) a
+    → Promised c R (records N E k) a
+with-clock c R N E k k′ a e m = subst (λ (x : Clock). Promised c R (records N E x) a) (sym e) m

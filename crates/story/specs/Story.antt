@@ -1,5 +1,6 @@
 -- The story: what is called, chapter by chapter, and what it means to have come that far.
 use Prim.Native.Nat.{_+_, _^_}
+use mathlib.Core.Bool.{true}
 use mathlib.Core.Option.{some}
 use mathlib.Core.List.{List, [], _∷_, _++_}
 use Rattle.rules.specs.Geometry.{wheel01}
@@ -7,7 +8,7 @@ use Rattle.rules.specs.Wheel.{Call, create, enable, setEntry, schedule, desched
 use Rattle.rules.specs.Runs.{after}
 use Rattle.rules.specs.Worked.{nothing}
 use Rattle.wheel_rules.specs.records.Records.{Records}
-use Rattle.wheel_rules.specs.history.History.{Tells}
+use Rattle.wheel_rules.specs.history.Tells.{Tells}
 
 -- the records stand for the wheel that these calls of the rules lead to, and are sound
 pub record Reached (calls : List Call) (R : Records) : Type 0 where
@@ -16,7 +17,7 @@ pub record Reached (calls : List Call) (R : Records) : Type 0 where
 -- ---- the chapters
 -- a wheel of 168 node records and 2 entries, whose serials begin at 7
 abbrev pub begun : List Call
-begun = create 7 ∷ enable 168 2 ∷ []
+begun = create 7 ∷ enable 168 2 true ∷ []
 
 -- a timer, due a little after the tick 1 begins
 abbrev pub armed : List Call

@@ -1,7 +1,8 @@
 // Create and enable on held records, each with the wheel's own promise.
+ghost use mathlib.Core.Bool.{true};
 ghost use Rattle.rules.specs.Wheel.{create, enable, ok};
 ghost use Rattle.wheel_rules.specs.calls.Answers.{timedSays};
-ghost use Rattle.wheel_rules.specs.history.History.{Promised};
+ghost use Rattle.wheel_rules.specs.calls.Promise.{Promised};
 ghost use Rattle.story.specs.Held.{held};
 use crate::calls::Timing;
 use crate::clocks::after_timed;
@@ -42,7 +43,7 @@ pub fn create(first: u64) -> Held
 
 // Enables the wheel over the held records.
 pub fn enable(s: Held) -> Timing
-    ensures { λ r. ⌜ Promised (enable 168 2) (held s) (held (r .after)) (timedSays (r .answer)) ⌝ }
+    ensures { λ r. ⌜ Promised (enable 168 2 true) (held s) (held (r .after)) (timedSays (r .answer)) ⌝ }
 {
     let mut heads = s.heads;
     let mut tails = s.tails;

@@ -40,7 +40,7 @@ abandon-requires : tie.Need-abandon-requires
 abandon-requires c κs = search needs
 
 returns : tie.Need-returns
-returns c = c .abandon .ensures .meets
+returns c = c .abandon .ensures
 
 pub abandon-spec : {M : Type 1} → statement M
 abandon-spec =

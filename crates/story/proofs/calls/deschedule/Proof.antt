@@ -44,8 +44,8 @@ after-timed-requires : tie.Need-after-timed-requires
 after-timed-requires c κs = search needs
 
 returns : tie.Need-returns
-returns c = with-clock _ _ _ _ _ _ _ _ _ _ (c .after-timed .ensures)
-    (c .before .before .before .before .before .before .before .before .before .deschedule .ensures .meets)
+returns c = with-clock _ _ _ _ _ _ _ (c .after-timed .ensures)
+    (c .before .before .before .before .before .before .before .before .before .deschedule .ensures)
 
 pub deschedule-spec : {M : Type 1} → statement M
 deschedule-spec =

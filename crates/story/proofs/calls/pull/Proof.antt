@@ -44,8 +44,8 @@ after-pull-requires : tie.Need-after-pull-requires
 after-pull-requires c κs = search needs
 
 returns : tie.Need-returns
-returns c = with-clock _ _ _ _ _ _ _ _ _ _ (c .after-pull .ensures)
-    (c .before .before .before .before .before .before .before .before .before .pull .ensures .meets)
+returns c = with-clock _ _ _ _ _ _ _ (c .after-pull .ensures)
+    (c .before .before .before .before .before .before .before .before .before .pull .ensures)
 
 pub pull-spec : {M : Type 1} → statement M
 pull-spec =

@@ -44,8 +44,8 @@ after-schedule-requires : tie.Need-after-schedule-requires
 after-schedule-requires c κs = search needs
 
 returns : tie.Need-returns
-returns c = with-clock _ _ _ _ _ _ _ _ _ _ (c .after-schedule .ensures)
-    (c .before .before .before .before .before .before .before .before .before .schedule .ensures .meets)
+returns c = with-clock _ _ _ _ _ _ _ (c .after-schedule .ensures)
+    (c .before .before .before .before .before .before .before .before .before .schedule .ensures)
 
 pub schedule-spec : {M : Type 1} → statement M
 schedule-spec =

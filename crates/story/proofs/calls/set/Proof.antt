@@ -45,7 +45,7 @@ set-entry-requires : tie.Need-set-entry-requires
 set-entry-requires c κs = search needs
 
 returns : tie.Need-returns
-returns c = (true, _, c .before .before .before .set-entry .ensures .meets)
+returns c = c .before .before .before .set-entry .ensures
 
 pub set-spec : {M : Type 1} → statement M
 set-spec =

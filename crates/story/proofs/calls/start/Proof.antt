@@ -40,7 +40,7 @@ start-requires : tie.Need-start-requires
 start-requires c κs = search needs
 
 returns : tie.Need-returns
-returns c = c .start .ensures .meets
+returns c = c .start .ensures
 
 pub start-spec : {M : Type 1} → statement M
 start-spec =

@@ -1,5 +1,6 @@
 -- `begin` meets its contract: create, and enable, which is done.
 use mathlib.Core.Path.{refl}
+use mathlib.Core.Bool.{true}
 use Rattle.rules.specs.Geometry.{tick}
 use Rattle.rules.specs.Wheel.{enable}
 use Rattle.story.specs.Held.{held}
@@ -19,11 +20,11 @@ is-done-requires c κs = search needs
 
 expect-requires : tie.Need-expect-requires
 unfolding tick
-expect-requires c κs = c .is-done .ensures .yes (says (enable 168 2) _ _
+expect-requires c κs = c .is-done .ensures .yes (says (enable 168 2 true) _ _
     (beginning 7 (held (c .before .before .create .result)) _ (c .before .before .create .ensures)) (c .before .enable .ensures) _ refl)
 
 returns : tie.Need-returns
-returns c = on (enable 168 2) _ _ (beginning 7 (held (c .before .before .before .before .create .result)) _
+returns c = on (enable 168 2 true) _ _ (beginning 7 (held (c .before .before .before .before .create .result)) _
     (c .before .before .before .before .create .ensures)) (c .before .before .before .enable .ensures)
 
 pub begin-spec : {M : Type 1} → statement M

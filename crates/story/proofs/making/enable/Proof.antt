@@ -1,5 +1,5 @@
 -- `enable` keeps the wheel's promise.
-use Rattle.story.proofs.Beginning.{enabling}
+use Rattle.story.proofs.Beginning.{enabling-so}
 use borrow.Author.Needs.{needs}
 use Rattle.story.proofs.making.enable.Statement.{statement}
 use Rattle.story.proofs.making.enable.Tie as tie
@@ -47,7 +47,7 @@ returns : tie.Need-returns
 returns c =
     let g = c .before .before .before .before .before .before .before .before .before .before .before .before .before .before .before .before .before .before
     .before .before .before .before .before .before .before .before .before .before .before .before .before .before .before .before .before .before .good in
-    enabling _ _ _ _ _ _ _ _ _ _ _ _ _ _ _ _ _
+    enabling-so _ _ _ _ _ _ _ _ _ _ _ _ _ _ _ _ _
     (search (needs, g))
     (search (needs, g))
     (search (needs, g))
@@ -59,7 +59,7 @@ returns c =
     (search (needs, g))
     (search (needs, g))
     (search (needs, g .0 .1 .1 .1 .1 .1 .1))
-    (c .after-timed .ensures) (c .before .before .before .before .before .before .before .before .before .before .before .before .enable .ensures .meets)
+    (c .after-timed .ensures) (c .before .before .before .before .before .before .before .before .before .before .before .before .enable .ensures)
 
 pub enable-spec : {M : Type 1} → statement M
 enable-spec =
