@@ -96,7 +96,7 @@ module _ (n m : ℕ) (N : Nodes) (E : Entries) (c : Clock) where
         } in
         let i : 165 ≤ length (take n (N .links .next)) = omega (arith, low, length-take-le n (N .links .next) (f .next)) in
         back N′ E′ c′ f g k l (record {
-          w = act wheel01 w (enable (length (take n (N .links .next))) (length (take m (E .dated)))) .1;
+          w = act wheel01 w (enable (length (take n (N .links .next))) (length (take m (E .dated))) true) .1;
           shows = d .does w refl refl;
           sound = enable-sound wheel01 w (length (take n (N .links .next))) (length (take m (E .dated))) i;
         })

@@ -12,7 +12,7 @@ use Rattle.rules.specs.Sound.{Sound}
 use Rattle.rules.proofs.SoundLists.{sound-bare}
 use Rattle.rules.proofs.SoundCalls.{arms, drops, pulled-sound, pulled-at}
 
-pub enable-sound : (g : Geometry) (w : Wheel) (m k : ℕ) → buckets g ≤ m → Sound g (act g w (enable m k) .1)
+pub enable-sound : (g : Geometry) (w : Wheel) (m k : ℕ) → buckets g ≤ m → Sound g (act g w (enable m k true) .1)
 enable-sound g w m k h = record { lists = sound-bare (buckets g) m k (w .next) h; advance = tt }
 
 module _ (g : Geometry) (w : Wheel) (s : Sound g w) where
