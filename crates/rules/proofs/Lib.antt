@@ -23,3 +23,4 @@ pub mod Order
 pub mod Counts
 pub mod Turns
 pub mod Seen
+pub mod Enabled

@@ -1,4 +1,9 @@
--- What the wheel's promises say together. Coincide, Steps and Runs are what a reader looks for.
+-- What the wheel's promises say together. Coincide, Steps, Runs and Demand3 are what a reader looks for.
 pub mod Coincide
 pub mod Steps
 pub mod Runs
+pub mod Splitting
+pub mod Standing
+pub mod Advances
+pub mod Arming
+pub mod Demand3

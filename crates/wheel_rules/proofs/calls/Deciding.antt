@@ -110,7 +110,7 @@ not-true : (b : Bool) → (b ≡ true → ⊥) → b ≡ false
 not-true true n = absurd (n refl)
 not-true false n = refl
 
-open-is : (c : Clock) (A : Advance) → ShowsAdvance wheel01 c A → c .open ≡ isOpen A
+pub open-is : (c : Clock) (A : Advance) → ShowsAdvance wheel01 c A → c .open ≡ isOpen A
 open-is c closed s = s
 open-is c (poised p bs) s = s .0
 open-is c (within p b bs) s = s .1
