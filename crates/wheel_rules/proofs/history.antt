@@ -5,5 +5,6 @@ pub mod Runs
 pub mod Splitting
 pub mod Standing
 pub mod Advances
+pub mod Among
 pub mod Arming
 pub mod Demand3

@@ -8,7 +8,7 @@ use Rattle.rules.specs.Geometry.{wheel01}
 use Rattle.rules.specs.Wheel.{Advance, closed, poised, within, Wheel, Call, create, start, Answer, ok}
 use Rattle.rules.specs.Refusals.{isOpen}
 use Rattle.rules.specs.Calls.{origin, step}
-use Rattle.rules.specs.Runs.{Run, next, answers, after}
+use Rattle.rules.specs.Runs.{Run, next}
 use Rattle.rules.specs.Demand3.{StaysOpen as RunOpen, Advancing as RunAdvancing}
 use Rattle.rules.proofs.Advances.{start-taken, stays-first}
 use Rattle.rules.proofs.Enabled.{stays-enabled}

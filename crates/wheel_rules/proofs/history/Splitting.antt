@@ -1,6 +1,6 @@
 -- Histories put together and taken apart, at lists of calls one after the other.
 use Prim.Native.Nat.{ℕ}
-use mathlib.Core.Path.{_≡_, refl, ap, _∙_}
+use mathlib.Core.Path.{_≡_, refl, ap}
 use mathlib.Core.List.{List, [], _∷_, _++_}
 use Rattle.rules.specs.Wheel.{Call, start, Answer}
 use Rattle.rules.specs.Timers.{LeftAlone}

@@ -1,9 +1,9 @@
 -- A timer that stands in one bucket of the rules' wheel stands in one bucket of the records that show it.
-use Prim.Native.Nat.{ℕ, _+_, _≤_, _<_}
+use Prim.Native.Nat.{ℕ, _≤_, _<_}
 use native.Mathlib.Omega.{arith}
 use mathlib.Core.Path.{_≡_, sym, ap, subst, _∙_}
 use mathlib.Core.Bool.{true}
-use mathlib.Core.List.{List, _∷_, _++_}
+use mathlib.Core.List.{_∷_}
 use borrow.Author.Tests.{ltb-true}
 use Rattle.deque_rules.specs.Lists.{homeOf}
 use Rattle.rules.specs.Geometry.{wheel01, buckets}
