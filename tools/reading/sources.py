@@ -238,9 +238,15 @@ class RtFile(File):
                 self.uses[alias] = Use(module, None, alias, False)
             for there, here in brought(names):
                 self.uses[here] = Use(module, there, here, False)
+        self.ghosts = set(self.uses)
         for public, module, name, alias in re.findall(r'^(pub )?use ([\w:]+)::(\w+)(?: as (\w+))?;', text, re.M):
             here = alias or name
-            self.uses[here] = Use(module, name, here, bool(public))
+            if here not in self.ghosts:
+                self.uses[here] = Use(module, name, here, bool(public))
+
+    def own(self, name):
+        """What a contract names is what a `ghost use` brings, though the file has a function of that name."""
+        return None if name in self.ghosts else super().own(name)
 
     def read_definitions(self):
         above = []
