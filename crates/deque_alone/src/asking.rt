@@ -1,6 +1,6 @@
 // The public calls that look, count or move a cursor: refusals in order, then the work. None asks anything of its
 // input. A refused call leaves every record as found.
-ghost use Rattle.deque_rules.specs.alone.Calls.{LookFront, LookBack, LengthIs, NextByCursor, ResetCursor};
+ghost use Rattle.deque_rules.specs.alone.Calls.{Promised, lookFront, lookBack, lengthOf, nextByCursor, resetCursor};
 ghost use Rattle.deque_rules.specs.alone.Lending.{before, after};
 use crate::NONE;
 use crate::looks::back;
@@ -24,7 +24,9 @@ pub fn look_front(
     free: usize,
     d: usize,
 ) -> Looked
-    ensures { λ r. ⌜ LookFront (before heads tails lens cursors next prev home element) free d r ⌝ }
+    ensures { λ r. ⌜ Promised (lookFront d)
+        (before heads tails lens cursors next prev home element) free
+        (after heads tails lens cursors next prev home element) r ⌝ }
 {
     let no = deque_refusal(
         heads,
@@ -68,7 +70,9 @@ pub fn look_back(
     free: usize,
     d: usize,
 ) -> Looked
-    ensures { λ r. ⌜ LookBack (before heads tails lens cursors next prev home element) free d r ⌝ }
+    ensures { λ r. ⌜ Promised (lookBack d)
+        (before heads tails lens cursors next prev home element) free
+        (after heads tails lens cursors next prev home element) r ⌝ }
 {
     let no = deque_refusal(
         heads,
@@ -112,7 +116,9 @@ pub fn length_of(
     free: usize,
     d: usize,
 ) -> Counted
-    ensures { λ r. ⌜ LengthIs (before heads tails lens cursors next prev home element) free d r ⌝ }
+    ensures { λ r. ⌜ Promised (lengthOf d)
+        (before heads tails lens cursors next prev home element) free
+        (after heads tails lens cursors next prev home element) r ⌝ }
 {
     let no = deque_refusal(
         heads,
@@ -147,7 +153,9 @@ pub fn next_by_cursor(
     free: usize,
     d: usize,
 ) -> Looked
-    ensures { λ r. ⌜ NextByCursor (before heads tails lens cursors next prev home element) (after heads tails lens cursors next prev home element) free d r ⌝ }
+    ensures { λ r. ⌜ Promised (nextByCursor d)
+        (before heads tails lens cursors next prev home element) free
+        (after heads tails lens cursors next prev home element) r ⌝ }
 {
     let no = deque_refusal(
         heads,
@@ -191,7 +199,9 @@ pub fn reset_cursor(
     free: usize,
     d: usize,
 ) -> Done
-    ensures { λ r. ⌜ ResetCursor (before heads tails lens cursors next prev home element) (after heads tails lens cursors next prev home element) free d r ⌝ }
+    ensures { λ r. ⌜ Promised (resetCursor d)
+        (before heads tails lens cursors next prev home element) free
+        (after heads tails lens cursors next prev home element) r ⌝ }
 {
     let no = deque_refusal(
         heads,

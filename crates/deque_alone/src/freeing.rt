@@ -1,6 +1,6 @@
 // The public calls that take a node out and free it: refusals in order, then the work. None asks anything of its input.
 // A refused call leaves every record as found.
-ghost use Rattle.deque_rules.specs.alone.Calls.{PopFront, UnlinkAndDrop};
+ghost use Rattle.deque_rules.specs.alone.Calls.{Promised, popFront, unlinkAndDrop};
 ghost use Rattle.deque_rules.specs.alone.Lending.{before, after};
 use crate::refuse::deque_refusal;
 use crate::refuse::node_refusal;
@@ -23,7 +23,9 @@ pub fn pop_front(
     free: usize,
     d: usize,
 ) -> Popped
-    ensures { λ r. ⌜ PopFront (before heads tails lens cursors next prev home element) (after heads tails lens cursors next prev home element) free d r ⌝ }
+    ensures { λ r. ⌜ Promised (popFront d)
+        (before heads tails lens cursors next prev home element) free
+        (after heads tails lens cursors next prev home element) r ⌝ }
 {
     let no = deque_refusal(
         heads,
@@ -68,9 +70,9 @@ pub fn unlink_and_drop(
     d: usize,
     s: usize,
 ) -> Dropped
-    ensures { λ r. ⌜ UnlinkAndDrop
-        (before heads tails lens cursors next prev home element)
-        (after heads tails lens cursors next prev home element) free d s r ⌝ }
+    ensures { λ r. ⌜ Promised (unlinkAndDrop d s)
+        (before heads tails lens cursors next prev home element) free
+        (after heads tails lens cursors next prev home element) r ⌝ }
 {
     let no = node_refusal(
         heads,

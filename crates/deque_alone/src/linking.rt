@@ -1,6 +1,6 @@
 // The public calls that put a node at the back: refusals in order, then the work. None asks anything of its input. A
 // refused call leaves every record as found.
-ghost use Rattle.deque_rules.specs.alone.Calls.{PushBack, MoveToBack};
+ghost use Rattle.deque_rules.specs.alone.Calls.{Promised, pushBack, moveToBack};
 ghost use Rattle.deque_rules.specs.alone.Lending.{before, after};
 use crate::refuse::node_refusal;
 use crate::refuse::push_refusal;
@@ -23,7 +23,9 @@ pub fn push_back(
     d: usize,
     e: u64,
 ) -> Pushed
-    ensures { λ r. ⌜ PushBack (before heads tails lens cursors next prev home element) (after heads tails lens cursors next prev home element) free d e r ⌝ }
+    ensures { λ r. ⌜ Promised (pushBack d e)
+        (before heads tails lens cursors next prev home element) free
+        (after heads tails lens cursors next prev home element) r ⌝ }
 {
     let no = push_refusal(
         heads,
@@ -73,7 +75,9 @@ pub fn move_to_back(
     d: usize,
     s: usize,
 ) -> Done
-    ensures { λ r. ⌜ MoveToBack (before heads tails lens cursors next prev home element) (after heads tails lens cursors next prev home element) free d s r ⌝ }
+    ensures { λ r. ⌜ Promised (moveToBack d s)
+        (before heads tails lens cursors next prev home element) free
+        (after heads tails lens cursors next prev home element) r ⌝ }
 {
     let no = node_refusal(
         heads,

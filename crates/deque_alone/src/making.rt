@@ -1,5 +1,6 @@
 // Making: the refusal, then the work. It asks nothing of its input. A refused call leaves every record as found.
-ghost use Rattle.deque_rules.specs.alone.Calls.{Make};
+ghost use Rattle.deque_rules.specs.alone.Calls.{Promised, make};
+ghost use Prim.Native.Nat.{ℕ};
 ghost use Rattle.deque_rules.specs.alone.Lending.{before, after};
 use crate::layout::clear;
 use crate::layout::zero;
@@ -19,7 +20,9 @@ pub fn make(
     home: &mut [usize],
     element: &mut [u64],
 ) -> Made
-    ensures { λ r. ⌜ Make (before heads tails lens cursors next prev home element) (after heads tails lens cursors next prev home element) r ⌝ }
+    ensures { λ r. ⌜ ((free : ℕ) → Promised make
+        (before heads tails lens cursors next prev home element) free
+        (after heads tails lens cursors next prev home element) r) ⌝ }
 {
     if !lent(heads, tails, lens, cursors, next, prev, home, element) {
         return Made::Refused(3);

@@ -1,4 +1,4 @@
--- The laws of the deque by itself. Coincide, Kept and Cursor are what a reader looks for.
+-- The laws of the deque by itself. Coincide, Histories and Cursor are what a reader looks for.
 pub mod Sounding
 pub mod Testing
 pub mod Refusing
@@ -13,3 +13,4 @@ pub mod Coincide
 pub mod Laws
 pub mod Cursor
 pub mod Kept
+pub mod Histories

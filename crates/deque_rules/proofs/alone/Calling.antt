@@ -14,7 +14,8 @@ use Rattle.deque_rules.specs.alone.State.{State, state, Lent}
 use Rattle.deque_rules.specs.alone.Sound.{IsLent}
 use Rattle.deque_rules.specs.alone.Answer.{values}
 use Rattle.deque_rules.specs.alone.Work.{Clears, LooksFront, LooksBack, Steps, Pushes, Moves, Drops, Pops}
-use Rattle.deque_rules.specs.alone.Calls.{Make, LookFront, LookBack, LengthIs, NextByCursor, ResetCursor, PushBack, MoveToBack, PopFront, UnlinkAndDrop}
+use Rattle.deque_rules.specs.alone.Calls.{make, pushBack, popFront, lookFront, lookBack, moveToBack, unlinkAndDrop, lengthOf, nextByCursor}
+use Rattle.deque_rules.specs.alone.Calls.{resetCursor, Promised}
 use Rattle.deque_rules.specs.declared.alone.Made.the-variants.{First, Refused as MadeRefused}
 use Rattle.deque_rules.proofs.alone.Meeting.{no, yes-by}
 use Rattle.deque_rules.specs.alone.Step.{withCursor}
@@ -28,9 +29,9 @@ use Rattle.deque_rules.specs.declared.alone.Popped.{Popped}
 use Rattle.deque_rules.specs.declared.alone.Popped.the-variants.{Refused as PoppedRefused}
 use Rattle.deque_rules.specs.declared.alone.Dropped.the-variants.{Element, Refused as DroppedRefused}
 
-pub make-no : (h t l c n p o e : List ℕ) (r : Bool) → IsLent (state h t l c n p o e) r → not r ≡ true → Make (state h t l c n p o e) (state h t l c n p o e)
-    (MadeRefused 3)
-make-no h t l c n p o e r z i =
+pub make-no : (h t l c n p o e : List ℕ) (free : ℕ) (r : Bool) → IsLent (state h t l c n p o e) r → not r ≡ true → Promised make (state h t l c n p o e) free
+    (state h t l c n p o e) (MadeRefused 3)
+make-no h t l c n p o e free r z i =
     record { meets = no _ (state h t l c n p o e) _ _ 3 (inl ((λ y. false≢true (sym (not-true r i) ∙ z .complete y)), refl)) (λ k. omega (arith, k)) }
 
 module _ (h t l c n p o e : List ℕ) (r : Bool) (z : IsLent (state h t l c n p o e) r) (i : not r ≡ false) where
@@ -50,9 +51,9 @@ module _ (h t l c n p o e : List ℕ) (r : Bool) (z : IsLent (state h t l c n p 
         small = lent .nodes .small;
       }
 
-  pub make-yes : (l′ c′ e′ h′ t′ n′ p′ o′ : List ℕ) (free : ℕ) → Clears l l′ c′ → e′ ≡ replicate (length e) 0 → LaysOut (links h t n p o)
-      (links h′ t′ n′ p′ o′) free → Make (state h t l c n p o e) (state h′ t′ l′ c′ n′ p′ o′ e′) (First free)
-  make-yes l′ c′ e′ h′ t′ n′ p′ o′ free k q y =
+  pub make-yes : (l′ c′ e′ h′ t′ n′ p′ o′ : List ℕ) (free free′ : ℕ) → Clears l l′ c′ → e′ ≡ replicate (length e) 0 → LaysOut (links h t n p o)
+      (links h′ t′ n′ p′ o′) free′ → Promised make (state h t l c n p o e) free (state h′ t′ l′ c′ n′ p′ o′ e′) (First free′)
+  make-yes l′ c′ e′ h′ t′ n′ p′ o′ free free′ k q y =
       record {
         meets =
             yes-by _ _ _ _ _ _ 0 (inr (lent, refl)) refl (ap (λ (x : ℕ). values (x ∷ [])) (y .free-is))
@@ -68,64 +69,64 @@ module _ (h t l c n p o e : List ℕ) (r : Bool) (z : IsLent (state h t l c n p 
 
 -- ---- the calls by deque
 module _ (a : State) (free d k : ℕ) (f : RefusesDeque a free d k) where
-  pub front-no : (k ≡ 0 → ⊥) → LookFront a free d (LookedRefused k)
+  pub front-no : (k ≡ 0 → ⊥) → Promised (lookFront d) a free a (LookedRefused k)
   front-no n = record { meets = no _ a _ _ k (f .by) n }
 
-  pub front-yes : (r : Looked) → k ≡ 0 → LooksFront a d r → LookFront a free d r
+  pub front-yes : (r : Looked) → k ≡ 0 → LooksFront a d r → Promised (lookFront d) a free a r
   front-yes r z p = record { meets = yes-by _ a a _ _ _ k (f .by) z (p .told) refl }
 
-  pub back-no : (k ≡ 0 → ⊥) → LookBack a free d (LookedRefused k)
+  pub back-no : (k ≡ 0 → ⊥) → Promised (lookBack d) a free a (LookedRefused k)
   back-no n = record { meets = no _ a _ _ k (f .by) n }
 
-  pub back-yes : (r : Looked) → k ≡ 0 → LooksBack a d r → LookBack a free d r
+  pub back-yes : (r : Looked) → k ≡ 0 → LooksBack a d r → Promised (lookBack d) a free a r
   back-yes r z p = record { meets = yes-by _ a a _ _ _ k (f .by) z (p .told) refl }
 
-  pub length-no : (k ≡ 0 → ⊥) → LengthIs a free d (CountedRefused k)
+  pub length-no : (k ≡ 0 → ⊥) → Promised (lengthOf d) a free a (CountedRefused k)
   length-no n = record { meets = no _ a _ _ k (f .by) n }
 
-  pub length-yes : k ≡ 0 → LengthIs a free d (Length (getD (a .lens) d 0))
+  pub length-yes : k ≡ 0 → Promised (lengthOf d) a free a (Length (getD (a .lens) d 0))
   length-yes z = record { meets = yes-by _ a a _ _ _ k (f .by) z refl refl }
 
-  pub next-no : (k ≡ 0 → ⊥) → NextByCursor a a free d (LookedRefused k)
+  pub next-no : (k ≡ 0 → ⊥) → Promised (nextByCursor d) a free a (LookedRefused k)
   next-no n = record { meets = no _ a _ _ k (f .by) n }
 
-  pub next-yes : (b : State) (r : Looked) → k ≡ 0 → Steps a b d r → NextByCursor a b free d r
+  pub next-yes : (b : State) (r : Looked) → k ≡ 0 → Steps a b d r → Promised (nextByCursor d) a free b r
   next-yes b r z p = record { meets = yes-by _ a b _ _ _ k (f .by) z (p .told) (p .is) }
 
-  pub reset-no : (k ≡ 0 → ⊥) → ResetCursor a a free d (DoneRefused k)
+  pub reset-no : (k ≡ 0 → ⊥) → Promised (resetCursor d) a free a (DoneRefused k)
   reset-no n = record { meets = no _ a _ _ k (f .by) n }
 
-  pub reset-yes : k ≡ 0 → ResetCursor a (withCursor a d none) free d Did
+  pub reset-yes : k ≡ 0 → Promised (resetCursor d) a free (withCursor a d none) Did
   reset-yes z = record { meets = yes-by _ a (withCursor a d none) _ _ _ k (f .by) z refl refl }
 
 -- ---- push back
 module _ (a : State) (free d e k : ℕ) (f : RefusesPush a free d k) where
-  pub push-no : (k ≡ 0 → ⊥) → PushBack a a free d e (PushedRefused k)
+  pub push-no : (k ≡ 0 → ⊥) → Promised (pushBack d e) a free a (PushedRefused k)
   push-no n = record { meets = no _ a _ _ k (f .by) n }
 
-  pub push-yes : (b : State) (r : ℕ) → k ≡ 0 → Pushes a b free d e r → PushBack a b free d e (At free r)
+  pub push-yes : (b : State) (r : ℕ) → k ≡ 0 → Pushes a b free d e r → Promised (pushBack d e) a free b (At free r)
   push-yes b r z p = record { meets = yes-by _ a b _ _ _ k (f .by) z (ap (λ (x : ℕ). values (free ∷ x ∷ [])) (p .free-is)) (p .is) }
 
 -- ---- move to back
 module _ (a : State) (free d s k : ℕ) (f : RefusesNode a free d s k) where
-  pub move-no : (k ≡ 0 → ⊥) → MoveToBack a a free d s (DoneRefused k)
+  pub move-no : (k ≡ 0 → ⊥) → Promised (moveToBack d s) a free a (DoneRefused k)
   move-no n = record { meets = no _ a _ _ k (f .by) n }
 
-  pub move-yes : (b : State) → k ≡ 0 → Moves a b free d s → MoveToBack a b free d s Did
+  pub move-yes : (b : State) → k ≡ 0 → Moves a b free d s → Promised (moveToBack d s) a free b Did
   move-yes b z p = record { meets = yes-by _ a b _ _ _ k (f .by) z refl (p .is) }
 
 -- ---- pop front
 module _ (a : State) (free d k : ℕ) (f : RefusesDeque a free d k) where
-  pub pop-no : (k ≡ 0 → ⊥) → PopFront a a free d (PoppedRefused k)
+  pub pop-no : (k ≡ 0 → ⊥) → Promised (popFront d) a free a (PoppedRefused k)
   pop-no n = record { meets = no _ a _ _ k (f .by) n }
 
-  pub pop-yes : (b : State) (r : Popped) → k ≡ 0 → Pops a b free d r → PopFront a b free d r
+  pub pop-yes : (b : State) (r : Popped) → k ≡ 0 → Pops a b free d r → Promised (popFront d) a free b r
   pop-yes b r z p = record { meets = yes-by _ a b _ _ _ k (f .by) z (p .told) (p .is) }
 
 -- ---- unlink and drop
 module _ (a : State) (free d s k : ℕ) (f : RefusesNode a free d s k) where
-  pub drop-no : (k ≡ 0 → ⊥) → UnlinkAndDrop a a free d s (DroppedRefused k)
+  pub drop-no : (k ≡ 0 → ⊥) → Promised (unlinkAndDrop d s) a free a (DroppedRefused k)
   drop-no n = record { meets = no _ a _ _ k (f .by) n }
 
-  pub drop-yes : (b : State) (r : ℕ) → k ≡ 0 → Drops a b free d s r → UnlinkAndDrop a b free d s (Element r s)
+  pub drop-yes : (b : State) (r : ℕ) → k ≡ 0 → Drops a b free d s r → Promised (unlinkAndDrop d s) a free b (Element r s)
   drop-yes b r z p = record { meets = yes-by _ a b _ _ _ k (f .by) z (ap (λ (x : ℕ). values (x ∷ s ∷ [])) (p .element-is)) (p .is) }

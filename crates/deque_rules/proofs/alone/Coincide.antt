@@ -1,4 +1,4 @@
--- Two results that meet a promise coincide: the records, and the answer itself.
+-- Two results that meet the promise of a call coincide: the answer itself, and every record.
 use Prim.Native.Nat.{ℕ}
 use native.Mathlib.Omega.{arith}
 use mathlib.Core.Path.{_≡_, refl, sym, ap, _∙_}
@@ -9,10 +9,8 @@ use Rattle.deque_rules.specs.alone.State.{State}
 use Rattle.deque_rules.specs.alone.Answer.{Told, refused, madeTold, pushedTold, poppedTold, lookedTold, droppedTold, countedTold, doneTold}
 use Rattle.deque_rules.specs.alone.Refuse.{answered, makeRows, dequeRows, pushRows, nodeRows}
 use Rattle.deque_rules.specs.alone.Meets.{Meets}
-use Rattle.deque_rules.specs.alone.Calls.{Make}
-use Rattle.deque_rules.specs.alone.Calls.{LookFront, LookBack, LengthIs, NextByCursor, ResetCursor}
-use Rattle.deque_rules.specs.alone.Calls.{PushBack, MoveToBack}
-use Rattle.deque_rules.specs.alone.Calls.{PopFront, UnlinkAndDrop}
+use Rattle.deque_rules.specs.alone.Calls.{Call, make, pushBack, popFront, lookFront, lookBack, moveToBack, unlinkAndDrop, lengthOf, nextByCursor}
+use Rattle.deque_rules.specs.alone.Calls.{resetCursor, AnswerOf, told, Promise, Promised}
 use Rattle.deque_rules.specs.declared.alone.Made.{Made}
 use Rattle.deque_rules.specs.declared.alone.Made.the-variants.{First, Refused as MadeRefused}
 use Rattle.deque_rules.specs.declared.alone.Pushed.{Pushed}
@@ -109,35 +107,33 @@ done-told Did (DoneRefused y) e = let z : _≡_ {A = ℕ} 0 1 = cc in absurd (om
 done-told (DoneRefused x) Did e = let z : _≡_ {A = ℕ} 0 1 = cc in absurd (omega arith)
 done-told (DoneRefused x) (DoneRefused y) e = cc
 
+told-only : (c : Call) (r s : AnswerOf c) → told c r ≡ told c s → r ≡ s
+told-only make r s e = made-told r s e
+told-only (pushBack d x) r s e = pushed-told r s e
+told-only (popFront d) r s e = popped-told r s e
+told-only (lookFront d) r s e = looked-told r s e
+told-only (lookBack d) r s e = looked-told r s e
+told-only (moveToBack d x) r s e = done-told r s e
+told-only (unlinkAndDrop d x) r s e = dropped-told r s e
+told-only (lengthOf d) r s e = counted-told r s e
+told-only (nextByCursor d) r s e = looked-told r s e
+told-only (resetCursor d) r s e = done-told r s e
+
 -- ---- the calls
-pub make-coincides : (a b c : State) (r s : Made) → Make a b r → Make a c s → (r ≡ s) × (b ≡ c)
-make-coincides a b c r s m n = let u = met _ a b c _ _ _ _ (make-single a) (m .meets) (n .meets) in (made-told r s (u .0), u .1)
+promise-only : (c : Call) (a : State) (free : ℕ) (b z : State) (t u : Told) → Promise c a free b t → Promise c a free z u → (t ≡ u) × (b ≡ z)
+promise-only make a free b z t u m n = met _ a b z _ t u _ (make-single a) m n
+promise-only (pushBack d x) a free b z t u m n = met _ a b z _ t u _ (push-single a free d) m n
+promise-only (popFront d) a free b z t u m n = met _ a b z _ t u _ (deque-single a free d) m n
+promise-only (lookFront d) a free b z t u m n = met _ a b z _ t u _ (deque-single a free d) m n
+promise-only (lookBack d) a free b z t u m n = met _ a b z _ t u _ (deque-single a free d) m n
+promise-only (moveToBack d x) a free b z t u m n = met _ a b z _ t u _ (node-single a free d x) m n
+promise-only (unlinkAndDrop d x) a free b z t u m n = met _ a b z _ t u _ (node-single a free d x) m n
+promise-only (lengthOf d) a free b z t u m n = met _ a b z _ t u _ (deque-single a free d) m n
+promise-only (nextByCursor d) a free b z t u m n = met _ a b z _ t u _ (deque-single a free d) m n
+promise-only (resetCursor d) a free b z t u m n = met _ a b z _ t u _ (deque-single a free d) m n
 
-module _ (a b c : State) (free d : ℕ) where
-  pub push-coincides : (e : ℕ) (r s : Pushed) → PushBack a b free d e r → PushBack a c free d e s → (r ≡ s) × (b ≡ c)
-  push-coincides e r s m n = let u = met _ a b c _ _ _ _ (push-single a free d) (m .meets) (n .meets) in (pushed-told r s (u .0), u .1)
-
-  pub pop-coincides : (r s : Popped) → PopFront a b free d r → PopFront a c free d s → (r ≡ s) × (b ≡ c)
-  pop-coincides r s m n = let u = met _ a b c _ _ _ _ (deque-single a free d) (m .meets) (n .meets) in (popped-told r s (u .0), u .1)
-
-  pub move-coincides : (x : ℕ) (r s : Done) → MoveToBack a b free d x r → MoveToBack a c free d x s → (r ≡ s) × (b ≡ c)
-  move-coincides x r s m n = let u = met _ a b c _ _ _ _ (node-single a free d x) (m .meets) (n .meets) in (done-told r s (u .0), u .1)
-
-  pub drop-coincides : (x : ℕ) (r s : Dropped) → UnlinkAndDrop a b free d x r → UnlinkAndDrop a c free d x s → (r ≡ s) × (b ≡ c)
-  drop-coincides x r s m n = let u = met _ a b c _ _ _ _ (node-single a free d x) (m .meets) (n .meets) in (dropped-told r s (u .0), u .1)
-
-  pub next-coincides : (r s : Looked) → NextByCursor a b free d r → NextByCursor a c free d s → (r ≡ s) × (b ≡ c)
-  next-coincides r s m n = let u = met _ a b c _ _ _ _ (deque-single a free d) (m .meets) (n .meets) in (looked-told r s (u .0), u .1)
-
-  pub reset-coincides : (r s : Done) → ResetCursor a b free d r → ResetCursor a c free d s → (r ≡ s) × (b ≡ c)
-  reset-coincides r s m n = let u = met _ a b c _ _ _ _ (deque-single a free d) (m .meets) (n .meets) in (done-told r s (u .0), u .1)
-
-module _ (a : State) (free d : ℕ) where
-  pub front-coincides : (r s : Looked) → LookFront a free d r → LookFront a free d s → r ≡ s
-  front-coincides r s m n = looked-told r s (met _ a a a _ _ _ _ (deque-single a free d) (m .meets) (n .meets) .0)
-
-  pub back-coincides : (r s : Looked) → LookBack a free d r → LookBack a free d s → r ≡ s
-  back-coincides r s m n = looked-told r s (met _ a a a _ _ _ _ (deque-single a free d) (m .meets) (n .meets) .0)
-
-  pub length-coincides : (r s : Counted) → LengthIs a free d r → LengthIs a free d s → r ≡ s
-  length-coincides r s m n = counted-told r s (met _ a a a _ _ _ _ (deque-single a free d) (m .meets) (n .meets) .0)
+-- the answer itself, with it the first free node that it hands on, and every record
+pub coincides : (c : Call) (a : State) (free : ℕ) (b z : State) (r s : AnswerOf c) → Promised c a free b r → Promised c a free z s → (r ≡ s) × (b ≡ z)
+coincides c a free b z r s m n =
+    let u = promise-only c a free b z (told c r) (told c s) (m .meets) (n .meets) in
+    (told-only c r s (u .0), u .1)

@@ -18,7 +18,7 @@ use Rattle.deque_rules.specs.alone.Step.{stepOff, released, movedBack}
 use Rattle.deque_rules.specs.alone.Answer.{Told, nothing, values, lookedTold, countedTold, lookTold, nextTold}
 use Rattle.deque_rules.specs.alone.Refuse.{dequeRows}
 use Rattle.deque_rules.specs.alone.Meets.{Meets}
-use Rattle.deque_rules.specs.alone.Calls.{LookFront, LookBack, LengthIs, NextByCursor}
+use Rattle.deque_rules.specs.alone.Calls.{lookFront, lookBack, lengthOf, nextByCursor, Promised}
 use Rattle.deque_rules.specs.alone.History.{moveOn}
 use Rattle.deque_rules.specs.declared.alone.Looked.{Looked}
 use Rattle.deque_rules.specs.declared.alone.Counted.{Counted}
@@ -37,13 +37,13 @@ answers a b after free d v t then s h m =
 
 module _ (a : State) (free : ℕ) (v : Lists) (s : Shows a free v) (d : ℕ) (h : d < v .count) where
   -- a look tells the first, the last; the length is the number of the deque's nodes
-  pub front-lists : (r : Looked) → LookFront a free d r → lookedTold r ≡ lookTold a (first (deq v d))
+  pub front-lists : (r : Looked) → Promised (lookFront d) a free a r → lookedTold r ≡ lookTold a (first (deq v d))
   front-lists r m = answers a a a free d v _ _ s h (m .meets) .0 ∙ ap (lookTold a) (head-is (a .links) v [] (s .rep) d h)
 
-  pub back-lists : (r : Looked) → LookBack a free d r → lookedTold r ≡ lookTold a (last (deq v d))
+  pub back-lists : (r : Looked) → Promised (lookBack d) a free a r → lookedTold r ≡ lookTold a (last (deq v d))
   back-lists r m = answers a a a free d v _ _ s h (m .meets) .0 ∙ ap (lookTold a) (tail-is (a .links) v [] (s .rep) d h)
 
-  pub length-lists : (r : Counted) → LengthIs a free d r → countedTold r ≡ values (length (deq v d) ∷ [])
+  pub length-lists : (r : Counted) → Promised (lengthOf d) a free a r → countedTold r ≡ values (length (deq v d) ∷ [])
   length-lists r m = answers a a a free d v _ _ s h (m .meets) .0 ∙ ap (λ (x : ℕ). values (x ∷ [])) (s .lengths d h)
 
   -- ---- the cursor
@@ -54,7 +54,7 @@ module _ (a : State) (free : ℕ) (v : Lists) (s : Shows a free v) (d : ℕ) (h 
   real : (x : ℕ) → In x (deq v d) → (x ≡ none → ⊥) × (x ≡ pastEnd → ⊥)
   real x m = let l = s .rep .member d x h m .0 in (λ e. omega (arith, l, s .rep .small, e), λ e. omega (arith, l, s .rep .small, e))
 
-  module _ (b : State) (r : Looked) (m : NextByCursor a b free d r) where
+  module _ (b : State) (r : Looked) (m : Promised (nextByCursor d) a free b r) where
     told : lookedTold r ≡ nextTold a d
     told = answers a b _ free d v _ _ s h (m .meets) .0
 

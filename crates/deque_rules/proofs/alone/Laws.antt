@@ -18,12 +18,11 @@ use Rattle.deque_rules.specs.alone.Step.{nextOf, frontOf, elementOf, cur
 use Rattle.deque_rules.specs.alone.Step.{released}
 use Rattle.deque_rules.specs.alone.Answer.{Told, refused, nothing, values, lookTold, nextTold}
 use Rattle.deque_rules.specs.alone.Answer.{popTold}
-use Rattle.deque_rules.specs.alone.Refuse.{dequeRows, pushRows, nodeRows}
+use Rattle.deque_rules.specs.alone.Refuse.{makeRows, dequeRows, pushRows, nodeRows}
 use Rattle.deque_rules.specs.alone.Work.{toBack}
 use Rattle.deque_rules.specs.alone.Meets.{Meets}
-use Rattle.deque_rules.specs.alone.Calls.{Make}
-use Rattle.deque_rules.specs.alone.Calls.{PushBack, MoveToBack}
-use Rattle.deque_rules.specs.alone.Calls.{PopFront, UnlinkAndDrop}
+use Rattle.deque_rules.specs.alone.Calls.{make, popFront, moveToBack, unlinkAndDrop, Promised}
+use Rattle.deque_rules.specs.alone.Calls.{pushBack as pushCall}
 use Rattle.deque_rules.specs.declared.alone.Made.the-variants.{First}
 use Rattle.deque_rules.specs.declared.alone.Pushed.the-variants.{At}
 use Rattle.deque_rules.specs.declared.alone.Popped.the-variants.{Node as PoppedNode, Nothing as PoppedNothing}
@@ -32,6 +31,10 @@ use Rattle.deque_rules.specs.declared.alone.Done.the-variants.{Done as D
 use Rattle.deque_rules.proofs.alone.Refusing.{deque-ready, push-ready, node-ready}
 use Rattle.deque_rules.proofs.alone.Keeping.{made-shows}
 use Rattle.deque_rules.proofs.alone.Relinking.{pushed-shows, released-shows, moved-shows}
+
+-- ---- 4 is no number of making
+pub make-not-4 : (a : State) → makeRows a 4 → ⊥
+make-not-4 a u = ⊎-elim (λ w. omega (arith, w .1)) (λ w. omega (arith, w .1)) u
 
 -- ---- on a sound state the rows after 4 decide, and 4 is not among them
 module _ (a : State) (free : ℕ) (s : Sound a free) where
@@ -106,8 +109,8 @@ next-refused a d k e =
     (same? (cursorNode a d) pastEnd)
 
 -- ---- make: all deques empty, all nodes free in ascending order from 0, sound
-pub make-lists : (a b : State) (f : ℕ) → Make a b (First f) → Shows b f (allFree (deques a) (nodes a)) × (f ≡ first (upFrom (nodes a) 0))
-make-lists a b f m =
+pub make-lists : (a b : State) (free f : ℕ) → Promised make a free b (First f) → Shows b f (allFree (deques a) (nodes a)) × (f ≡ first (upFrom (nodes a) 0))
+make-lists a b free f m =
     let u = by-0 _ a b _ _ _ (m .meets) (not-refused (f ∷ [])) in
     let z : Lent a = ⊎-elim (λ w. absurd (omega (arith, w .1, u .2))) (λ w. w .0) (u .1) in
     let i : f ≡ first (upFrom (nodes a) 0) = one f (first (upFrom (nodes a) 0)) (u .3) in
@@ -125,7 +128,7 @@ module _ (a b : State) (free : ℕ) (v : Lists) (s : Shows a free v) (d : ℕ) w
   count-of w t h = omega (arith, h, t .rep .heads-len, s .rep .heads-len)
 
   -- push back: the first free node, with the element, is the last of its deque
-  pub push-lists : (e x f : ℕ) → PushBack a b free d e (At x f) → (v .free ≡ x ∷ rest (v .free)) × (elementOf b x ≡ e) × Shows b f (pushBack d x (taken v))
+  pub push-lists : (e x f : ℕ) → Promised (pushCall d e) a free b (At x f) → (v .free ≡ x ∷ rest (v .free)) × (elementOf b x ≡ e) × Shows b f (pushBack d x (taken v))
   push-lists e x f m =
       let u = by-0 _ a b _ _ _ (m .meets) (not-refused (x ∷ f ∷ [])) in
       let y = push-ready a free d (u .0) (u .2) (record { by = u .1 }) in
@@ -141,7 +144,7 @@ module _ (a b : State) (free : ℕ) (v : Lists) (s : Shows a free v) (d : ℕ) w
       two x y z w e = (cc, cc)
 
   -- pop front: the first of the deque leaves it and is the next node to be taken; where there is none nothing happens
-  pub pop-lists : (x e f : ℕ) → PopFront a b free d (PoppedNode x e f) → (deq v d ≡ x ∷ rest (deq v d)) × (e ≡ elementOf a x) × (f ≡ x) × Shows b x
+  pub pop-lists : (x e f : ℕ) → Promised (popFront d) a free b (PoppedNode x e f) → (deq v d ≡ x ∷ rest (deq v d)) × (e ≡ elementOf a x) × (f ≡ x) × Shows b x
       (freed x (withDeque d (rest (deq v d)) v))
   pop-lists x e f m =
       let u = by-0 _ a b _ _ _ (m .meets) (not-refused (x ∷ e ∷ f ∷ [])) in
@@ -167,7 +170,7 @@ module _ (a b : State) (free : ℕ) (v : Lists) (s : Shows a free v) (d : ℕ) w
       three : (x y z u w : ℕ) → values (x ∷ y ∷ z ∷ []) ≡ values (u ∷ w ∷ u ∷ []) → (x ≡ u) × (y ≡ w) × (z ≡ u)
       three x y z u w e = (cc, cc, cc)
 
-  pub pop-empty : PopFront a b free d PoppedNothing → (deq v d ≡ []) × (b ≡ a)
+  pub pop-empty : Promised (popFront d) a free b PoppedNothing → (deq v d ≡ []) × (b ≡ a)
   pop-empty m =
       let u = by-0 _ a b _ _ _ (m .meets) nothing-refused in
       let y = deque-ready a free d (u .0) (u .2) (record { by = u .1 }) in
@@ -186,7 +189,7 @@ module _ (a b : State) (free : ℕ) (v : Lists) (s : Shows a free v) (d : ℕ) w
       no-first (x ∷ xs) p i = absurd (p x (inl refl) i)
 
   -- unlink and drop: the node leaves its deque and is the next to be taken
-  pub drop-lists : (x e f : ℕ) → UnlinkAndDrop a b free d x (Element e f) → In x (deq v d) × (e ≡ elementOf a x) × (f ≡ x) × Shows b x (freed x (takeOut d x v))
+  pub drop-lists : (x e f : ℕ) → Promised (unlinkAndDrop d x) a free b (Element e f) → In x (deq v d) × (e ≡ elementOf a x) × (f ≡ x) × Shows b x (freed x (takeOut d x v))
   drop-lists x e f m =
       let u = by-0 _ a b _ _ _ (m .meets) (not-refused (e ∷ f ∷ [])) in
       let y = node-ready a free d (u .0) (u .2) x (record { by = u .1 }) in
@@ -199,7 +202,7 @@ module _ (a b : State) (free : ℕ) (v : Lists) (s : Shows a free v) (d : ℕ) w
       two x y z w e = (cc, cc)
 
   -- move to back: the node is the last of its deque, the others in their order
-  pub move-lists : (x : ℕ) → MoveToBack a b free d x Did → In x (deq v d) × Shows b free (toBack d x v)
+  pub move-lists : (x : ℕ) → Promised (moveToBack d x) a free b Did → In x (deq v d) × Shows b free (toBack d x v)
   move-lists x m =
       let u = by-0 _ a b _ _ _ (m .meets) (not-refused []) in
       let y = node-ready a free d (u .0) (u .2) x (record { by = u .1 }) in

@@ -32,7 +32,7 @@ same-length-8 : tie.Need-same-length-8
 same-length-8 c = search needs
 
 returns : tie.Need-returns
-returns c = search make-no
+returns c = λ free. search make-no
 
 clear-requires : tie.Need-clear-requires
 clear-requires c κs = search make-clears
@@ -71,11 +71,12 @@ same-length-16 c = search needs
 
 returns-2 : tie.Need-returns-2
 returns-2 c =
+    λ free.
     make-yes _ _ _ _ _ _ _ _ _ (c .before .before .before .before .before .before .before .before .before .before .before .before .before .before .before
     .before .before .before .before .before .before .before .before .before .before .before .before .before .lent .ensures)
     (c .before .before .before .before .before .before .before .before .before .before .before .before .before .before .before .before .before .before
     .before .before .before .before .before .before .before .before .before .if1 .left)
-    _ _ _ _ _ _ _ _ _ (c .before .before .before .before .before .before .before .before .before .before .before .before .before .before .before .before
+    _ _ _ _ _ _ _ _ free _ (c .before .before .before .before .before .before .before .before .before .before .before .before .before .before .before .before
     .before .before .before .before .before .before .before .before .clear .ensures)
     (c .before .before .before .before .before .before .before .before .before .before .before .before .before .before .before .before .before .before
     .zero .ensures) (c .before .before .before .before .before .before .before .before .before .before .lay-out .ensures)
