@@ -14,3 +14,4 @@ pub mod Laws
 pub mod Cursor
 pub mod Kept
 pub mod Histories
+pub mod Example
