@@ -9,5 +9,4 @@ pub mod read; // the front of a deque, the slot after a slot
 pub mod sound; // the test of links and free chain, which asks nothing
 pub mod walk; // how many slots a deque and the free chain have, for tests
 
-// No slot: one past the last that may be lent.
-pub const NONE: usize = 4096;
+pub use numbers::slots::NONE;

@@ -9,7 +9,8 @@ ghost use Rattle.deque_rules.specs.Sound.{Walked, WalkedFree, SizesFree};
 ghost use Rattle.deque_rules.specs.Lending.{linksBefore};
 use crate::NONE;
 
-const BAD: usize = 4097;
+// More than there may be.
+const BAD: usize = NONE + 1;
 
 // How many slots the deque d has, or a number above NONE where its links are not those of a deque over slots that name
 // it.

@@ -29,9 +29,5 @@ pub use deque_rules::alone::Looked;
 pub use deque_rules::alone::Made;
 pub use deque_rules::alone::Popped;
 pub use deque_rules::alone::Pushed;
-
-// No node, and the cursor that stands at none.
-pub const NONE: usize = 4096;
-
-// The cursor that stands past the end.
-pub const PAST_END: usize = 4097;
+pub use numbers::slots::NONE;
+pub use numbers::slots::PAST_END;

@@ -4,10 +4,8 @@ use mathlib.Core.Path.{_≡_}
 use mathlib.Core.List.{List, [], _∷_, _++_}
 -- what is said of any list of numbers
 pub use Rattle.numbers.specs.Lists.{In, Once, lastOr, rest, remove, before, after, upFrom}
-
--- the number that stands for no slot, one past the last
-abbrev pub none : ℕ
-none = 4096
+-- the number that stands for no slot
+pub use Rattle.numbers.specs.Slots.{none}
 
 -- f leads from b through xs to z, and g leads back from z through xs to b. With b and z none it is a whole deque: the
 -- slot after none is the head, the slot before none the tail

@@ -5,10 +5,10 @@ use crate::digests::digest_step;
 use crate::parts::part;
 
 // A link to no node.
-pub const NONE: u64 = 4096;
+pub const NONE: u64 = numbers::slots::NONE as u64;
 
 // A cursor past the end.
-pub const PAST_END: u64 = 4097;
+pub const PAST_END: u64 = numbers::slots::PAST_END as u64;
 
 // What these two count as in a digest.
 const NONE_COUNTS: u64 = u64::MAX;

@@ -15,7 +15,7 @@ pub const SHOWN: u64 = 98;
 pub const BAD_LINE: u64 = 99;
 
 // So many numbers stand for one that is none.
-const NONE: u64 = 9;
+const DASH: u64 = 9;
 
 // Tells a word and so many of three numbers.
 pub fn tell(told: &mut [u64; 6], word: u64, numbers: u64, a: u64, b: u64, c: u64) {
@@ -28,7 +28,7 @@ pub fn tell(told: &mut [u64; 6], word: u64, numbers: u64, a: u64, b: u64, c: u64
 
 // Tells a word and none.
 pub fn tell_none(told: &mut [u64; 6], word: u64) {
-    tell(told, word, NONE, 0, 0, 0);
+    tell(told, word, DASH, 0, 0, 0);
 }
 
 // Puts the line of what was told after the `at` bytes that wait in out, with its word out of the table, writes all out
@@ -62,7 +62,7 @@ fn say_answer(out: &mut [u8; 65536], at: usize, word: &[u8], told: &[u64; 6]) ->
 
 fn say_numbers(out: &mut [u8; 65536], at: usize, told: &[u64; 6]) -> usize {
     let numbers = told[1];
-    if numbers == NONE {
+    if numbers == DASH {
         return append(out, at, b" -");
     }
     let first = say_number(out, at, numbers > 0, told[2]);

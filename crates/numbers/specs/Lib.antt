@@ -1,6 +1,8 @@
--- What the contracts of `numbers` cite, the form that refusals and answers have, and lists of numbers.
+-- What the contracts of `numbers` cite, the form that refusals and answers have, lists of numbers, and the numbers that
+-- are no slot.
 pub mod Powers
 pub mod Answers
 pub mod Rows
 pub mod Lists
 pub mod Lending
+pub mod Slots

@@ -1,8 +1,10 @@
-// Numbers that several crates share: the wrapping product of 64 bits, and the least power of two that is not below a
-// number.
+// Numbers that several crates share: the wrapping product of 64 bits, the least power of two that is not below a number,
+// and the two that are no slot.
 ghost use mathlib.Core.Path.{_≡_};
 ghost use Prim.Native.Nat.{_*_, _%_, _^_};
 ghost use Rattle.numbers.specs.Powers.{powerFor, isPowerTo};
+
+pub mod slots; // what a link or a cursor holds where it stands at no slot
 
 const HALF: u64 = 0x1_0000_0000;
 

@@ -5,6 +5,8 @@ use mathlib.Core.Logic.{_⊎_}
 use mathlib.Core.List.{List, []}
 use lib.ListN.{length, getD}
 use Rattle.deque_rules.specs.Chain.{none, In, first}
+-- the cursor that stands past the end; the one that stands at none is none
+pub use Rattle.numbers.specs.Slots.{pastEnd}
 use Rattle.deque_rules.specs.Lists.{Links, Lists, links, deq, Rep}
 
 -- head, tail, recorded length and cursor of each deque; next, previous, deque and element of each node
@@ -42,10 +44,6 @@ pub record LentNodes (next prev home elements : List ℕ) : Type 0 where
 pub record Lent (a : State) : Type 0 where
   pub deques : LentDeques (a .links .heads) (a .links .tails) (a .lens) (a .cursors)
   pub nodes : LentNodes (a .links .next) (a .links .prev) (a .links .home) (a .elements)
-
--- the cursor that stands past the end; the one that stands at none is none
-abbrev pub pastEnd : ℕ
-pastEnd = 4097
 
 -- "a cursor stands at none, at a node of its deque, or past the end"
 abbrev pub Stands : ℕ → List ℕ → Type 0
