@@ -1,6 +1,6 @@
 // Making: the refusal, then the work. It asks nothing of its input. A refused call leaves every record as found.
-ghost use Rattle.deque_rules.specs.alone.Calls.{Promised, make};
 ghost use Prim.Native.Nat.{ℕ};
+ghost use Rattle.deque_rules.specs.alone.Calls.{Promised, make};
 ghost use Rattle.deque_rules.specs.alone.Lending.{before, after};
 use crate::layout::clear;
 use crate::layout::zero;

@@ -1,5 +1,5 @@
-// Numbers that several crates share: the wrapping product of 64 bits, the least power of two that is not below a number,
-// and the two that are no slot.
+// Numbers that several crates share: the wrapping product of 64 bits, the least power of two that is not below a
+// number, and the two that are no slot.
 ghost use mathlib.Core.Path.{_≡_};
 ghost use Prim.Native.Nat.{_*_, _%_, _^_};
 ghost use Rattle.numbers.specs.Powers.{powerFor, isPowerTo};
