@@ -17,8 +17,10 @@ pub mod SoundCalls
 pub mod Arming
 pub mod Advances
 pub mod Demand3
+pub mod First
 pub mod Worked
 pub mod Premises
+pub mod Reached
 pub mod Order
 pub mod Counts
 pub mod Turns

@@ -14,10 +14,10 @@ use Rattle.rules.specs.Worked.{nothing}
 use Rattle.rules.proofs.Demand3.{demand3}
 
 -- ---- met: deadline 10, armed at the reading 0 in slot 165 with the serial 7
-abbrev before-10 : List Call
+abbrev pub before-10 : List Call
 before-10 = enable 200 8 true ∷ setEntry 0 (some 10) 0 ∷ []
 
-abbrev armed-10 : Run
+abbrev pub armed-10 : Run
 armed-10 = next wheel01 (after wheel01 nothing (create 7 ∷ before-10)) (schedule 0 0)
 
 pub met : Demand3 wheel01 165 7 0 10 armed-10
@@ -36,7 +36,7 @@ met-again = demand3 wheel01 nothing 7 before-20 (reschedule 165 7 0) 165 7 0 20 
 -- back, and its deadline set again; then an advance that is read to its end, goes to the deadline or later and enters a
 -- later tick. So the third part's premises on the calls and on the advance are met together, and here it hands the
 -- timer out.
-abbrev run-10 : List Call
+abbrev pub run-10 : List Call
 run-10 = start 100 ∷ pull ∷ start (2 ^ 31) ∷ abandon ∷ start 3 ∷ pull ∷ setEntry 0 (some 10) 9 ∷ []
 
 pub unchanged-10 : Unchanged wheel01 165 7 0 10 armed-10 (run-10 ++ (start (2 ^ 30) ∷ pull ∷ []))

@@ -8,3 +8,4 @@ pub mod Advances
 pub mod Among
 pub mod Arming
 pub mod Demand3
+pub mod Continuing
