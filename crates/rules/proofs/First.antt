@@ -20,7 +20,8 @@ abbrev pub EachEndsNone : Geometry → ℕ → Run → List Call → Type 0
 EachEndsNone g d R [] = Unit {0}
 EachEndsNone g d R (c ∷ cs) = EndsNone g d R c × EachEndsNone g d (next g R c) cs
 
-at-call : (g : Geometry) (d : ℕ) (R : Run) (bs : List Call) (c : Call) (rest : List Call) → EachEndsNone g d R (bs ++ (c ∷ rest)) → EndsNone g d (after g R bs) c
+at-call : (g : Geometry) (d : ℕ) (R : Run) (bs : List Call) (c : Call) (rest : List Call) → EachEndsNone g d R (bs ++ (c ∷ rest))
+    → EndsNone g d (after g R bs) c
 at-call g d R [] c rest k = k .0
 at-call g d R (b ∷ bs) c rest k = at-call g d (next g R b) bs c rest (k .1)
 

@@ -18,11 +18,11 @@ use Rattle.rules.proofs.Demand3.{demand3}
 use Rattle.rules.proofs.Premises.{armed-10, met, run-10, unchanged-10, full-10}
 
 -- ---- calls that end no advance, and calls that change no timer
-ok-no-end : ok ≡ end → ⊥
-ok-no-end i = let z : _≡_ {A = ℕ} 0 1 = cc in omega arith
+ok-no-end : {A : Type 0} → ok ≡ end → A
+ok-no-end i = absurd (let z : _≡_ {A = ℕ} 0 1 = cc in omega arith)
 
-expired-no-end : (e n d : ℕ) → expired e n d ≡ end → ⊥
-expired-no-end e n d i = let z : _≡_ {A = ℕ} 0 1 = cc in omega arith
+expired-no-end : {A : Type 0} {e n d : ℕ} → expired e n d ≡ end → A
+expired-no-end i = absurd (let z : _≡_ {A = ℕ} 0 1 = cc in omega arith)
 
 no : {A : Type 0} → ⊥ → A
 no a = absurd a
@@ -39,7 +39,7 @@ pub none-10 : NoneBefore wheel01 10 armed-10 run-10
 unfolding tick
 none-10 =
     none-before wheel01 10 armed-10 run-10
-    (λ i. no (ok-no-end i), (λ i j k. omega (arith, k), (λ i. no (ok-no-end i), (λ i. no (ok-no-end i), (λ i. no (ok-no-end i), (λ i j k. omega (arith, j), (λ i. no (ok-no-end i), tt)))))))
+    (ok-no-end, (λ i j k. omega (arith, k), (ok-no-end, (ok-no-end, (ok-no-end, (λ i j k. omega (arith, j), (ok-no-end, tt)))))))
 
 -- the third part, with every premise met: here it is the first alternative (hands-out-10)
 pub first-10 : (handed 7 (answers wheel01 (after wheel01 armed-10 run-10) (start (2 ^ 30) ∷ pull ∷ [])) ≡ 1) ⊎ AbandonedOneHad wheel01 7 armed-10 run-10
@@ -70,7 +70,7 @@ pub none-abandoned : NoneBefore wheel01 10 armed-10 abandoned-10
 unfolding tick
 none-abandoned =
     none-before wheel01 10 armed-10 abandoned-10
-    (λ i. no (ok-no-end i), (λ i. no (expired-no-end 0 7 10 i), (λ i. no (ok-no-end i), tt)))
+    (ok-no-end, (expired-no-end, (ok-no-end, tt)))
 
 -- the first full advance hands out nothing: of the third part's alternatives only the second holds
 pub hands-out-none : handed 7 (answers wheel01 (after wheel01 armed-10 abandoned-10) (start (2 ^ 31) ∷ [])) ≡ 0
@@ -101,7 +101,9 @@ pub hands-out-early : handed 7 (answers wheel01 armed-early (start (2 ^ 30) ∷ 
 unfolding tick
 hands-out-early = refl
 
-pub answers-early : answers wheel01 armed-early (start (2 ^ 30) ∷ pull ∷ pull ∷ start (2 ^ 31) ∷ pull ∷ pull ∷ []) ≡ ok ∷ rescheduled 0 7 1 ∷ end ∷ ok ∷ expired 0 7 early ∷ end ∷ []
+pub answers-early :
+    answers wheel01 armed-early (start (2 ^ 30) ∷ pull ∷ pull ∷ start (2 ^ 31) ∷ pull ∷ pull ∷ [])
+    ≡ ok ∷ rescheduled 0 7 1 ∷ end ∷ ok ∷ expired 0 7 early ∷ end ∷ []
 unfolding tick
 answers-early = refl
 
@@ -137,7 +139,7 @@ pub none-back : NoneBefore wheel01 (5 * 2 ^ 30) armed-back run-back
 unfolding tick
 none-back =
     none-before wheel01 (5 * 2 ^ 30) armed-back run-back
-    (λ i. no (ok-no-end i), (λ i j k. omega (arith, j), (λ i. no (ok-no-end i), (λ i j k. omega (arith, j), tt))))
+    (ok-no-end, (λ i j k. omega (arith, j), (ok-no-end, (λ i j k. omega (arith, j), tt))))
 
 pub hands-out-back : handed 7 (answers wheel01 (after wheel01 armed-back run-back) (start (5 * 2 ^ 30) ∷ pull ∷ [])) ≡ 1
 unfolding tick

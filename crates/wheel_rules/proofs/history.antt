@@ -9,3 +9,4 @@ pub mod Among
 pub mod Arming
 pub mod Demand3
 pub mod Continuing
+pub mod Reached

@@ -40,6 +40,9 @@ tells-origin R w T on i = previous-is (R .clock) (w .advance) (w .reading) (T .s
 create-shuts : (m : ℕ) (R M : Records) (a : Answer) → Promised (create m) R M a → M .clock .open ≡ false
 create-shuts m R M a p = ap (λ (x : Records). x .clock .open) (p .leaves refl)
 
+created-shut : (ρ : Run) (m : ℕ) (c : Call) → c ≡ create m → false ≡ isOpen (next wheel01 ρ c .wheel .advance)
+created-shut ρ m c i = ap (λ (b : Call). isOpen (step wheel01 (ρ .wheel) b .1 .advance)) (sym i)
+
 -- ---- an advance that stays open
 open-first : {R S : Records} {cs : List Call} {rs : List Answer} (l : Leads R cs rs S) → StaysOpen l → R .clock .open ≡ true
 open-first done s = s
@@ -63,7 +66,7 @@ records-stay ρ R S (c ∷ cs) (a ∷ rs) T on (then {M = M} p l) s = (
   tells-open R (ρ .wheel) T on ∙ s .0,
   ⊎-elim
       (λ (i : step wheel01 (ρ .wheel) c .1 .enabled ≡ true). records-stay (next wheel01 ρ c) M S cs rs (step-is c R M a (ρ .wheel) T p .1) i l (s .1))
-      (λ i. absurd (false≢true (ap (λ (b : Call). isOpen (step wheel01 (ρ .wheel) b .1 .advance)) (sym (i .1)) ∙ stays-first wheel01 (next wheel01 ρ c) cs (s .1))))
+      (λ i. absurd (false≢true (created-shut ρ (i .0) c (i .1) ∙ stays-first wheel01 (next wheel01 ρ c) cs (s .1))))
       (stays-enabled wheel01 (ρ .wheel) on c),
 )
 
@@ -72,7 +75,10 @@ module _ (ρ : Run) (S : Records) (T : Tells S (ρ .wheel)) where
   pub run-advancing : (q : ℕ) (ps : List Call) (rs : List Answer) (U : Records) → Advancing S q ps rs U → RunAdvancing wheel01 ρ q ps
   run-advancing q ps rs U a =
       let y = step-is (start q) S (a .opened) ok (ρ .wheel) T (a .starts) in
-      record { taken = sym (y .0); stays = run-stays (next wheel01 ρ (start q)) (a .opened) U ps rs (y .1) (start-taken wheel01 ρ q (sym (y .0)) .5) (a .calls) (a .stays) }
+      record {
+        taken = sym (y .0);
+        stays = run-stays (next wheel01 ρ (start q)) (a .opened) U ps rs (y .1) (start-taken wheel01 ρ q (sym (y .0)) .5) (a .calls) (a .stays);
+      }
 
   pub records-advancing : (q : ℕ) (ps : List Call) (rs : List Answer) (M U : Records) (b : Answer) → Promised (start q) S M b → Leads M ps rs U
       → RunAdvancing wheel01 ρ q ps → (b ≡ ok) × Advancing S q ps rs U

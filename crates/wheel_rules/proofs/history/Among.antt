@@ -16,7 +16,7 @@ use Rattle.wheel_rules.specs.history.Demand3.{Among, NoneBefore, Abandon
 use Rattle.wheel_rules.proofs.history.Steps.{step-is}
 use Rattle.wheel_rules.proofs.history.Runs.{run-is}
 use Rattle.wheel_rules.proofs.history.Splitting.{Parts, parts}
-use Rattle.wheel_rules.proofs.history.Advances.{records-advancing}
+use Rattle.wheel_rules.proofs.history.Advances.{run-advancing, records-advancing}
 
 -- the same calls; the reading at its start and its answers are the run's
 record Seen (ρ : Run) (R : Records) (cs : List Call) (rs : List Answer) (S : Records) (c : Call) (a : Answer) (i : RunAmong cs c) : Type 0 where
@@ -82,3 +82,20 @@ pub one-had : (ρ : Run) (R : Records) (T : Tells R (ρ .wheel)) (cs : List Call
 one-had ρ R T cs rs S n l a =
     let s = seen ρ R T cs rs S abandon ok l (a .0) (a .1 .0) (a .1 .1) in
     (s .among, omega (arith, ap (handed n) (s .answers-are), a .2))
+
+-- and an advance among the calls of the history is one of the run
+pub none-seen : (ρ : Run) (R : Records) (T : Tells R (ρ .wheel)) (cs : List Call) (rs : List Answer) (S : Records) (d : ℕ) → RunNone wheel01 d ρ cs
+    → NoneBefore d R cs rs S
+none-seen ρ R T cs rs S d none a r t =
+    let σ : Run = after wheel01 ρ (a .before) in
+    let before = run-is ρ R (a .from) (a .before) (a .told) T (a .leads) in
+    let adv = a .advance .advance in
+    let over = run-is σ (a .from) (a .advance .last) (start (a .q) ∷ a .ps) (ok ∷ a .answers) (before .1) (then (adv .starts) (adv .calls)) in
+    none (record { bs = a .before; q = a .q; ps = a .ps; rest = a .rest; is = a .calls-are }) (
+      (
+        run-advancing σ (a .from) (before .1) (a .q) (a .ps) (a .answers) (a .advance .last) adv,
+        sym (step-is pull (a .advance .last) (a .closed) end (after wheel01 σ (start (a .q) ∷ a .ps) .wheel) (over .1) (a .advance .closes) .0),
+      ),
+      r,
+      subst (λ (p : ℕ). Later wheel01 p (a .q)) (before .1 .stands .reading) t,
+    )
