@@ -8,6 +8,7 @@ use mathlib.Core.List.{List, [], _∷_}
 use Rattle.rules.specs.Geometry.{wheel01}
 use Rattle.rules.specs.Wheel.{Wheel, Call, create, Answer, refused, ok}
 use Rattle.rules.specs.Runs.{Run, next, answers, after}
+use Rattle.rules.specs.Worked.{nothing}
 use Rattle.wheel_rules.specs.records.Records.{Records}
 use Rattle.wheel_rules.specs.sound.Sound.{SoundRecords}
 use Rattle.wheel_rules.specs.history.Tells.{Tells}
@@ -37,13 +38,13 @@ history ρ R S first cs (a ∷ rs) (then {M = M} p l) =
     (λ i. y .0 i ∷ z .0 i, z .1)
 
 -- "every call on a sound state, refused or not, leaves one": after any such calls an enabled wheel's records are sound
-pub always-sound : (ρ : Run) (R S : Records) (first : ℕ) (cs : List Call) (rs : List Answer) → Leads R (create first ∷ cs) rs S → S .clock .enabled ≡ true →
+pub always-sound : (R S : Records) (first : ℕ) (cs : List Call) (rs : List Answer) → Leads R (create first ∷ cs) rs S → S .clock .enabled ≡ true →
     SoundRecords wheel01 S
-always-sound ρ R S first cs rs l = history ρ R S first cs rs l .1 .kept
+always-sound R S first cs rs l = history nothing R S first cs rs l .1 .kept
 
 -- while only these calls write, 4 is never given
-pub never-four-given : (ρ : Run) (R S : Records) (first : ℕ) (cs : List Call) (rs : List Answer) → Leads R (create first ∷ cs) rs S → NeverFour rs
-never-four-given ρ R S first cs (a ∷ rs) (then {M = M} p l) = (
+pub never-four-given : (R S : Records) (first : ℕ) (cs : List Call) (rs : List Answer) → Leads R (create first ∷ cs) rs S → NeverFour rs
+never-four-given R S first cs (a ∷ rs) (then {M = M} p l) = (
   λ i. let e : ok ≡ refused 4 = sym (p .answer-is) ∙ i in let z : _≡_ {A = ℕ} 0 1 = cc in omega arith,
-  four-never (next wheel01 ρ (create first) .wheel) M S cs rs (create-is first R M a (ρ .wheel) p .1) l,
+  four-never (next wheel01 nothing (create first) .wheel) M S cs rs (create-is first R M a (nothing .wheel) p .1) l,
 )
