@@ -8,6 +8,8 @@ HERE = os.path.dirname(os.path.abspath(__file__))
 CRATES = os.path.join(os.path.dirname(os.path.dirname(HERE)), 'crates')
 WIDTH = {'usize': 'w64', 'u64': 'w64', 'u32': 'w32'}
 BITS = {'w64': 64, 'w32': 32}
+# modules whose names a proof has for something else: their names are written after the module's, as it is called here
+APART = {'mathlib.Core.Option': 'Option'}
 
 
 # ---- text
@@ -72,6 +74,12 @@ def brought(text):
             yield m.group(1).replace('·specs.specs.', '.specs.'), name
 
 
+def bring(cited):
+    """The `use` lines that bring what is cited, a set of names for each module."""
+    for module in sorted(cited):
+        yield 'use %s as %s' % (module, APART[module]) if module in APART else 'use %s.{%s}' % (module, ', '.join(sorted(cited[module])))
+
+
 class Function:
     """A function's signature and contract, as its source has them."""
 
@@ -134,9 +142,11 @@ class Function:
 
     def stated(self, entry, exit):
         """The clause with each parameter's value at entry and at exit in its place."""
+        apart = {name: '%s.%s' % (APART[module], name) for module, name in self.brought if module in APART}
+
         def value(m):
             if m.group(3):
-                return entry.get(m.group(3), m.group(3))
+                return entry.get(m.group(3), apart.get(m.group(3), m.group(3)))
             return (exit if m.group(2) == 'exit' else entry)[m.group(1)]
         return re.sub(r'\(now \((\w+) \.(entry|exit)\)\)|(?<![\w.′])([A-Za-z_]\w*)(?![\w′])', value, self.clause)
 

@@ -5,7 +5,7 @@ Prints the proof of a thin function over lent node structs that are laid out in 
 It reads the function and the work that it calls from the crates' src/ folders; the two must be of this form.
 
     pub fn FN(nodes: &mut [Node], clock: &mut Clock, PARAMETERS) -> ANSWER
-        ensures { λ r. ⌜ FACE of the records at entry and at exit, of the numbers and of r ⌝ }
+        ensures { λ r. ⌜ Promised CALL of the records at entry and at exit and of what r says ⌝ }
     {
         let turn = WORK(nodes.len(), *clock, PARAMETERS);
         *clock = turn.clock;
@@ -14,8 +14,8 @@ It reads the function and the work that it calls from the crates' src/ folders; 
     }
 
 PARAMETERS are as thin.py has them. WORK is covered, has no `requires` and one clause, ensures { λ r. ⌜ FOR .. r ⌝ }, with FOR a record that has a field
-    meets : (ns ns′ : List Node) → length ns ≡ n → Laid ns (r .laid) ns′ → FACE with ns for the nodes at entry and ns′ for those at exit
-It returns a struct of clock, answer and laid. ANSWER is an enum. What FACE and FOR are called, and what they cite, is taken from the `ghost use` lines."""
+    meets : (ns ns′ : List Node) → length ns ≡ n → Laid ns (r .laid) ns′ → Promised CALL with ns for the nodes at entry and ns′ for those at exit
+It returns a struct of clock, answer and laid. ANSWER is an enum. What CALL and FOR are, and what they cite, is taken from the `ghost use` lines."""
 import os
 import re
 import sys

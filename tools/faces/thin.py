@@ -5,7 +5,7 @@ Prints the proof of a thin function over lent node structs, which the borrow che
 It reads the function and the work that it calls from the crates' src/ folders; the two must be of this form.
 
     pub fn FN(nodes: &mut [Node], clock: &mut Clock, PARAMETERS) -> ANSWER        // or nodes: &[Node]; or, with that, clock: Clock
-        ensures { λ r. ⌜ FACE of the records at entry and at exit, of the numbers and of r ⌝ }
+        ensures { λ r. ⌜ Promised CALL of the records at entry and at exit and of what r says ⌝ }
     {
         let mut next = [0usize; ROOM];        // and prev, bucket, entry, generation: u32, serial: u64
         load(nodes, &mut next, ..);
@@ -18,13 +18,13 @@ It reads the function and the work that it calls from the crates' src/ folders; 
 PARAMETERS are slices (& or &mut) and numbers, of usize, u64, u32 and bool, each passed on to WORK in the same order. Where clock
 comes by value, WORK returns the answer itself and is the last expression.
 WORK is covered, requires Holds 4096 of the six columns, and has one clause, ensures { λ r. ⌜ FOR .. r ⌝ }, with FOR a record that has a field
-    meets : (ns ns′ : List Node) → length ns ≡ n → Loads ns c → Stores ns c′ ns′ → FACE with ns for the nodes at entry and ns′ for those at exit
+    meets : (ns ns′ : List Node) → length ns ≡ n → Loads ns c → Stores ns c′ ns′ → Promised CALL with ns for the nodes at entry and ns′ for those at exit
 c being the columns at entry and c′ those at exit; where nodes are lent as & there is no c′ and no ns′. It returns a struct of clock and
 answer where clock is lent. ANSWER is an enum.
-What FACE and FOR are called, and what they cite, is taken from the `ghost use` lines of the two files."""
+What CALL and FOR are, and what they cite, is taken from the `ghost use` lines of the two files."""
 import re
 import sys
-from forms import BITS, WIDTH, Function, Walk, cons, down, low, nest, printed
+from forms import BITS, WIDTH, Function, Walk, bring, cons, down, low, nest, printed
 
 COLUMNS = ['next', 'prev', 'bucket', 'entry', 'generation', 'serial']
 ROOM = 4168
@@ -165,7 +165,7 @@ class Thin:
         for module, name in self.work.cited():
             cited.setdefault(module.replace('Rattle.%s.specs' % self.crate, self.specs(self.crate)), set()).add(name)
         lines = ['use %s.declared.%s.{%s}' % (self.specs(crate), path, name) for _, name, (crate, path) in self.types]
-        lines += ['use %s.{%s}' % (module, ', '.join(sorted(cited[module]))) for module in sorted(cited)]
+        lines += bring(cited)
         lines += ['use Rattle.nodes.proofs.Passing.{passed-on}']
         for short, _, (crate, path) in self.types:
             lines += ['use %s.%s as %s' % (self.proofs(crate), path, short), 'use %s.%s.Laws as %s′' % (self.proofs(crate), path, short)]

@@ -5,19 +5,19 @@ Prints the proof of a call that answers in numbers over lent node structs, which
 It reads the function and the two that it calls from the crates' src/ folders; they must be of this form.
 
     pub extern "C" fn FN(PARAMETERS, answer: &mut [u64; 5]) -> u64
-        ensures { λ r. ⌜ EXPORT of the records at entry and at exit, of the lent numbers at exit, of the numbers and of r ⌝ }
+        ensures { λ r. ⌜ Told of a value of `Call`, of the records at entry and at exit, of the lent numbers at exit and of r ⌝ }
     {
         let told = CALL(PARAMETERS);
         TELL(told, answer)
     }
 
 PARAMETERS are slices (& or &mut) of Node, usize, u64, u32 and bool, `clock: &mut Clock` or `clock: Clock`, and usize, u64, u32 and bool.
-CALL returns an enum, has no `requires` and one clause, which EXPORT's `does .meets` is. TELL is covered, has no `requires`, and its clause is
-what EXPORT's `does .written` says. What they are called, and what they cite, is taken from the `ghost use` lines of the files."""
+CALL returns an enum, has no `requires` and one clause, which is Told's `promised` of what the answer says. TELL is covered, has no `requires`, and its
+clause is Told's `written`. What they cite is taken from the `ghost use` lines of the files."""
 import re
 import sys
 
-from forms import BITS, WIDTH, Function, Walk, cons, down, low, nest, printed
+from forms import BITS, WIDTH, Function, Walk, bring, cons, down, low, nest, printed
 
 ROWS = {'Node': 'T.the-row', 'Clock': 'K.the-row', '[u64; 5]': 'Array u64 5'}
 TYPES = {'bool': 'Bool', 'Clock': 'Clock', 'Node': 'Node', '[u64; 5]': '(List ℕ)'}
@@ -141,7 +141,7 @@ class Told:
         for module, name in list(self.call.cited()) + list(self.tell.cited()):
             cited.setdefault(module, set()).add(name)
         lines = ['use %s.declared.%s.{%s}' % (self.specs(crate), path, name) for _, name, (crate, path) in self.types()]
-        lines += ['use %s.{%s}' % (module, ', '.join(sorted(cited[module]))) for module in sorted(cited)]
+        lines += bring(cited)
         lines += ['use Rattle.nodes.proofs.Passing.{passed-on}']
         for short, _, (crate, path) in self.types():
             lines += ['use %s.%s as %s' % (self.proofs(crate), path, short)] + ['use %s.%s.Laws as %s′' % (self.proofs(crate), path, short)] * (short != 'T')

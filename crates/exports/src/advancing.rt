@@ -1,5 +1,6 @@
 // Start, pull and abandon, answered in numbers. No `requires`. A refused call leaves every record as found.
-ghost use Rattle.face_rules.specs.exports.Exports.{ExportStart, ExportPull, ExportAbandon};
+ghost use Rattle.rules.specs.Wheel.{start, pull, abandon};
+ghost use Rattle.face_rules.specs.exports.Exports.{Told};
 ghost use Rattle.face_rules.specs.nodes.Lending.{before, after};
 use crate::words::tell_noted;
 use crate::words::tell_pulled;
@@ -22,9 +23,9 @@ pub extern "C" fn wheel_start(
     q: u64,
     answer: &mut [u64; 5],
 ) -> u64
-    ensures { λ r. ⌜ ExportStart
+    ensures { λ r. ⌜ Told (start q)
         (before heads tails nodes dated deadline stamp (now (clock .entry)))
-        (after heads tails nodes dated deadline stamp (now (clock .exit))) (now (answer .exit)) q r ⌝ }
+        (after heads tails nodes dated deadline stamp (now (clock .exit))) (now (answer .exit)) r ⌝ }
 {
     let told = start(nodes, clock, heads, tails, dated, deadline, stamp, q);
     tell_noted(told, answer)
@@ -42,7 +43,7 @@ pub extern "C" fn wheel_pull(
     stamp: &[u32],
     answer: &mut [u64; 5],
 ) -> u64
-    ensures { λ r. ⌜ ExportPull
+    ensures { λ r. ⌜ Told pull
         (before heads tails nodes dated deadline stamp (now (clock .entry)))
         (after heads tails nodes dated deadline stamp (now (clock .exit))) (now (answer .exit)) r ⌝ }
 {
@@ -62,7 +63,7 @@ pub extern "C" fn wheel_abandon(
     stamp: &[u32],
     answer: &mut [u64; 5],
 ) -> u64
-    ensures { λ r. ⌜ ExportAbandon
+    ensures { λ r. ⌜ Told abandon
         (before heads tails nodes dated deadline stamp (now (clock .entry)))
         (after heads tails nodes dated deadline stamp (now (clock .exit))) (now (answer .exit)) r ⌝ }
 {

@@ -1,6 +1,7 @@
 // Armed count and next due, answered in numbers. They change no record. No `requires`.
-ghost use Rattle.face_rules.specs.exports.Exports.{ExportArmedCount, ExportNextDue};
-ghost use Rattle.face_rules.specs.nodes.Lending.{before};
+ghost use Rattle.rules.specs.Wheel.{armedCount, nextDue};
+ghost use Rattle.face_rules.specs.exports.Exports.{Told};
+ghost use Rattle.face_rules.specs.nodes.Lending.{before, after};
 use crate::words::tell_counted;
 use crate::words::tell_due;
 use face::armed_count;
@@ -20,7 +21,9 @@ pub extern "C" fn wheel_armed_count(
     stamp: &[u32],
     answer: &mut [u64; 5],
 ) -> u64
-    ensures { λ r. ⌜ ExportArmedCount (before heads tails nodes dated deadline stamp clock) (now (answer .exit)) r ⌝ }
+    ensures { λ r. ⌜ Told armedCount
+        (before heads tails nodes dated deadline stamp clock)
+        (after heads tails nodes dated deadline stamp clock) (now (answer .exit)) r ⌝ }
 {
     let told = armed_count(nodes, clock, heads, tails, dated, deadline, stamp);
     tell_counted(told, answer)
@@ -38,7 +41,9 @@ pub extern "C" fn wheel_next_due(
     stamp: &[u32],
     answer: &mut [u64; 5],
 ) -> u64
-    ensures { λ r. ⌜ ExportNextDue (before heads tails nodes dated deadline stamp clock) (now (answer .exit)) r ⌝ }
+    ensures { λ r. ⌜ Told nextDue
+        (before heads tails nodes dated deadline stamp clock)
+        (after heads tails nodes dated deadline stamp clock) (now (answer .exit)) r ⌝ }
 {
     let told = next_due(nodes, clock, heads, tails, dated, deadline, stamp);
     tell_due(told, answer)

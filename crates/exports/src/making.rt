@@ -1,6 +1,7 @@
 // Create, and enable answered in numbers. No `requires`. A refused call leaves every record as found.
-ghost use Rattle.face_rules.specs.exports.Exports.{ExportEnable};
-ghost use Rattle.wheel_rules.specs.calls.Calls.{Create};
+ghost use Rattle.rules.specs.Wheel.{ok};
+ghost use Rattle.wheel_rules.specs.calls.Promise.{enabling, Begins};
+ghost use Rattle.face_rules.specs.exports.Exports.{Told};
 ghost use Rattle.face_rules.specs.nodes.Lending.{before, after};
 use crate::words::tell_noted;
 use face::enable;
@@ -11,7 +12,7 @@ use wheel_rules::records::Clock;
 // Begins a wheel with this first serial: clock, heads and tails by value. Never refused.
 #[no_mangle]
 pub extern "C" fn wheel_create(first: u64) -> Created
-    ensures { λ r. ⌜ Create first (r .clock) (r .heads) (r .tails) ⌝ }
+    ensures { λ r. ⌜ Begins first (r .clock) (r .heads) (r .tails) ok ⌝ }
 {
     wheel::create(first)
 }
@@ -28,7 +29,8 @@ pub extern "C" fn wheel_enable(
     stamp: &mut [u32],
     answer: &mut [u64; 5],
 ) -> u64
-    ensures { λ r. ⌜ ExportEnable
+    ensures { λ r. ⌜ Told
+        (enabling (before heads tails nodes dated deadline stamp (now (clock .entry))))
         (before heads tails nodes dated deadline stamp (now (clock .entry)))
         (after heads tails nodes dated deadline stamp (now (clock .exit))) (now (answer .exit)) r ⌝ }
 {

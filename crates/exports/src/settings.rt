@@ -1,5 +1,8 @@
 // Set entry, answered in numbers. No `requires`. A refused call leaves every record as found.
-ghost use Rattle.face_rules.specs.exports.Exports.{ExportSetEntry};
+ghost use mathlib.Core.Bool.{cond};
+ghost use mathlib.Core.Option.{none, some};
+ghost use Rattle.rules.specs.Wheel.{setEntry};
+ghost use Rattle.face_rules.specs.exports.Exports.{Told};
 ghost use Rattle.face_rules.specs.nodes.Lending.{before, after};
 use crate::words::tell_noted;
 use face::set_entry;
@@ -22,9 +25,9 @@ pub extern "C" fn wheel_set_entry(
     h: u32,
     answer: &mut [u64; 5],
 ) -> u64
-    ensures { λ r. ⌜ ExportSetEntry
+    ensures { λ r. ⌜ Told (setEntry e (cond has (some due) none) h)
         (before heads tails nodes dated deadline stamp clock)
-        (after heads tails nodes dated deadline stamp clock) (now (answer .exit)) e has due h r ⌝ }
+        (after heads tails nodes dated deadline stamp clock) (now (answer .exit)) r ⌝ }
 {
     let told = set_entry(
         nodes,

@@ -1,5 +1,6 @@
 // Schedule, reschedule and deschedule, answered in numbers. No `requires`. A refused call leaves every record as found.
-ghost use Rattle.face_rules.specs.exports.Exports.{ExportSchedule, ExportReschedule, ExportDeschedule};
+ghost use Rattle.rules.specs.Wheel.{schedule, reschedule, deschedule};
+ghost use Rattle.face_rules.specs.exports.Exports.{Told};
 ghost use Rattle.face_rules.specs.nodes.Lending.{before, after};
 use crate::words::tell_noted;
 use crate::words::tell_rescheduled;
@@ -24,9 +25,9 @@ pub extern "C" fn wheel_schedule(
     h: u32,
     answer: &mut [u64; 5],
 ) -> u64
-    ensures { λ r. ⌜ ExportSchedule
+    ensures { λ r. ⌜ Told (schedule e h)
         (before heads tails nodes dated deadline stamp (now (clock .entry)))
-        (after heads tails nodes dated deadline stamp (now (clock .exit))) (now (answer .exit)) e h r ⌝ }
+        (after heads tails nodes dated deadline stamp (now (clock .exit))) (now (answer .exit)) r ⌝ }
 {
     let told = schedule(nodes, clock, heads, tails, dated, deadline, stamp, e, h);
     tell_scheduled(told, answer)
@@ -48,9 +49,9 @@ pub extern "C" fn wheel_reschedule(
     h: u32,
     answer: &mut [u64; 5],
 ) -> u64
-    ensures { λ r. ⌜ ExportReschedule
+    ensures { λ r. ⌜ Told (reschedule slot number h)
         (before heads tails nodes dated deadline stamp (now (clock .entry)))
-        (after heads tails nodes dated deadline stamp (now (clock .exit))) (now (answer .exit)) slot number h r ⌝ }
+        (after heads tails nodes dated deadline stamp (now (clock .exit))) (now (answer .exit)) r ⌝ }
 {
     let told = reschedule(
         nodes,
@@ -82,9 +83,9 @@ pub extern "C" fn wheel_deschedule(
     h: u32,
     answer: &mut [u64; 5],
 ) -> u64
-    ensures { λ r. ⌜ ExportDeschedule
+    ensures { λ r. ⌜ Told (deschedule slot number h)
         (before heads tails nodes dated deadline stamp (now (clock .entry)))
-        (after heads tails nodes dated deadline stamp (now (clock .exit))) (now (answer .exit)) slot number h r ⌝ }
+        (after heads tails nodes dated deadline stamp (now (clock .exit))) (now (answer .exit)) r ⌝ }
 {
     let told = deschedule(
         nodes,

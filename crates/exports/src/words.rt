@@ -54,7 +54,7 @@ pub fn tell_pulled(r: Pulled, answer: &mut [u64; 5]) -> u64
             serial,
             deadline,
         } => write([0, 4, entry as u64, serial, deadline], answer),
-        Pulled::Moved {
+        Pulled::Rescheduled {
             entry,
             serial,
             place,

@@ -1,5 +1,8 @@
 // Start, pull and abandon over lent nodes. No `requires`. A refused call leaves every record as found.
-ghost use Rattle.face_rules.specs.Faces.{FaceStart, FacePull, FaceAbandon};
+ghost use Rattle.rules.specs.Wheel.{start, pull, abandon};
+ghost use Rattle.wheel_rules.specs.calls.Answers.{notedSays};
+ghost use Rattle.wheel_rules.specs.calls.Promise.{Promised};
+ghost use Rattle.face_rules.specs.Answers.{pulledSays};
 ghost use Rattle.face_rules.specs.nodes.Lending.{before, after};
 use face_rules::Pulled;
 use face_rules::nodes::Node;
@@ -23,9 +26,9 @@ pub fn start(
     stamp: &[u32],
     q: u64,
 ) -> Noted
-    ensures { λ r. ⌜ FaceStart
+    ensures { λ r. ⌜ Promised (start q)
         (before heads tails nodes dated deadline stamp (now (clock .entry)))
-        (after heads tails nodes dated deadline stamp (now (clock .exit))) q r ⌝ }
+        (after heads tails nodes dated deadline stamp (now (clock .exit))) (notedSays r) ⌝ }
 {
     let mut next = [0usize; ROOM];
     let mut prev = [0usize; ROOM];
@@ -72,9 +75,9 @@ pub fn pull(
     deadline: &[u64],
     stamp: &[u32],
 ) -> Pulled
-    ensures { λ r. ⌜ FacePull
+    ensures { λ r. ⌜ Promised pull
         (before heads tails nodes dated deadline stamp (now (clock .entry)))
-        (after heads tails nodes dated deadline stamp (now (clock .exit))) r ⌝ }
+        (after heads tails nodes dated deadline stamp (now (clock .exit))) (pulledSays r) ⌝ }
 {
     let mut next = [0usize; ROOM];
     let mut prev = [0usize; ROOM];
@@ -121,9 +124,9 @@ pub fn abandon(
     deadline: &[u64],
     stamp: &[u32],
 ) -> Noted
-    ensures { λ r. ⌜ FaceAbandon
+    ensures { λ r. ⌜ Promised abandon
         (before heads tails nodes dated deadline stamp (now (clock .entry)))
-        (after heads tails nodes dated deadline stamp (now (clock .exit))) r ⌝ }
+        (after heads tails nodes dated deadline stamp (now (clock .exit))) (notedSays r) ⌝ }
 {
     let mut next = [0usize; ROOM];
     let mut prev = [0usize; ROOM];

@@ -1,6 +1,8 @@
 // Armed count and next due over lent nodes. They change nothing. No `requires`.
-ghost use Rattle.face_rules.specs.Faces.{FaceArmedCount, FaceNextDue};
-ghost use Rattle.face_rules.specs.nodes.Lending.{before};
+ghost use Rattle.rules.specs.Wheel.{armedCount, nextDue};
+ghost use Rattle.wheel_rules.specs.calls.Answers.{countedSays, dueSays};
+ghost use Rattle.wheel_rules.specs.calls.Promise.{Promised};
+ghost use Rattle.face_rules.specs.nodes.Lending.{before, after};
 use face_rules::nodes::Node;
 use face_works::counts::armed_count_work;
 use face_works::counts::next_due_work;
@@ -20,7 +22,9 @@ pub fn armed_count(
     deadline: &[u64],
     stamp: &[u32],
 ) -> Counted
-    ensures { λ r. ⌜ FaceArmedCount (before heads tails nodes dated deadline stamp clock) r ⌝ }
+    ensures { λ r. ⌜ Promised armedCount
+        (before heads tails nodes dated deadline stamp clock)
+        (after heads tails nodes dated deadline stamp clock) (countedSays r) ⌝ }
 {
     let mut next = [0usize; ROOM];
     let mut prev = [0usize; ROOM];
@@ -64,7 +68,9 @@ pub fn next_due(
     deadline: &[u64],
     stamp: &[u32],
 ) -> Due
-    ensures { λ r. ⌜ FaceNextDue (before heads tails nodes dated deadline stamp clock) r ⌝ }
+    ensures { λ r. ⌜ Promised nextDue
+        (before heads tails nodes dated deadline stamp clock)
+        (after heads tails nodes dated deadline stamp clock) (dueSays r) ⌝ }
 {
     let mut next = [0usize; ROOM];
     let mut prev = [0usize; ROOM];

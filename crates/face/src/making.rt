@@ -1,5 +1,6 @@
 // Enable over lent nodes. No `requires`. A refused call leaves every record as found.
-ghost use Rattle.face_rules.specs.Faces.{FaceEnable};
+ghost use Rattle.wheel_rules.specs.calls.Answers.{notedSays};
+ghost use Rattle.wheel_rules.specs.calls.Promise.{enabling, Promised};
 ghost use Rattle.face_rules.specs.nodes.Lending.{before, after};
 use face_rules::nodes::Node;
 use face_works::making::enable_work;
@@ -17,9 +18,10 @@ pub fn enable(
     deadline: &mut [u64],
     stamp: &mut [u32],
 ) -> Noted
-    ensures { λ r. ⌜ FaceEnable
+    ensures { λ r. ⌜ Promised
+        (enabling (before heads tails nodes dated deadline stamp (now (clock .entry))))
         (before heads tails nodes dated deadline stamp (now (clock .entry)))
-        (after heads tails nodes dated deadline stamp (now (clock .exit))) r ⌝ }
+        (after heads tails nodes dated deadline stamp (now (clock .exit))) (notedSays r) ⌝ }
 {
     let turn = enable_work(nodes.len(), *clock, heads, tails, dated, deadline, stamp);
     *clock = turn.clock;

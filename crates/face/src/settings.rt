@@ -1,5 +1,9 @@
 // Set entry over lent nodes. No `requires`. A refused call leaves every record as found.
-ghost use Rattle.face_rules.specs.Faces.{FaceSetEntry};
+ghost use mathlib.Core.Bool.{cond};
+ghost use mathlib.Core.Option.{none, some};
+ghost use Rattle.rules.specs.Wheel.{setEntry};
+ghost use Rattle.wheel_rules.specs.calls.Answers.{notedSays};
+ghost use Rattle.wheel_rules.specs.calls.Promise.{Promised};
 ghost use Rattle.face_rules.specs.nodes.Lending.{before, after};
 use face_rules::nodes::Node;
 use face_works::settings::set_entry_work;
@@ -22,7 +26,9 @@ pub fn set_entry(
     due: u64,
     h: u32,
 ) -> Noted
-    ensures { λ r. ⌜ FaceSetEntry (before heads tails nodes dated deadline stamp clock) (after heads tails nodes dated deadline stamp clock) e has due h r ⌝ }
+    ensures { λ r. ⌜ Promised (setEntry e (cond has (some due) none) h)
+        (before heads tails nodes dated deadline stamp clock)
+        (after heads tails nodes dated deadline stamp clock) (notedSays r) ⌝ }
 {
     let mut next = [0usize; ROOM];
     let mut prev = [0usize; ROOM];

@@ -1,5 +1,8 @@
 // Schedule, reschedule and deschedule over lent nodes. No `requires`. A refused call leaves every record as found.
-ghost use Rattle.face_rules.specs.Faces.{FaceSchedule, FaceReschedule, FaceDeschedule};
+ghost use Rattle.rules.specs.Wheel.{schedule, reschedule, deschedule};
+ghost use Rattle.wheel_rules.specs.calls.Answers.{notedSays};
+ghost use Rattle.wheel_rules.specs.calls.Promise.{Promised};
+ghost use Rattle.face_rules.specs.Answers.{scheduledSays, rescheduledSays};
 ghost use Rattle.face_rules.specs.nodes.Lending.{before, after};
 use face_rules::Rescheduled;
 use face_rules::Scheduled;
@@ -25,9 +28,9 @@ pub fn schedule(
     e: usize,
     h: u32,
 ) -> Scheduled
-    ensures { λ r. ⌜ FaceSchedule
+    ensures { λ r. ⌜ Promised (schedule e h)
         (before heads tails nodes dated deadline stamp (now (clock .entry)))
-        (after heads tails nodes dated deadline stamp (now (clock .exit))) e h r ⌝ }
+        (after heads tails nodes dated deadline stamp (now (clock .exit))) (scheduledSays r) ⌝ }
 {
     let mut next = [0usize; ROOM];
     let mut prev = [0usize; ROOM];
@@ -80,9 +83,9 @@ pub fn reschedule(
     number: u64,
     h: u32,
 ) -> Rescheduled
-    ensures { λ r. ⌜ FaceReschedule
+    ensures { λ r. ⌜ Promised (reschedule slot number h)
         (before heads tails nodes dated deadline stamp (now (clock .entry)))
-        (after heads tails nodes dated deadline stamp (now (clock .exit))) slot number h r ⌝ }
+        (after heads tails nodes dated deadline stamp (now (clock .exit))) (rescheduledSays r) ⌝ }
 {
     let mut next = [0usize; ROOM];
     let mut prev = [0usize; ROOM];
@@ -135,9 +138,9 @@ pub fn deschedule(
     number: u64,
     h: u32,
 ) -> Noted
-    ensures { λ r. ⌜ FaceDeschedule
+    ensures { λ r. ⌜ Promised (deschedule slot number h)
         (before heads tails nodes dated deadline stamp (now (clock .entry)))
-        (after heads tails nodes dated deadline stamp (now (clock .exit))) slot number h r ⌝ }
+        (after heads tails nodes dated deadline stamp (now (clock .exit))) (notedSays r) ⌝ }
 {
     let mut next = [0usize; ROOM];
     let mut prev = [0usize; ROOM];

@@ -1,27 +1,55 @@
 -- Where more nodes are lent than a wheel may have, the rows give the number of specs/Crowded.antt.
 use Prim.Native.Nat.{ℕ, _≤_, _<_}
 use native.Mathlib.Omega.{arith}
-use mathlib.Core.Path.{_≡_, refl, sym, ap, _∙_}
+use mathlib.Core.Path.{_≡_, refl, sym, _∙_}
 use mathlib.Core.Logic.{inl, inr}
-use mathlib.Core.Bool.{Bool, true, false, cond}
+use mathlib.Core.Bool.{Bool, true, false, cond, false≢true}
 use mathlib.Core.List.{List}
 use lib.ListN.{length, length-map}
-use Rattle.rules.specs.Wheel.{Call, Answer, refused}
+use Rattle.rules.specs.Wheel.{Call, create, enable, setEntry, schedule, reschedule, deschedule, start, pull, abandon, armedCount, nextDue, refused}
+use Rattle.rules.specs.Refusals.{rows}
 use Rattle.wheel_rules.specs.declared.records.Clock.{Clock}
 use Rattle.wheel_rules.specs.records.Records.{Records}
-use Rattle.wheel_rules.specs.refusals.Refuse.{standing}
-use Rattle.wheel_rules.specs.calls.Calls.{Meets}
+use Rattle.wheel_rules.specs.refusals.Refuse.{given, standing, testsOn, rowsOn}
+use Rattle.wheel_rules.specs.calls.Promise.{Promised}
+use Rattle.wheel_rules.proofs.calls.Deciding.{LentTo, later}
+use Rattle.wheel_rules.proofs.calls.Calling.{no}
 use Rattle.face_rules.specs.declared.nodes.Node.{Node}
 use Rattle.face_rules.specs.nodes.Shown.{shown}
 use Rattle.face_rules.specs.Crowded.{crowdedNumber}
 
--- a refusal by a number that is not 0
-no : (c : Call) (rows : ℕ → Type 0) (R after : Records) (then : Answer) (k : ℕ) → rows k → (k ≡ 0 → ⊥) → Meets c rows R R (refused k) after then
-no c rows R after then k f n =
-    record { number = k; by = f; refusal = λ _. (refl, refl); result = λ z. absurd (n z); acts = λ z. absurd (n z) }
+-- the calls that 1 names: "all wheel calls but create, enable"
+abbrev pub OfOne : Call → Type 0
+OfOne (create n) = ⊥
+OfOne (enable m k f) = ⊥
+OfOne (setEntry e o h) = Unit {0}
+OfOne (schedule e h) = Unit {0}
+OfOne (reschedule x n h) = Unit {0}
+OfOne (deschedule x n h) = Unit {0}
+OfOne (start q) = Unit {0}
+OfOne pull = Unit {0}
+OfOne abandon = Unit {0}
+OfOne armedCount = Unit {0}
+OfOne nextDue = Unit {0}
 
-differ : false ≡ true → ⊥
-differ e = let z : _≡_ {A = ℕ} 0 1 = ap (λ (b : Bool). cond b 1 0) e in omega arith
+-- their rows begin with 1 and 4, and no length is given to them
+module _ (R : Records) (k : ℕ) (f : (more : ℕ → Type 0) → standing R more k) where
+  -- the rows after these
+  abbrev more : Call → ℕ → Type 0
+  more c = given (later (rows (testsOn R) c))
+
+  stops : (c : Call) → OfOne c → LentTo R c × rowsOn R c k
+  stops (create n) o = absurd o
+  stops (enable m j i) o = absurd o
+  stops (setEntry e d h) o = (tt, f (more (setEntry e d h)))
+  stops (schedule e h) o = (tt, f (more (schedule e h)))
+  stops (reschedule x n h) o = (tt, f (more (reschedule x n h)))
+  stops (deschedule x n h) o = (tt, f (more (deschedule x n h)))
+  stops (start q) o = (tt, f (more (start q)))
+  stops pull o = (tt, f (more pull))
+  stops abandon o = (tt, f (more abandon))
+  stops armedCount o = (tt, f (more armedCount))
+  stops nextDue o = (tt, f (more nextDue))
 
 -- ---- more nodes than a wheel may have
 module _ (h t : List ℕ) (ns : List Node) (d : List Bool) (l m : List ℕ) (c : Clock) (many : 4096 < length ns) where
@@ -38,7 +66,7 @@ module _ (h t : List ℕ) (ns : List Node) (d : List Bool) (l m : List ℕ) (c :
       go : (b : Bool) → b ≡ c .enabled → k ≡ cond b 4 1 → standing crowd more k
       go true on i =
           inr (sym on, inl ((λ s. too-many (omega (arith, s .lengths .nodes .next-len, s .lengths .ranges .nodes-most))), i))
-      go false off i = inl ((λ s. differ (off ∙ s)), i)
+      go false off i = inl ((λ s. false≢true (off ∙ s)), i)
 
   numbered-some : (k : ℕ) → k ≡ crowdedNumber c → k ≡ 0 → ⊥
   numbered-some k e z = go (c .enabled) e
@@ -47,6 +75,7 @@ module _ (h t : List ℕ) (ns : List Node) (d : List Bool) (l m : List ℕ) (c :
       go true i = omega (arith, i, z)
       go false i = omega (arith, i, z)
 
-  pub crowd-no : (q : Call) (more : ℕ → Type 0) (after : Records) (then : Answer) (k : ℕ) → k ≡ crowdedNumber c
-      → Meets q (standing crowd more) crowd crowd (refused k) after then
-  crowd-no q more after then k e = no q (standing crowd more) crowd after then k (numbered more k e) (numbered-some k e)
+  pub crowd-no : (q : Call) → OfOne q → (k : ℕ) → k ≡ crowdedNumber c → Promised q crowd crowd (refused k)
+  crowd-no q o k e =
+      let u = stops crowd k (λ more. numbered more k e) q o in
+      no q crowd k (u .0) (u .1) (numbered-some k e)

@@ -6,29 +6,27 @@ use mathlib.Core.Bool.{Bool, true, false}
 use mathlib.Core.List.{List}
 use lib.ListN.{length, length-map}
 use Rattle.rules.specs.Geometry.{wheel01}
-use Rattle.rules.specs.Wheel.{enable, ok}
+use Rattle.rules.specs.Wheel.{refused, ok}
 use Rattle.wheel_rules.specs.declared.records.Clock.{Clock}
 use Rattle.wheel_rules.specs.records.Records.{Records, records, nodes, entries}
 use Rattle.wheel_rules.specs.layout.Layout.{bareLinks, bareNodes, enabledWith, LayReady}
 use Rattle.wheel_rules.specs.layout.Around.{AroundReady, LaysAround}
 use Rattle.wheel_rules.proofs.layout.Bare.{bare-lays}
 use Rattle.wheel_rules.specs.sound.Clauses.{NodesLengths}
-use Rattle.wheel_rules.specs.refusals.Refuse.{enableRows, LendableAround, RefusesAround, RefusesEnable}
+use Rattle.wheel_rules.specs.refusals.Refuse.{LendableAround, RefusesAround, RefusesEnable}
 use Rattle.wheel_rules.proofs.refusals.Rows.{past}
 use Rattle.wheel_rules.proofs.refusals.Refusing.{enable-around}
-use Rattle.wheel_rules.specs.declared.calls.Noted.the-variants.{Done as Set, Refused as NotedRefused}
 use Rattle.wheel_rules.proofs.calls.Acting.{lay-ready}
 use Rattle.wheel_rules.proofs.calls.Calling as calling
 use Rattle.wheel_rules.specs.calls.Work.{laidOut}
-use Rattle.wheel_rules.specs.calls.Calls.{Meets}
+use Rattle.wheel_rules.specs.calls.Promise.{enabling, Promised}
 use Rattle.face_rules.specs.declared.nodes.Node.{Node}
 use Rattle.face_rules.specs.nodes.Shown.{nexts, prevs, entryNumbers, generations, serials, shown}
 use Rattle.face_rules.specs.nodes.Shown.{buckets as homes}
 use Rattle.face_rules.specs.nodes.Columns.{columnsOf}
 use Rattle.face_rules.specs.nodes.Laid.{Laid}
 use Rattle.face_rules.proofs.nodes.InPlace.{columnsIn, laid-bare}
-use Rattle.face_rules.specs.Faces.{FaceEnable}
-use Rattle.face_rules.specs.Works.{EnableFor}
+use Rattle.face_rules.specs.Works.{Enabled}
 
 -- each field of the nodes is in a list as long as they are
 same-lengths : (ns : List Node)
@@ -60,12 +58,12 @@ module _ (n : ℕ) (c : Clock) (hs ts : List ℕ) (d : List Bool) (l m : List �
         enable-around hs ts (nexts ns) (prevs ns) (homes ns) (entryNumbers ns) (generations ns) (serials ns) d l m c k
         (subst (λ (i : ℕ). RefusesAround (c .enabled) (length hs) (length ts) i (length d) (length l) (length m) k) as-many f) (same-lengths ns)
 
-  pub enable-refused : (k ≡ 0 → ⊥) → EnableFor n c hs ts hs ts d l m d l m (record { clock = c; answer = NotedRefused k; laid = false })
+  pub enable-refused : (k ≡ 0 → ⊥) → Enabled n c c hs ts hs ts d d l m l m false (refused k)
   enable-refused x =
       record {
         meets = λ ns ns′ e o.
-            subst (λ (zs : List Node). FaceEnable (shown hs ts ns d l m c) (shown hs ts zs d l m c) (NotedRefused k)) (sym (o .stays refl))
-            (record { meets = calling.enable-no _ _ c k (numbers ns e) x .meets });
+            subst (λ (zs : List Node). Promised (enabling (before ns e)) (before ns e) (shown hs ts zs d l m c) (refused k)) (sym (o .stays refl))
+            (calling.enable-no _ _ c k (numbers ns e) x);
       }
 
   module _ (z : k ≡ 0) where
@@ -109,14 +107,11 @@ module _ (n : ℕ) (c : Clock) (hs ts : List ℕ) (d : List Bool) (l m : List �
           records (nodes (h i) (t i) (written i .next) (written i .prev) (written i .bucket) (written i .entry) (written i .generation) (written i .serial))
           (a .entries-are i) (b i)
 
-      pub enables : FaceEnable (shown hs ts ns d l m c) (shown hs′ ts′ ns′ d′ l′ m′ c′) Set
+      pub enables : Promised (enabling (before ns e)) (before ns e) (shown hs′ ts′ ns′ d′ l′ m′ c′) ok
       enables =
-          record {
-            meets =
-                subst (λ (R : Records). Meets (enable M (length d)) (enableRows (before ns e)) (before ns e) R ok (laidOut (before ns e)) ok) (sym laid-out)
-                (calling.enable-yes _ _ c k (numbers ns e) _ _ _ z (bare-lays _ _ c ready) .meets);
-          }
+          subst (λ (R : Records). Promised (enabling (before ns e)) (before ns e) R ok) (sym laid-out)
+          (calling.enable-yes _ _ c k (numbers ns e) _ _ _ z (bare-lays _ _ c ready))
 
     pub enable-done : {hs′ ts′ : List ℕ} {d′ : List Bool} {l′ m′ : List ℕ} {c′ : Clock} → LaysAround hs ts (entries d l m) n c hs′ ts′ (entries d′ l′ m′) c′
-        → EnableFor n c hs ts hs′ ts′ d l m d′ l′ m′ (record { clock = c′; answer = Set; laid = true })
+        → Enabled n c c′ hs ts hs′ ts′ d d′ l m l′ m′ true ok
     enable-done a = record { meets = λ ns ns′ e o. enables a ns ns′ e o }

@@ -1,4 +1,4 @@
--- The laws of the face. Determined, Steps and Runs are what a reader looks for.
+-- The laws of the face. Determined and exports are what a reader looks for.
 pub mod Turning
 pub mod Loading
 pub mod Crowding
@@ -6,6 +6,4 @@ pub mod Facing
 pub mod Enabling
 pub mod Answers
 pub mod Determined
-pub mod Steps
-pub mod Runs
 pub mod exports

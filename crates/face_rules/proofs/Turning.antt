@@ -14,7 +14,7 @@ use Rattle.wheel_rules.specs.declared.calls.Pulled.the-variants as pulled
 use Rattle.wheel_rules.specs.calls.Answers as there
 use Rattle.face_rules.specs.declared.Scheduled.the-variants.{Armed, Refused as ScheduledRefused}
 use Rattle.face_rules.specs.declared.Rescheduled.the-variants.{Moved, Removed, Refused as RescheduledRefused}
-use Rattle.face_rules.specs.declared.Pulled.the-variants.{Expired, Moved as Placed, End, Refused as PulledRefused}
+use Rattle.face_rules.specs.declared.Pulled.the-variants.{Expired, Rescheduled as Placed, End, Refused as PulledRefused}
 use Rattle.face_rules.specs.Turns.{TurnsTimed, TurnsScheduled, TurnsRescheduled, TurnsPulled}
 
 module _ (own : Clock) (r : Timed) where
@@ -51,7 +51,7 @@ module _ (own : Clock) (r : pull.Pulled) where
   pub pulled-expired : (e n d : ℕ) (k : Clock) → r ≡ pulled.Expired e n d k → TurnsPulled own r (record { clock = k; answer = Expired e n d })
   pulled-expired e n d k i = record { says = ap there.pulledSays (sym i); clock-is = ap (there.pulledClock own) (sym i) }
 
-  pub pulled-placed : (e n p : ℕ) (k : Clock) → r ≡ pulled.Moved e n p k → TurnsPulled own r (record { clock = k; answer = Placed e n p })
+  pub pulled-placed : (e n p : ℕ) (k : Clock) → r ≡ pulled.Rescheduled e n p k → TurnsPulled own r (record { clock = k; answer = Placed e n p })
   pulled-placed e n p k i = record { says = ap there.pulledSays (sym i); clock-is = ap (there.pulledClock own) (sym i) }
 
   pub pulled-end : (k : Clock) → r ≡ pulled.End k → TurnsPulled own r (record { clock = k; answer = End })

@@ -1,4 +1,4 @@
 -- The laws of the C functions.
 pub mod Wording
 pub mod Determined
-pub mod Steps
+pub mod Runs

@@ -1,9 +1,8 @@
--- The face: what the calls over lent nodes promise, what their works do, and a history of them.
+-- The face: what lent nodes and the answers of the calls over them are, and what the C functions promise. The calls over
+-- lent nodes cite the wheel's promise (wheel_rules, specs/calls/Promise.antt).
 pub mod nodes
 pub mod Answers
-pub mod Faces
 pub mod Turns
 pub mod Works
 pub mod Crowded
-pub mod History
 pub mod exports

@@ -1,3 +1,4 @@
--- The calls as C functions: answers in numbers, and the promises.
+-- The calls as C functions: answers in numbers, the promise, and a history.
 pub mod Words
 pub mod Exports
+pub mod History

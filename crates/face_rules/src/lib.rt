@@ -40,7 +40,7 @@ pub enum Pulled {
         serial: u64,
         deadline: u64,
     },
-    Moved {
+    Rescheduled {
         entry: usize,
         serial: u64,
         place: u64,

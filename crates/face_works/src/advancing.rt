@@ -1,6 +1,8 @@
 // The work of start and abandon. For proved code only, unchecked: it hands over columns that are long enough.
 ghost use Rattle.face_rules.specs.nodes.Columns.{Holds, columns};
-ghost use Rattle.face_rules.specs.Works.{StartFor, AbandonFor};
+ghost use Rattle.rules.specs.Wheel.{start, abandon};
+ghost use Rattle.wheel_rules.specs.calls.Answers.{notedSays};
+ghost use Rattle.face_rules.specs.Works.{Loaded};
 ghost use Rattle.face_rules.specs.nodes.Lending.{columnsBefore};
 use crate::answers::timed;
 use crate::refusals::crowded;
@@ -26,9 +28,10 @@ pub fn start_work(
     q: u64,
 ) -> NotedTurn
     requires { ⌜ Holds 4096 (columns (now next) (now prev) (now bucket) (now entry) (now generation) (now serial)) ⌝ }
-    ensures { λ r. ⌜ StartFor
-        (columnsBefore next prev bucket entry generation serial) n clock (now (heads .entry)) (now (tails .entry))
-        (now (dated .entry)) (now (deadline .entry)) (now (stamp .entry)) q r ⌝ }
+    ensures { λ r. ⌜ Loaded (start q)
+        (columnsBefore next prev bucket entry generation serial) n clock (r .clock) (now (heads .entry)) (now (tails .entry))
+        (now (dated .entry)) (now (dated .entry)) (now (deadline .entry)) (now (stamp .entry)) (now (deadline .entry))
+        (now (stamp .entry)) (notedSays (r .answer)) ⌝ }
 {
     if 4096 < n {
         let no = crowded(clock);
@@ -72,9 +75,10 @@ pub fn abandon_work(
     stamp: &[u32],
 ) -> NotedTurn
     requires { ⌜ Holds 4096 (columns (now next) (now prev) (now bucket) (now entry) (now generation) (now serial)) ⌝ }
-    ensures { λ r. ⌜ AbandonFor
-        (columnsBefore next prev bucket entry generation serial) n clock (now (heads .entry)) (now (tails .entry))
-        (now (dated .entry)) (now (deadline .entry)) (now (stamp .entry)) r ⌝ }
+    ensures { λ r. ⌜ Loaded abandon
+        (columnsBefore next prev bucket entry generation serial) n clock (r .clock) (now (heads .entry)) (now (tails .entry))
+        (now (dated .entry)) (now (dated .entry)) (now (deadline .entry)) (now (stamp .entry)) (now (deadline .entry))
+        (now (stamp .entry)) (notedSays (r .answer)) ⌝ }
 {
     if 4096 < n {
         let no = crowded(clock);

@@ -83,14 +83,14 @@ pub fn pulled(own: Clock, r: wheel_rules::calls::Pulled) -> PulledTurn
                 deadline,
             },
         },
-        wheel_rules::calls::Pulled::Moved {
+        wheel_rules::calls::Pulled::Rescheduled {
             entry,
             serial,
             place,
             clock,
         } => PulledTurn {
             clock,
-            answer: Pulled::Moved {
+            answer: Pulled::Rescheduled {
                 entry,
                 serial,
                 place,

@@ -1,6 +1,8 @@
 // The work of armed count and next due. For proved code only, unchecked: it hands over columns that are long enough.
 ghost use Rattle.face_rules.specs.nodes.Columns.{Holds, columns};
-ghost use Rattle.face_rules.specs.Works.{ArmedCountFor, NextDueFor};
+ghost use Rattle.rules.specs.Wheel.{armedCount, nextDue};
+ghost use Rattle.wheel_rules.specs.calls.Answers.{countedSays, dueSays};
+ghost use Rattle.face_rules.specs.Works.{Loaded};
 ghost use Rattle.face_rules.specs.nodes.Lending.{columnsBefore};
 use crate::refusals::crowded;
 use wheel_rules::calls::Counted;
@@ -24,9 +26,10 @@ pub fn armed_count_work(
     stamp: &[u32],
 ) -> Counted
     requires { ⌜ Holds 4096 (columns (now next) (now prev) (now bucket) (now entry) (now generation) (now serial)) ⌝ }
-    ensures { λ r. ⌜ ArmedCountFor
-        (columnsBefore next prev bucket entry generation serial) n clock (now (heads .entry)) (now (tails .entry))
-        (now (dated .entry)) (now (deadline .entry)) (now (stamp .entry)) r ⌝ }
+    ensures { λ r. ⌜ Loaded armedCount
+        (columnsBefore next prev bucket entry generation serial) n clock clock (now (heads .entry)) (now (tails .entry))
+        (now (dated .entry)) (now (dated .entry)) (now (deadline .entry)) (now (stamp .entry)) (now (deadline .entry))
+        (now (stamp .entry)) (countedSays r) ⌝ }
 {
     if 4096 < n {
         let no = crowded(clock);
@@ -65,9 +68,10 @@ pub fn next_due_work(
     stamp: &[u32],
 ) -> Due
     requires { ⌜ Holds 4096 (columns (now next) (now prev) (now bucket) (now entry) (now generation) (now serial)) ⌝ }
-    ensures { λ r. ⌜ NextDueFor
-        (columnsBefore next prev bucket entry generation serial) n clock (now (heads .entry)) (now (tails .entry))
-        (now (dated .entry)) (now (deadline .entry)) (now (stamp .entry)) r ⌝ }
+    ensures { λ r. ⌜ Loaded nextDue
+        (columnsBefore next prev bucket entry generation serial) n clock clock (now (heads .entry)) (now (tails .entry))
+        (now (dated .entry)) (now (dated .entry)) (now (deadline .entry)) (now (stamp .entry)) (now (deadline .entry))
+        (now (stamp .entry)) (dueSays r) ⌝ }
 {
     if 4096 < n {
         let no = crowded(clock);

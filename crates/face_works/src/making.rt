@@ -1,6 +1,7 @@
 // The work of enable, over what is lent beside the nodes: the nodes themselves are laid out in place, where it says so.
 // No `requires`.
-ghost use Rattle.face_rules.specs.Works.{EnableFor};
+ghost use Rattle.wheel_rules.specs.calls.Answers.{notedSays};
+ghost use Rattle.face_rules.specs.Works.{Enabled};
 use face_rules::LaidTurn;
 use wheel_refusals::around_refusal;
 use wheel_rules::calls::Noted;
@@ -18,9 +19,10 @@ pub fn enable_work(
     deadline: &mut [u64],
     stamp: &mut [u32],
 ) -> LaidTurn
-    ensures { λ r. ⌜ EnableFor
-        n clock (now (heads .entry)) (now (tails .entry)) (now (heads .exit)) (now (tails .exit)) (now (dated .entry))
-        (now (deadline .entry)) (now (stamp .entry)) (now (dated .exit)) (now (deadline .exit)) (now (stamp .exit)) r ⌝ }
+    ensures { λ r. ⌜ Enabled
+        n clock (r .clock) (now (heads .entry)) (now (tails .entry)) (now (heads .exit)) (now (tails .exit))
+        (now (dated .entry)) (now (dated .exit)) (now (deadline .entry)) (now (stamp .entry)) (now (deadline .exit))
+        (now (stamp .exit)) (r .laid) (notedSays (r .answer)) ⌝ }
 {
     let no = around_refusal(
         clock.enabled,

@@ -1,6 +1,8 @@
 // The work of pull. For proved code only, unchecked: it hands over columns that are long enough.
 ghost use Rattle.face_rules.specs.nodes.Columns.{Holds, columns};
-ghost use Rattle.face_rules.specs.Works.{PullFor};
+ghost use Rattle.rules.specs.Wheel.{pull};
+ghost use Rattle.face_rules.specs.Answers.{pulledSays};
+ghost use Rattle.face_rules.specs.Works.{Stored};
 ghost use Rattle.face_rules.specs.nodes.Lending.{columnsBefore, columnsAfter};
 use crate::answers::pulled;
 use crate::refusals::crowded;
@@ -25,10 +27,11 @@ pub fn pull_work(
     stamp: &[u32],
 ) -> PulledTurn
     requires { ⌜ Holds 4096 (columns (now next) (now prev) (now bucket) (now entry) (now generation) (now serial)) ⌝ }
-    ensures { λ r. ⌜ PullFor
+    ensures { λ r. ⌜ Stored pull
         (columnsBefore next prev bucket entry generation serial)
-        (columnsAfter next prev bucket entry generation serial) n clock (now (heads .entry)) (now (tails .entry))
-        (now (heads .exit)) (now (tails .exit)) (now (dated .entry)) (now (deadline .entry)) (now (stamp .entry)) r ⌝ }
+        (columnsAfter next prev bucket entry generation serial) n clock (r .clock) (now (heads .entry))
+        (now (tails .entry)) (now (heads .exit)) (now (tails .exit)) (now (dated .entry)) (now (deadline .entry))
+        (now (stamp .entry)) (pulledSays (r .answer)) ⌝ }
 {
     if 4096 < n {
         let no = crowded(clock);

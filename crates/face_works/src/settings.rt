@@ -1,6 +1,10 @@
 // The work of set entry. For proved code only, unchecked: it hands over columns that are long enough.
+ghost use mathlib.Core.Bool.{cond};
+ghost use mathlib.Core.Option.{none, some};
 ghost use Rattle.face_rules.specs.nodes.Columns.{Holds, columns};
-ghost use Rattle.face_rules.specs.Works.{SetEntryFor};
+ghost use Rattle.rules.specs.Wheel.{setEntry};
+ghost use Rattle.wheel_rules.specs.calls.Answers.{notedSays};
+ghost use Rattle.face_rules.specs.Works.{Loaded};
 ghost use Rattle.face_rules.specs.nodes.Lending.{columnsBefore};
 use crate::refusals::crowded;
 use wheel_rules::calls::Noted;
@@ -27,10 +31,10 @@ pub fn set_entry_work(
     h: u32,
 ) -> Noted
     requires { ⌜ Holds 4096 (columns (now next) (now prev) (now bucket) (now entry) (now generation) (now serial)) ⌝ }
-    ensures { λ r. ⌜ SetEntryFor
-        (columnsBefore next prev bucket entry generation serial) n clock (now (heads .entry)) (now (tails .entry))
-        (now (dated .entry)) (now (deadline .entry)) (now (stamp .entry)) (now (dated .exit)) (now (deadline .exit))
-        (now (stamp .exit)) e has due h r ⌝ }
+    ensures { λ r. ⌜ Loaded (setEntry e (cond has (some due) none) h)
+        (columnsBefore next prev bucket entry generation serial) n clock clock (now (heads .entry)) (now (tails .entry))
+        (now (dated .entry)) (now (dated .exit)) (now (deadline .entry)) (now (stamp .entry)) (now (deadline .exit))
+        (now (stamp .exit)) (notedSays r) ⌝ }
 {
     if 4096 < n {
         let no = crowded(clock);

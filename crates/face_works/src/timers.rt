@@ -1,7 +1,10 @@
 // The work of schedule, reschedule and deschedule. For proved code only, unchecked: it hands over columns that are long
 // enough.
 ghost use Rattle.face_rules.specs.nodes.Columns.{Holds, columns};
-ghost use Rattle.face_rules.specs.Works.{ScheduleFor, RescheduleFor, DescheduleFor};
+ghost use Rattle.rules.specs.Wheel.{schedule, reschedule, deschedule};
+ghost use Rattle.wheel_rules.specs.calls.Answers.{notedSays};
+ghost use Rattle.face_rules.specs.Answers.{scheduledSays, rescheduledSays};
+ghost use Rattle.face_rules.specs.Works.{Stored};
 ghost use Rattle.face_rules.specs.nodes.Lending.{columnsBefore, columnsAfter};
 use crate::answers;
 use crate::refusals::crowded;
@@ -32,10 +35,11 @@ pub fn schedule_work(
     h: u32,
 ) -> ScheduledTurn
     requires { ⌜ Holds 4096 (columns (now next) (now prev) (now bucket) (now entry) (now generation) (now serial)) ⌝ }
-    ensures { λ r. ⌜ ScheduleFor
+    ensures { λ r. ⌜ Stored (schedule e h)
         (columnsBefore next prev bucket entry generation serial)
-        (columnsAfter next prev bucket entry generation serial) n clock (now (heads .entry)) (now (tails .entry))
-        (now (heads .exit)) (now (tails .exit)) (now (dated .entry)) (now (deadline .entry)) (now (stamp .entry)) e h r ⌝ }
+        (columnsAfter next prev bucket entry generation serial) n clock (r .clock) (now (heads .entry))
+        (now (tails .entry)) (now (heads .exit)) (now (tails .exit)) (now (dated .entry)) (now (deadline .entry))
+        (now (stamp .entry)) (scheduledSays (r .answer)) ⌝ }
 {
     if 4096 < n {
         let no = crowded(clock);
@@ -84,11 +88,11 @@ pub fn reschedule_work(
     h: u32,
 ) -> RescheduledTurn
     requires { ⌜ Holds 4096 (columns (now next) (now prev) (now bucket) (now entry) (now generation) (now serial)) ⌝ }
-    ensures { λ r. ⌜ RescheduleFor
+    ensures { λ r. ⌜ Stored (reschedule slot number h)
         (columnsBefore next prev bucket entry generation serial)
-        (columnsAfter next prev bucket entry generation serial) n clock (now (heads .entry)) (now (tails .entry))
-        (now (heads .exit)) (now (tails .exit)) (now (dated .entry)) (now (deadline .entry)) (now (stamp .entry)) slot
-        number h r ⌝ }
+        (columnsAfter next prev bucket entry generation serial) n clock (r .clock) (now (heads .entry))
+        (now (tails .entry)) (now (heads .exit)) (now (tails .exit)) (now (dated .entry)) (now (deadline .entry))
+        (now (stamp .entry)) (rescheduledSays (r .answer)) ⌝ }
 {
     if 4096 < n {
         let no = crowded(clock);
@@ -138,11 +142,11 @@ pub fn deschedule_work(
     h: u32,
 ) -> NotedTurn
     requires { ⌜ Holds 4096 (columns (now next) (now prev) (now bucket) (now entry) (now generation) (now serial)) ⌝ }
-    ensures { λ r. ⌜ DescheduleFor
+    ensures { λ r. ⌜ Stored (deschedule slot number h)
         (columnsBefore next prev bucket entry generation serial)
-        (columnsAfter next prev bucket entry generation serial) n clock (now (heads .entry)) (now (tails .entry))
-        (now (heads .exit)) (now (tails .exit)) (now (dated .entry)) (now (deadline .entry)) (now (stamp .entry)) slot
-        number h r ⌝ }
+        (columnsAfter next prev bucket entry generation serial) n clock (r .clock) (now (heads .entry))
+        (now (tails .entry)) (now (heads .exit)) (now (tails .exit)) (now (dated .entry)) (now (deadline .entry))
+        (now (stamp .entry)) (notedSays (r .answer)) ⌝ }
 {
     if 4096 < n {
         let no = crowded(clock);

@@ -14,7 +14,7 @@ use Rattle.wheel_rules.specs.declared.calls.Noted.the-variants.{Done as Set, Re
 use Rattle.wheel_rules.specs.declared.calls.Scheduled.{Scheduled}
 use Rattle.wheel_rules.specs.declared.calls.Scheduled.the-variants.{Armed, Refused as ScheduledRefused}
 use Rattle.wheel_rules.specs.declared.calls.Pulled.{Pulled}
-use Rattle.wheel_rules.specs.declared.calls.Pulled.the-variants.{Expired, Moved, End, Refused as PulledRefused}
+use Rattle.wheel_rules.specs.declared.calls.Pulled.the-variants.{Expired, Rescheduled as Placed, End, Refused as PulledRefused}
 use Rattle.wheel_rules.specs.declared.calls.Counted.{Counted}
 use Rattle.wheel_rules.specs.declared.calls.Counted.the-variants.{Armed as Count, Refused as CountedRefused}
 use Rattle.wheel_rules.specs.calls.Answers.{timedSays, notedSays, scheduledSays, pulledSays, countedSays}
@@ -81,13 +81,13 @@ module _ (a : Pulled) (e n d : ℕ) (k : Clock) (r : Bool) (x m l : ℕ) (g : Ag
       let s : pulledSays a ≡ expired e n d = ap pulledSays i in
       record { yes = λ j. g .yes (cc) (cc) (cc); only = λ t. let u = g .only t in cc (u .0, u .1, u .2) }
 
-  pub moved-as : a ≡ Moved e n d k → Whether (pulledSays a) (rescheduled x m l) r
+  pub moved-as : a ≡ Placed e n d k → Whether (pulledSays a) (rescheduled x m l) r
   moved-as i =
       let s : pulledSays a ≡ rescheduled e n d = ap pulledSays i in
       record { yes = λ j. g .yes (cc) (cc) (cc); only = λ t. let u = g .only t in cc (u .0, u .1, u .2) }
 
 module _ (a : Pulled) (x m l : ℕ) where
-  pub expired-not-moved : (e n d : ℕ) (k : Clock) → a ≡ Moved e n d k → Whether (pulledSays a) (expired x m l) false
+  pub expired-not-moved : (e n d : ℕ) (k : Clock) → a ≡ Placed e n d k → Whether (pulledSays a) (expired x m l) false
   expired-not-moved e n d k i = it-is-not _ _ (λ j. let s = ap pulledSays i in let z : _≡_ {A = ℕ} 0 1 = cc in omega arith)
 
   pub expired-not-end : (k : Clock) → a ≡ End k → Whether (pulledSays a) (expired x m l) false
@@ -112,7 +112,7 @@ module _ (a : Pulled) where
   pub end-not-expired : (e n d : ℕ) (k : Clock) → a ≡ Expired e n d k → Whether (pulledSays a) end false
   end-not-expired e n d k i = it-is-not _ _ (λ j. let s = ap pulledSays i in let z : _≡_ {A = ℕ} 0 1 = cc in omega arith)
 
-  pub end-not-moved : (e n d : ℕ) (k : Clock) → a ≡ Moved e n d k → Whether (pulledSays a) end false
+  pub end-not-moved : (e n d : ℕ) (k : Clock) → a ≡ Placed e n d k → Whether (pulledSays a) end false
   end-not-moved e n d k i = it-is-not _ _ (λ j. let s = ap pulledSays i in let z : _≡_ {A = ℕ} 0 1 = cc in omega arith)
 
   pub end-not-refused : (k : ℕ) → a ≡ PulledRefused k → Whether (pulledSays a) end false

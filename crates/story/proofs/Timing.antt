@@ -9,7 +9,7 @@ use Rattle.wheel_rules.specs.declared.calls.Timed.the-variants.{Done}
 use Rattle.wheel_rules.specs.declared.calls.Scheduled.{Scheduled}
 use Rattle.wheel_rules.specs.declared.calls.Scheduled.the-variants.{Armed}
 use Rattle.wheel_rules.specs.declared.calls.Pulled.{Pulled}
-use Rattle.wheel_rules.specs.declared.calls.Pulled.the-variants.{Expired, Moved, End}
+use Rattle.wheel_rules.specs.declared.calls.Pulled.the-variants.{Expired, Rescheduled as Placed, End}
 use Rattle.wheel_rules.specs.calls.Answers.{timedClock, scheduledClock, pulledClock}
 use Rattle.wheel_rules.specs.calls.Promise.{Promised}
 
@@ -23,7 +23,7 @@ module _ (c k : Clock) where
   pub expired : (a : Pulled) (e n d : ℕ) → a ≡ Expired e n d k → k ≡ pulledClock c a
   expired a e n d i = ap (pulledClock c) (sym i)
 
-  pub moved : (a : Pulled) (e n b : ℕ) → a ≡ Moved e n b k → k ≡ pulledClock c a
+  pub moved : (a : Pulled) (e n b : ℕ) → a ≡ Placed e n b k → k ≡ pulledClock c a
   moved a e n b i = ap (pulledClock c) (sym i)
 
   pub ended : (a : Pulled) → a ≡ End k → k ≡ pulledClock c a

@@ -59,7 +59,7 @@ pub fn is_end(answer: Pulled) -> bool
             deadline: _,
             clock: _,
         } => false,
-        Pulled::Moved {
+        Pulled::Rescheduled {
             entry: _,
             serial: _,
             place: _,
@@ -80,7 +80,7 @@ pub fn is_moved(answer: Pulled, entry: usize, serial: u64, place: u64) -> bool
             deadline: _,
             clock: _,
         } => false,
-        Pulled::Moved {
+        Pulled::Rescheduled {
             entry: e,
             serial: n,
             place: b,
@@ -101,7 +101,7 @@ pub fn is_expired(answer: Pulled, entry: usize, serial: u64, deadline: u64) -> b
             deadline: d,
             clock: _,
         } => agree(e, n, d, entry, serial, deadline),
-        Pulled::Moved {
+        Pulled::Rescheduled {
             entry: _,
             serial: _,
             place: _,

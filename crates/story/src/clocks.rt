@@ -40,7 +40,7 @@ pub fn after_pull(clock: Clock, answer: Pulled) -> Clock
             deadline: _,
             clock: then,
         } => then,
-        Pulled::Moved {
+        Pulled::Rescheduled {
             entry: _,
             serial: _,
             place: _,

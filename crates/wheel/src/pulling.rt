@@ -28,7 +28,7 @@ fn told(event: pop::Pulled, clock: Clock) -> Pulled
             entry,
             serial,
             place,
-        } => Pulled::Moved {
+        } => Pulled::Rescheduled {
             entry,
             serial,
             place,

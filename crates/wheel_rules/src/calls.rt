@@ -46,7 +46,7 @@ pub enum Pulled {
         deadline: u64,
         clock: Clock,
     },
-    Moved {
+    Rescheduled {
         entry: usize,
         serial: u64,
         place: u64,

@@ -134,7 +134,7 @@ pub fn pulled<'a>(clock: &mut [u64; 10], told: &'a mut [u64; 6], r: Pulled) -> &
             serial,
             deadline,
         ),
-        Pulled::Moved {
+        Pulled::Rescheduled {
             entry,
             serial,
             place,

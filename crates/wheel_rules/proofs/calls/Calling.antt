@@ -25,7 +25,7 @@ use Rattle.wheel_rules.specs.declared.popping.Pulled.the-variants.{Expir
 use Rattle.wheel_rules.specs.popping.Pop.{told}
 use Rattle.wheel_rules.specs.pull.Pull.{Pulls}
 use Rattle.wheel_rules.specs.declared.calls.Pulled.{Pulled}
-use Rattle.wheel_rules.specs.declared.calls.Pulled.the-variants.{Expired, Moved as Placed, End}
+use Rattle.wheel_rules.specs.declared.calls.Pulled.the-variants.{Expired, Rescheduled as Placed, End}
 use Rattle.wheel_rules.specs.declared.calls.Due.{Due}
 use Rattle.wheel_rules.specs.declared.calls.Due.the-variants.{At, Never}
 use Rattle.wheel_rules.specs.calls.Answers.{pulledSays, pulledClock, dueSays, TellsDue, TellsEvent}

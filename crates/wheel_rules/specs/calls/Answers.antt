@@ -16,7 +16,7 @@ use Rattle.wheel_rules.specs.declared.calls.Scheduled.the-variants.{Arme
 use Rattle.wheel_rules.specs.declared.calls.Rescheduled.{Rescheduled}
 use Rattle.wheel_rules.specs.declared.calls.Rescheduled.the-variants.{Moved, Removed, Refused as RescheduledRefused}
 use Rattle.wheel_rules.specs.declared.calls.Pulled.{Pulled}
-use Rattle.wheel_rules.specs.declared.calls.Pulled.the-variants.{Expired, Moved as Placed, End, Refused as PulledRefused}
+use Rattle.wheel_rules.specs.declared.calls.Pulled.the-variants.{Expired, Rescheduled as Placed, End, Refused as PulledRefused}
 use Rattle.wheel_rules.specs.declared.calls.Counted.{Counted}
 use Rattle.wheel_rules.specs.declared.calls.Counted.the-variants.{Armed as Count, Refused as CountedRefused}
 use Rattle.wheel_rules.specs.declared.calls.Due.{Due}

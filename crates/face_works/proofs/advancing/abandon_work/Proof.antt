@@ -1,6 +1,6 @@
 -- `abandon_work` meets its promise.
 use Rattle.face_rules.proofs.Loading.{front-length}
-use Rattle.face_rules.proofs.Facing.{abandon-crowded, abandon-done}
+use Rattle.face_rules.proofs.Facing.{loaded-crowded, loaded-done}
 use borrow.Author.Needs.{needs}
 use Rattle.face_works.proofs.advancing.abandon_work.Statement.{statement}
 use Rattle.face_works.proofs.advancing.abandon_work.Tie as tie
@@ -9,7 +9,7 @@ crowded-requires : tie.Need-crowded-requires
 crowded-requires c κs = search needs
 
 returns : tie.Need-returns
-returns c = abandon-crowded (c .before .if1 .taken) (c .crowded .ensures)
+returns c = loaded-crowded tt (c .before .if1 .taken) (c .crowded .ensures)
 
 slice-aggregate-abandon : tie.Need-slice-aggregate-abandon
 slice-aggregate-abandon c =
@@ -48,7 +48,7 @@ timed-requires : tie.Need-timed-requires
 timed-requires c κs = search needs
 
 returns-2 : tie.Need-returns-2
-returns-2 c = abandon-done (c .before .before .before .before .before .before .before .before .if1 .left) (c .before .abandon .ensures) (c .timed .ensures)
+returns-2 c = loaded-done (c .before .before .before .before .before .before .before .before .if1 .left) (c .before .abandon .ensures) (c .timed .ensures .says) (c .timed .ensures .clock-is)
 
 pub abandon-work-spec : {M : Type 1} → statement M
 abandon-work-spec =

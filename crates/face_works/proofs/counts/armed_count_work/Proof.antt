@@ -1,6 +1,7 @@
 -- `armed_count_work` meets its promise.
+use mathlib.Core.Path.{refl}
 use Rattle.face_rules.proofs.Loading.{front-length}
-use Rattle.face_rules.proofs.Facing.{count-crowded, count-done}
+use Rattle.face_rules.proofs.Facing.{loaded-crowded, loaded-done}
 use borrow.Author.Needs.{needs}
 use Rattle.face_works.proofs.counts.armed_count_work.Statement.{statement}
 use Rattle.face_works.proofs.counts.armed_count_work.Tie as tie
@@ -9,7 +10,7 @@ crowded-requires : tie.Need-crowded-requires
 crowded-requires c κs = search needs
 
 returns : tie.Need-returns
-returns c = count-crowded (c .before .if1 .taken) (c .crowded .ensures)
+returns c = loaded-crowded tt (c .before .if1 .taken) (c .crowded .ensures)
 
 slice-aggregate-armed-count : tie.Need-slice-aggregate-armed-count
 slice-aggregate-armed-count c =
@@ -45,7 +46,7 @@ armed-count-requires : tie.Need-armed-count-requires
 armed-count-requires c κs = search needs
 
 returns-2 : tie.Need-returns-2
-returns-2 c = count-done (c .before .before .before .before .before .before .before .if1 .left) (c .armed-count .ensures)
+returns-2 c = loaded-done (c .before .before .before .before .before .before .before .if1 .left) (c .armed-count .ensures) refl refl
 
 pub armed-count-work-spec : {M : Type 1} → statement M
 armed-count-work-spec =

@@ -1,6 +1,7 @@
 -- `next_due_work` meets its promise.
+use mathlib.Core.Path.{refl}
 use Rattle.face_rules.proofs.Loading.{front-length}
-use Rattle.face_rules.proofs.Facing.{due-crowded, due-done}
+use Rattle.face_rules.proofs.Facing.{loaded-crowded, loaded-done}
 use borrow.Author.Needs.{needs}
 use Rattle.face_works.proofs.counts.next_due_work.Statement.{statement}
 use Rattle.face_works.proofs.counts.next_due_work.Tie as tie
@@ -9,7 +10,7 @@ crowded-requires : tie.Need-crowded-requires
 crowded-requires c κs = search needs
 
 returns : tie.Need-returns
-returns c = due-crowded (c .before .if1 .taken) (c .crowded .ensures)
+returns c = loaded-crowded tt (c .before .if1 .taken) (c .crowded .ensures)
 
 slice-aggregate-next-due : tie.Need-slice-aggregate-next-due
 slice-aggregate-next-due c =
@@ -45,7 +46,7 @@ next-due-requires : tie.Need-next-due-requires
 next-due-requires c κs = search needs
 
 returns-2 : tie.Need-returns-2
-returns-2 c = due-done (c .before .before .before .before .before .before .before .if1 .left) (c .next-due .ensures)
+returns-2 c = loaded-done (c .before .before .before .before .before .before .before .if1 .left) (c .next-due .ensures) refl refl
 
 pub next-due-work-spec : {M : Type 1} → statement M
 next-due-work-spec =

@@ -1,6 +1,7 @@
 -- `set_entry_work` meets its promise.
+use mathlib.Core.Path.{refl}
 use Rattle.face_rules.proofs.Loading.{front-length}
-use Rattle.face_rules.proofs.Facing.{set-crowded, set-done}
+use Rattle.face_rules.proofs.Facing.{loaded-crowded, loaded-done}
 use borrow.Author.Needs.{needs}
 use Rattle.face_works.proofs.settings.set_entry_work.Statement.{statement}
 use Rattle.face_works.proofs.settings.set_entry_work.Tie as tie
@@ -9,7 +10,7 @@ crowded-requires : tie.Need-crowded-requires
 crowded-requires c κs = search needs
 
 returns : tie.Need-returns
-returns c = set-crowded (c .before .if1 .taken) (c .crowded .ensures)
+returns c = loaded-crowded tt (c .before .if1 .taken) (c .crowded .ensures)
 
 slice-aggregate-set-entry : tie.Need-slice-aggregate-set-entry
 slice-aggregate-set-entry c =
@@ -56,7 +57,7 @@ same-length-3 c = search needs
 returns-2 : tie.Need-returns-2
 returns-2 c =
     let y = c .before .before .before .before .before .before in
-    set-done (y .before .before .before .before .before .before .before .before .before .before .if1 .left) (y .set-entry .ensures)
+    loaded-done (y .before .before .before .before .before .before .before .before .before .before .if1 .left) (y .set-entry .ensures) refl refl
 
 pub set-entry-work-spec : {M : Type 1} → statement M
 set-entry-work-spec =

@@ -1,7 +1,7 @@
 -- `deschedule_work` meets its promise.
 use Rattle.face_rules.specs.nodes.Columns.{columns}
 use Rattle.face_rules.proofs.Loading.{front-length, over-front}
-use Rattle.face_rules.proofs.Facing.{deschedule-crowded, deschedule-done}
+use Rattle.face_rules.proofs.Facing.{stored-crowded, stored-done}
 use borrow.Author.Needs.{needs}
 use Rattle.face_works.proofs.timers.deschedule_work.Statement.{statement}
 use Rattle.face_works.proofs.timers.deschedule_work.Tie as tie
@@ -10,7 +10,7 @@ crowded-requires : tie.Need-crowded-requires
 crowded-requires c κs = search needs
 
 returns : tie.Need-returns
-returns c = deschedule-crowded (c .before .if1 .taken) (c .crowded .ensures)
+returns c = stored-crowded tt (c .before .if1 .taken) (c .crowded .ensures)
 
 slice-relend-prefix-deschedule : tie.Need-slice-relend-prefix-deschedule
 slice-relend-prefix-deschedule c = search needs
@@ -95,7 +95,7 @@ returns-2 c =
     let y = c .before .before .before .before .before .before .before .before .before .before .before .before .before .before .before .before .before in
     let x = y .before .before .before .before .before .before .before .before .before in
     let l = y .deschedule .last .1 .1 in
-    deschedule-done (x .if1 .left)
+    stored-done (x .if1 .left)
     (over-front _ (x .if1 .left) (columns (l .0) (l .1 .0) (l .1 .1 .0) (l .1 .1 .1 .0) (l .1 .1 .1 .1 .0) (l .1 .1 .1 .1 .1 .0)) _
     (x .before .before .before .before .before .before .before .before .before .before .before .before .pre)
     (record {
@@ -106,7 +106,7 @@ returns-2 c =
       generation-same = c .before .before .before .before .generation .given .0;
       serial-same = c .before .before .serial .given .0;
     }))
-    (y .deschedule .ensures) (c .timed .ensures)
+    (y .deschedule .ensures) (c .timed .ensures .says) (c .timed .ensures .clock-is)
 
 pub deschedule-work-spec : {M : Type 1} → statement M
 deschedule-work-spec =

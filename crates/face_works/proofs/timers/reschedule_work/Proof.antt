@@ -1,7 +1,7 @@
 -- `reschedule_work` meets its promise.
 use Rattle.face_rules.specs.nodes.Columns.{columns}
 use Rattle.face_rules.proofs.Loading.{front-length, over-front}
-use Rattle.face_rules.proofs.Facing.{reschedule-crowded, reschedule-done}
+use Rattle.face_rules.proofs.Facing.{stored-crowded, stored-done}
 use borrow.Author.Needs.{needs}
 use Rattle.face_works.proofs.timers.reschedule_work.Statement.{statement}
 use Rattle.face_works.proofs.timers.reschedule_work.Tie as tie
@@ -10,7 +10,7 @@ crowded-requires : tie.Need-crowded-requires
 crowded-requires c κs = search needs
 
 returns : tie.Need-returns
-returns c = reschedule-crowded (c .before .if1 .taken) (c .crowded .ensures)
+returns c = stored-crowded tt (c .before .if1 .taken) (c .crowded .ensures)
 
 slice-relend-prefix-reschedule : tie.Need-slice-relend-prefix-reschedule
 slice-relend-prefix-reschedule c = search needs
@@ -95,7 +95,7 @@ returns-2 c =
     let y = c .before .before .before .before .before .before .before .before .before .before .before .before .before .before .before .before .before in
     let x = y .before .before .before .before .before .before .before .before .before in
     let l = y .reschedule .last .1 .1 in
-    reschedule-done (x .if1 .left)
+    stored-done (x .if1 .left)
     (over-front _ (x .if1 .left) (columns (l .0) (l .1 .0) (l .1 .1 .0) (l .1 .1 .1 .0) (l .1 .1 .1 .1 .0) (l .1 .1 .1 .1 .1 .0)) _
     (x .before .before .before .before .before .before .before .before .before .before .before .before .pre)
     (record {
@@ -106,7 +106,7 @@ returns-2 c =
       generation-same = c .before .before .before .before .generation .given .0;
       serial-same = c .before .before .serial .given .0;
     }))
-    (y .reschedule .ensures) (c .rescheduled .ensures)
+    (y .reschedule .ensures) (c .rescheduled .ensures .says) (c .rescheduled .ensures .clock-is)
 
 pub reschedule-work-spec : {M : Type 1} → statement M
 reschedule-work-spec =
