@@ -42,9 +42,10 @@ use Rattle.face_rules.specs.declared.nodes.Node.{Node}
 use Rattle.wheel_rules.specs.declared.records.Clock.{Clock}
 use Rattle.face_rules.specs.declared.Pulled.{Pulled}
 use Rattle.face_rules.specs.Answers.{pulledSays}
-use Rattle.face_rules.specs.Faces.{FacePull}
 use Rattle.face_rules.specs.exports.Words.{Writes, wordsOf}
 use Rattle.face_rules.specs.nodes.Shown.{shown}
+use Rattle.rules.specs.Wheel.{pull}
+use Rattle.wheel_rules.specs.calls.Promise.{Promised}
 use Rattle.nodes.proofs.Passing.{passed-on}
 use Rattle.face_rules.proofs.nodes.Node as T
 use Rattle.wheel_rules.proofs.records.Clock as K
@@ -133,8 +134,8 @@ module _ {M : Type 1} (𝓤 : URA M) (H : Heap 𝓤) (A : Atoms 𝓤) (W : Given
   Last = Lasts calls.ended (κ₀, (κ₁, (κ₂, (κ₃, (κ₄, (κ₅, (κ₆, tt))))))) given
 
   abbrev Does : Last → Pulled → Type 0
-  Does ws u = FacePull (shown (x₃ .now) (x₄ .now) (x₁ .now) (x₅ .now) (x₆ .now) (x₇ .now) (x₂ .now))
-      (shown (ws .1 .1 .0) (ws .1 .1 .1 .0) (ws .0) (x₅ .now) (x₆ .now) (x₇ .now) (ws .1 .0)) u
+  Does ws u = Promised pull (shown (x₃ .now) (x₄ .now) (x₁ .now) (x₅ .now) (x₆ .now) (x₇ .now) (x₂ .now))
+      (shown (ws .1 .1 .0) (ws .1 .1 .1 .0) (ws .0) (x₅ .now) (x₆ .now) (x₇ .now) (ws .1 .0)) (pulledSays u)
 
   -- and to `tell_pulled`
   abbrev telling : Pulled → Pulled × (RefT (List ℕ) × Unit {0})
@@ -160,7 +161,7 @@ module _ {M : Type 1} (𝓤 : URA M) (H : Heap 𝓤) (A : Atoms 𝓤) (W : Given
       (((κ₀, (κ₁, (κ₂, (κ₃, (κ₄, (κ₅, (κ₆, (κ₇, tt)))))))), (q₀, (q₁, (q₂, (q₃, (q₄, (q₅, (q₆, (q₇, tt)))))))), tt, x, at), tt) y k
       (ws .0, (ws .1 .0, (ws .1 .1 .0, (ws .1 .1 .1 .0, (ws .1 .1 .1 .1 .0, (ws .1 .1 .1 .1 .1 .0, (ws .1 .1 .1 .1 .1 .1 .0, (vs .1 .0, tt))))))))
       (tt, (tt, (tt, (tt, (tt, (tt, (tt, (tt, tt))))))))) $
-      says ! (record { does = record { answer = u; meets = does; written = written } }) $
+      says ! (record { answer = _; promised = does; written = written }) $
       move ! (2 ∷ []) $ split ! $ move ! (1 ∷ []) $ split ! $ move ! (1 ∷ []) $ split ! $ move ! (1 ∷ []) $ split ! $ move ! (1 ∷ []) $ split ! $ move !
       (1 ∷ []) $ split ! $ move ! (1 ∷ []) $ split ! $ move ! (1 ∷ []) $ drop ! $ move ! (9 ∷ []) $ split ! $ move ! (1 ∷ []) $ drop ! $
       nothing ! $ move ! (1 ∷ 0 ∷ []) $ join ! $ move ! (1 ∷ 0 ∷ []) $ join ! $ move ! (1 ∷ 0 ∷ []) $ join ! $ move ! (1 ∷ 0 ∷ []) $ join ! $ move !

@@ -41,10 +41,11 @@ use denote.Triple.Walked.{says, Stays, walkOf, Walks, ends-at, walked, walk-meet
 use Rattle.face_rules.specs.declared.nodes.Node.{Node}
 use Rattle.wheel_rules.specs.declared.records.Clock.{Clock}
 use Rattle.wheel_rules.specs.declared.calls.Counted.{Counted}
-use Rattle.face_rules.specs.Faces.{FaceArmedCount}
 use Rattle.face_rules.specs.exports.Words.{Writes, wordsOf}
 use Rattle.face_rules.specs.nodes.Shown.{shown}
+use Rattle.rules.specs.Wheel.{armedCount}
 use Rattle.wheel_rules.specs.calls.Answers.{countedSays}
+use Rattle.wheel_rules.specs.calls.Promise.{Promised}
 use Rattle.nodes.proofs.Passing.{passed-on}
 use Rattle.face_rules.proofs.nodes.Node as T
 use Rattle.wheel_rules.proofs.records.Clock as K
@@ -135,7 +136,8 @@ module _ {M : Type 1} (𝓤 : URA M) (H : Heap 𝓤) (A : Atoms 𝓤) (W : Given
   Last = Lasts calls.ended (κ₀, (κ₁, (κ₂, (κ₃, (κ₄, (κ₅, tt)))))) given
 
   abbrev Does : Last → Counted → Type 0
-  Does ws u = FaceArmedCount (shown (x₃ .now) (x₄ .now) (x₁ .now) (x₅ .now) (x₆ .now) (x₇ .now) h₂) u
+  Does ws u = Promised armedCount (shown (x₃ .now) (x₄ .now) (x₁ .now) (x₅ .now) (x₆ .now) (x₇ .now) h₂)
+      (shown (x₃ .now) (x₄ .now) (x₁ .now) (x₅ .now) (x₆ .now) (x₇ .now) h₂) (countedSays u)
 
   -- and to `tell_counted`
   abbrev telling : Counted → Counted × (RefT (List ℕ) × Unit {0})
@@ -161,7 +163,7 @@ module _ {M : Type 1} (𝓤 : URA M) (H : Heap 𝓤) (A : Atoms 𝓤) (W : Given
       (((κ₀, (κ₁, (κ₂, (κ₃, (κ₄, (κ₅, (κ₆, tt))))))), (q₀, (q₁, (q₂, (q₃, (q₄, (q₅, (q₆, tt))))))), tt, x, at), tt) y k
       (ws .0, (ws .1 .0, (ws .1 .1 .0, (ws .1 .1 .1 .0, (ws .1 .1 .1 .1 .0, (ws .1 .1 .1 .1 .1 .0, (ws .1 .1 .1 .1 .1 .1 .0, (vs .1 .0, tt))))))))
       (tt, (tt, (tt, (tt, (tt, (tt, (tt, (tt, tt))))))))) $
-      says ! (record { does = record { answer = u; meets = does; written = written } }) $
+      says ! (record { answer = _; promised = does; written = written }) $
       move ! (2 ∷ []) $ split ! $ move ! (1 ∷ []) $ split ! $ move ! (1 ∷ []) $ split ! $ move ! (1 ∷ []) $ split ! $ move ! (1 ∷ []) $ split ! $ move !
       (1 ∷ []) $ split ! $ move ! (1 ∷ []) $ drop ! $ move ! (8 ∷ []) $ split ! $ move ! (1 ∷ []) $ drop ! $
       nothing ! $ move ! (1 ∷ 0 ∷ []) $ join ! $ move ! (1 ∷ 0 ∷ []) $ join ! $ move ! (1 ∷ 0 ∷ []) $ join ! $ move ! (1 ∷ 0 ∷ []) $ join ! $ move !

@@ -42,10 +42,13 @@ use denote.Triple.Walked.{says, Stays, walkOf, Walks, ends-at, walked, walk-meet
 use Rattle.face_rules.specs.declared.nodes.Node.{Node}
 use Rattle.wheel_rules.specs.declared.records.Clock.{Clock}
 use Rattle.wheel_rules.specs.declared.calls.Noted.{Noted}
-use Rattle.face_rules.specs.Faces.{FaceSetEntry}
 use Rattle.face_rules.specs.exports.Words.{Writes, wordsOf}
 use Rattle.face_rules.specs.nodes.Shown.{shown}
+use Rattle.rules.specs.Wheel.{setEntry}
 use Rattle.wheel_rules.specs.calls.Answers.{notedSays}
+use Rattle.wheel_rules.specs.calls.Promise.{Promised}
+use mathlib.Core.Bool.{cond}
+use mathlib.Core.Option as Option
 use Rattle.nodes.proofs.Passing.{passed-on}
 use Rattle.face_rules.proofs.nodes.Node as T
 use Rattle.wheel_rules.proofs.records.Clock as K
@@ -172,8 +175,8 @@ module _ {M : Type 1} (𝓤 : URA M) (H : Heap 𝓤) (A : Atoms 𝓤) (W : Given
   Last = Lasts calls.ended (κ₀, (κ₁, (κ₂, (κ₃, (κ₄, (κ₅, tt)))))) given
 
   abbrev Does : Last → Noted → Type 0
-  Does ws u = FaceSetEntry (shown (x₃ .now) (x₄ .now) (x₁ .now) (x₅ .now) (x₆ .now) (x₇ .now) h₂)
-      (shown (x₃ .now) (x₄ .now) (x₁ .now) (ws .1 .1 .1 .1 .0) (ws .1 .1 .1 .1 .1 .0) (ws .1 .1 .1 .1 .1 .1 .0) h₂) m₈ t₉ m₁₀ m₁₁ u
+  Does ws u = Promised (setEntry m₈ (cond t₉ (Option.some m₁₀) Option.none) m₁₁) (shown (x₃ .now) (x₄ .now) (x₁ .now) (x₅ .now) (x₆ .now) (x₇ .now) h₂)
+      (shown (x₃ .now) (x₄ .now) (x₁ .now) (ws .1 .1 .1 .1 .0) (ws .1 .1 .1 .1 .1 .0) (ws .1 .1 .1 .1 .1 .1 .0) h₂) (notedSays u)
 
   -- and to `tell_noted`
   abbrev telling : Noted → Noted × (RefT (List ℕ) × Unit {0})
@@ -225,7 +228,7 @@ module _ {M : Type 1} (𝓤 : URA M) (H : Heap 𝓤) (A : Atoms 𝓤) (W : Given
         ),
       )
       (tt, (tt, (tt, (tt, (tt, (tt, (tt, (tt, (tt, (tt, (tt, (tt, tt))))))))))))) $
-      says ! (record { does = record { answer = u; meets = does; written = written } }) $
+      says ! (record { answer = _; promised = does; written = written }) $
       move ! (2 ∷ []) $ split ! $ move ! (1 ∷ []) $ split ! $ move ! (1 ∷ []) $ split ! $ move ! (1 ∷ []) $ split ! $ move ! (1 ∷ []) $ split ! $ move !
       (1 ∷ []) $ split ! $ move ! (1 ∷ []) $ drop ! $ move ! (8 ∷ []) $ split ! $ move ! (1 ∷ []) $ drop ! $
       nothing ! $ move ! (1 ∷ 0 ∷ []) $ join ! $ move ! (1 ∷ 0 ∷ []) $ join ! $ move ! (1 ∷ 0 ∷ []) $ join ! $ move ! (1 ∷ 0 ∷ []) $ join ! $ move !

@@ -41,10 +41,11 @@ use denote.Triple.Walked.{says, Stays, walkOf, Walks, ends-at, walked, walk-meet
 use Rattle.face_rules.specs.declared.nodes.Node.{Node}
 use Rattle.wheel_rules.specs.declared.records.Clock.{Clock}
 use Rattle.wheel_rules.specs.declared.calls.Noted.{Noted}
-use Rattle.face_rules.specs.Faces.{FaceDeschedule}
 use Rattle.face_rules.specs.exports.Words.{Writes, wordsOf}
 use Rattle.face_rules.specs.nodes.Shown.{shown}
+use Rattle.rules.specs.Wheel.{deschedule}
 use Rattle.wheel_rules.specs.calls.Answers.{notedSays}
+use Rattle.wheel_rules.specs.calls.Promise.{Promised}
 use Rattle.nodes.proofs.Passing.{passed-on}
 use Rattle.face_rules.proofs.nodes.Node as T
 use Rattle.wheel_rules.proofs.records.Clock as K
@@ -157,8 +158,8 @@ module _ {M : Type 1} (𝓤 : URA M) (H : Heap 𝓤) (A : Atoms 𝓤) (W : Given
   Last = Lasts calls.ended (κ₀, (κ₁, (κ₂, (κ₃, (κ₄, (κ₅, (κ₆, tt))))))) given
 
   abbrev Does : Last → Noted → Type 0
-  Does ws u = FaceDeschedule (shown (x₃ .now) (x₄ .now) (x₁ .now) (x₅ .now) (x₆ .now) (x₇ .now) (x₂ .now))
-      (shown (ws .1 .1 .0) (ws .1 .1 .1 .0) (ws .0) (x₅ .now) (x₆ .now) (x₇ .now) (ws .1 .0)) m₈ m₉ m₁₀ u
+  Does ws u = Promised (deschedule m₈ m₉ m₁₀) (shown (x₃ .now) (x₄ .now) (x₁ .now) (x₅ .now) (x₆ .now) (x₇ .now) (x₂ .now))
+      (shown (ws .1 .1 .0) (ws .1 .1 .1 .0) (ws .0) (x₅ .now) (x₆ .now) (x₇ .now) (ws .1 .0)) (notedSays u)
 
   -- and to `tell_noted`
   abbrev telling : Noted → Noted × (RefT (List ℕ) × Unit {0})
@@ -204,7 +205,7 @@ module _ {M : Type 1} (𝓤 : URA M) (H : Heap 𝓤) (A : Atoms 𝓤) (W : Given
         ),
       )
       (tt, (tt, (tt, (tt, (tt, (tt, (tt, (tt, (tt, (tt, (tt, tt)))))))))))) $
-      says ! (record { does = record { answer = u; meets = does; written = written } }) $
+      says ! (record { answer = _; promised = does; written = written }) $
       move ! (2 ∷ []) $ split ! $ move ! (1 ∷ []) $ split ! $ move ! (1 ∷ []) $ split ! $ move ! (1 ∷ []) $ split ! $ move ! (1 ∷ []) $ split ! $ move !
       (1 ∷ []) $ split ! $ move ! (1 ∷ []) $ split ! $ move ! (1 ∷ []) $ drop ! $ move ! (9 ∷ []) $ split ! $ move ! (1 ∷ []) $ drop ! $
       nothing ! $ move ! (1 ∷ 0 ∷ []) $ join ! $ move ! (1 ∷ 0 ∷ []) $ join ! $ move ! (1 ∷ 0 ∷ []) $ join ! $ move ! (1 ∷ 0 ∷ []) $ join ! $ move !

@@ -49,8 +49,10 @@ use Rattle.nodes.proofs.Six.{shares-six, six-unshared, six-rooms}
 use Rattle.face_rules.specs.declared.nodes.Node.{Node}
 use Rattle.wheel_rules.specs.declared.records.Clock.{Clock}
 use Rattle.wheel_rules.specs.declared.calls.Counted.{Counted}
-use Rattle.face_rules.specs.Works.{ArmedCountFor}
+use Rattle.face_rules.specs.Works.{Loaded}
 use Rattle.face_rules.specs.nodes.Columns.{Columns, Loads, columns}
+use Rattle.rules.specs.Wheel.{armedCount}
+use Rattle.wheel_rules.specs.calls.Answers.{countedSays}
 use Rattle.nodes.proofs.Passing.{passed-on}
 use Rattle.face_rules.proofs.nodes.Node as T
 use Rattle.wheel_rules.proofs.records.Clock as K
@@ -200,8 +202,8 @@ module _ {M : Type 1} (𝓤 : URA M) (H : Heap 𝓤) (A : Atoms 𝓤) (W : Given
     ) (passed ls c)
 
     abbrev For : (ls : Leases) (c : Columns) → Last ls c → Counted → Type 0
-    For ls c ws u = ArmedCountFor (columns (c .next) (c .prev) (c .bucket) (c .entry) (c .generation) (c .serial)) n h (x₃ .now) (x₄ .now) (x₅ .now) (x₆ .now)
-        (x₇ .now) u
+    For ls c ws u = Loaded armedCount (columns (c .next) (c .prev) (c .bucket) (c .entry) (c .generation) (c .serial)) n h h (x₃ .now) (x₄ .now) (x₅ .now)
+        (x₅ .now) (x₆ .now) (x₇ .now) (x₆ .now) (x₇ .now) (countedSays u)
 
     abbrev Rest-last : (ls : Leases) (c : Columns) → Last ls c → Fml
     Rest-last ls c ws = fsep (ftrue) (fsep (ftrue) (fsep (ftrue) (fsep (ftrue) (fsep (ftrue) (ftrue)))))

@@ -48,8 +48,10 @@ use Rattle.nodes.proofs.Six.{shares-six, six-unshared, six-rooms}
 use Rattle.face_rules.specs.declared.nodes.Node.{Node}
 use Rattle.wheel_rules.specs.declared.records.Clock.{Clock}
 use Rattle.wheel_rules.specs.declared.calls.Due.{Due}
-use Rattle.face_rules.specs.Works.{NextDueFor}
+use Rattle.face_rules.specs.Works.{Loaded}
 use Rattle.face_rules.specs.nodes.Columns.{Columns, Loads, columns}
+use Rattle.rules.specs.Wheel.{nextDue}
+use Rattle.wheel_rules.specs.calls.Answers.{dueSays}
 use Rattle.nodes.proofs.Passing.{passed-on}
 use Rattle.face_rules.proofs.nodes.Node as T
 use Rattle.wheel_rules.proofs.records.Clock as K
@@ -199,8 +201,8 @@ module _ {M : Type 1} (𝓤 : URA M) (H : Heap 𝓤) (A : Atoms 𝓤) (W : Given
     ) (passed ls c)
 
     abbrev For : (ls : Leases) (c : Columns) → Last ls c → Due → Type 0
-    For ls c ws u = NextDueFor (columns (c .next) (c .prev) (c .bucket) (c .entry) (c .generation) (c .serial)) n h (x₃ .now) (x₄ .now) (x₅ .now) (x₆ .now)
-        (x₇ .now) u
+    For ls c ws u = Loaded nextDue (columns (c .next) (c .prev) (c .bucket) (c .entry) (c .generation) (c .serial)) n h h (x₃ .now) (x₄ .now) (x₅ .now)
+        (x₅ .now) (x₆ .now) (x₇ .now) (x₆ .now) (x₇ .now) (dueSays u)
 
     abbrev Rest-last : (ls : Leases) (c : Columns) → Last ls c → Fml
     Rest-last ls c ws = fsep (ftrue) (fsep (ftrue) (fsep (ftrue) (fsep (ftrue) (fsep (ftrue) (ftrue)))))

@@ -50,8 +50,9 @@ use denote.Triple.Walked.{says, Stays, stay-ref, walkOf, goes-ref, Walks, ends-a
 use Rattle.face_rules.specs.declared.nodes.Node.{Node}
 use Rattle.wheel_rules.specs.declared.records.Clock.{Clock}
 use Rattle.face_rules.specs.declared.LaidTurn.{LaidTurn}
-use Rattle.face_rules.specs.Works.{EnableFor}
+use Rattle.face_rules.specs.Works.{Enabled}
 use Rattle.face_rules.specs.nodes.Laid.{Laid}
+use Rattle.wheel_rules.specs.calls.Answers.{notedSays}
 use Rattle.nodes.proofs.Passing.{passed-on}
 use Rattle.face_rules.proofs.nodes.Node as T
 use Rattle.wheel_rules.proofs.records.Clock as K
@@ -179,8 +180,8 @@ module _ {M : Type 1} (𝓤 : URA M) (H : Heap 𝓤) (A : Atoms 𝓤) (W : Given
   Last = Lasts works.ended (κ₂, (κ₃, (κ₄, (κ₅, (κ₆, tt))))) passed
 
   abbrev For : Last → LaidTurn → Type 0
-  For ws u = EnableFor n h (x₃ .now) (x₄ .now) (ws .1 .1 .0) (ws .1 .1 .1 .0) (x₅ .now) (x₆ .now) (x₇ .now) (ws .1 .1 .1 .1 .0) (ws .1 .1 .1 .1 .1 .0)
-      (ws .1 .1 .1 .1 .1 .1 .0) u
+  For ws u = Enabled n h (u .clock) (x₃ .now) (x₄ .now) (ws .1 .1 .0) (ws .1 .1 .1 .0) (x₅ .now) (ws .1 .1 .1 .1 .0) (x₆ .now) (x₇ .now) (ws .1 .1 .1 .1 .1 .0)
+      (ws .1 .1 .1 .1 .1 .1 .0) (u .laid) (notedSays (u .answer))
 
   abbrev Rest-last : Last → Fml
   Rest-last ws = fsep (fsep (finally usize (x₃ .name) (ws .1 .1 .0)) (feq ℕ (length (ws .1 .1 .0)) (length (x₃ .now))))

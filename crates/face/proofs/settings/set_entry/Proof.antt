@@ -48,8 +48,12 @@ use Rattle.nodes.proofs.Six.{shares-six, six-unshared, six-rooms}
 use Rattle.face_rules.specs.declared.nodes.Node.{Node}
 use Rattle.wheel_rules.specs.declared.records.Clock.{Clock}
 use Rattle.wheel_rules.specs.declared.calls.Noted.{Noted}
-use Rattle.face_rules.specs.Works.{SetEntryFor}
+use Rattle.face_rules.specs.Works.{Loaded}
 use Rattle.face_rules.specs.nodes.Columns.{Columns, Loads, columns}
+use Rattle.rules.specs.Wheel.{setEntry}
+use Rattle.wheel_rules.specs.calls.Answers.{notedSays}
+use mathlib.Core.Bool.{cond}
+use mathlib.Core.Option as Option
 use Rattle.nodes.proofs.Passing.{passed-on}
 use Rattle.face_rules.proofs.nodes.Node as T
 use Rattle.wheel_rules.proofs.records.Clock as K
@@ -223,8 +227,10 @@ module _ {M : Type 1} (𝓤 : URA M) (H : Heap 𝓤) (A : Atoms 𝓤) (W : Given
     ) (passed ls c)
 
     abbrev For : (ls : Leases) (c : Columns) → Last ls c → Noted → Type 0
-    For ls c ws u = SetEntryFor (columns (c .next) (c .prev) (c .bucket) (c .entry) (c .generation) (c .serial)) n h (x₃ .now) (x₄ .now) (x₅ .now) (x₆ .now)
-        (x₇ .now) (ws .1 .1 .1 .1 .1 .1 .1 .1 .1 .1 .0) (ws .1 .1 .1 .1 .1 .1 .1 .1 .1 .1 .1 .0) (ws .1 .1 .1 .1 .1 .1 .1 .1 .1 .1 .1 .1 .0) m₈ t₉ m₁₀ m₁₁ u
+    For ls c ws u = Loaded (setEntry m₈ (cond t₉ (Option.some m₁₀) Option.none) m₁₁)
+        (columns (c .next) (c .prev) (c .bucket) (c .entry) (c .generation) (c .serial)) n h h (x₃ .now) (x₄ .now) (x₅ .now)
+        (ws .1 .1 .1 .1 .1 .1 .1 .1 .1 .1 .0) (x₆ .now) (x₇ .now) (ws .1 .1 .1 .1 .1 .1 .1 .1 .1 .1 .1 .0) (ws .1 .1 .1 .1 .1 .1 .1 .1 .1 .1 .1 .1 .0)
+        (notedSays u)
 
     abbrev Rest-last : (ls : Leases) (c : Columns) → Last ls c → Fml
     Rest-last ls c ws = fsep (ftrue) (fsep (ftrue) (fsep

@@ -58,8 +58,10 @@ use Rattle.nodes.proofs.Six.{shares-six, six-unshared, six-rooms}
 use Rattle.face_rules.specs.declared.nodes.Node.{Node}
 use Rattle.wheel_rules.specs.declared.records.Clock.{Clock}
 use Rattle.face_rules.specs.declared.RescheduledTurn.{RescheduledTurn}
-use Rattle.face_rules.specs.Works.{RescheduleFor}
+use Rattle.face_rules.specs.Answers.{rescheduledSays}
+use Rattle.face_rules.specs.Works.{Stored}
 use Rattle.face_rules.specs.nodes.Columns.{Columns, Loads, Stores, columns}
+use Rattle.rules.specs.Wheel.{reschedule}
 use Rattle.nodes.proofs.Passing.{passed-on}
 use Rattle.face_rules.proofs.nodes.Node as T
 use Rattle.wheel_rules.proofs.records.Clock as K
@@ -249,9 +251,9 @@ module _ {M : Type 1} (𝓤 : URA M) (H : Heap 𝓤) (A : Atoms 𝓤) (W : Given
     ) (passed ls c)
 
     abbrev For : (ls : Leases) (c : Columns) → Last ls c → RescheduledTurn → Type 0
-    For ls c ws u = RescheduleFor (columns (c .next) (c .prev) (c .bucket) (c .entry) (c .generation) (c .serial))
-        (columns (ws .0) (ws .1 .0) (ws .1 .1 .0) (ws .1 .1 .1 .0) (ws .1 .1 .1 .1 .0) (ws .1 .1 .1 .1 .1 .0)) n h (x₃ .now) (x₄ .now)
-        (ws .1 .1 .1 .1 .1 .1 .1 .1 .0) (ws .1 .1 .1 .1 .1 .1 .1 .1 .1 .0) (x₅ .now) (x₆ .now) (x₇ .now) m₈ m₉ m₁₀ u
+    For ls c ws u = Stored (reschedule m₈ m₉ m₁₀) (columns (c .next) (c .prev) (c .bucket) (c .entry) (c .generation) (c .serial))
+        (columns (ws .0) (ws .1 .0) (ws .1 .1 .0) (ws .1 .1 .1 .0) (ws .1 .1 .1 .1 .0) (ws .1 .1 .1 .1 .1 .0)) n h (u .clock) (x₃ .now) (x₄ .now)
+        (ws .1 .1 .1 .1 .1 .1 .1 .1 .0) (ws .1 .1 .1 .1 .1 .1 .1 .1 .1 .0) (x₅ .now) (x₆ .now) (x₇ .now) (rescheduledSays (u .answer))
 
     -- the columns that it leaves
     abbrev after : (ls : Leases) (c : Columns) → Last ls c → Columns
