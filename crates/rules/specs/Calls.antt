@@ -12,51 +12,22 @@ use Rattle.rules.specs.Wheel.{pull, abandon, armedCount, nextDue, Answer
 use Rattle.rules.specs.Refusals.{refusalIf, refusal}
 use Rattle.rules.specs.Pull.{Pulled, pulled}
 
--- ---- a wheel with one thing changed
+-- ---- a wheel with some things changed: enabled and the lengths stay
+abbrev pub changed : ℕ → ℕ → Advance → Lists → (ℕ → Entry) → Wheel → Wheel
+changed r n a L E w =
+    record { enabled = w .enabled; nodes = w .nodes; entries = w .entries; reading = r; next = n; advance = a; lists = L; entry = E }
+
 abbrev pub withLists : Lists → Wheel → Wheel
-withLists L w =
-    record {
-      enabled = w .enabled;
-      nodes = w .nodes;
-      entries = w .entries;
-      reading = w .reading;
-      next = w .next;
-      advance = w .advance;
-      lists = L;
-      entry = w
-          .entry;
-    }
+withLists L w = changed (w .reading) (w .next) (w .advance) L (w .entry) w
 
 abbrev pub withNext : ℕ → Wheel → Wheel
-withNext n w =
-    record {
-      enabled = w .enabled;
-      nodes = w .nodes;
-      entries = w .entries;
-      reading = w .reading;
-      next = n;
-      advance = w .advance;
-      lists = w .lists;
-      entry = w
-          .entry;
-    }
+withNext n w = changed (w .reading) n (w .advance) (w .lists) (w .entry) w
 
 abbrev pub withClock : ℕ → Advance → Wheel → Wheel
-withClock r a w =
-    record { enabled = w .enabled; nodes = w .nodes; entries = w .entries; reading = r; next = w .next; advance = a; lists = w .lists; entry = w .entry }
+withClock r a w = changed r (w .next) a (w .lists) (w .entry) w
 
 abbrev pub withEntry : ℕ → Entry → Wheel → Wheel
-withEntry e v w =
-    record {
-      enabled = w .enabled;
-      nodes = w .nodes;
-      entries = w .entries;
-      reading = w .reading;
-      next = w .next;
-      advance = w .advance;
-      lists = w .lists;
-      entry = update (w .entry) e v;
-    }
+withEntry e v w = changed (w .reading) (w .next) (w .advance) (w .lists) (update (w .entry) e v) w
 
 -- ---- arming
 -- "puts a new node at the back of its bucket, answers its handle"; "serials count up by one per arming". Deadline and
