@@ -6,7 +6,7 @@ use mathlib.Core.Path.{_≡_, sym}
 use mathlib.Core.List.{List, _++_}
 use lib.ListN.{length, take, drop}
 use Rattle.lines.proofs.Lent.{lent-fits, lent-count, lent-long, lent-back}
-use Rattle.deque_rules.specs.alone.State.{state}
+use Rattle.deque_rules.specs.Deque.{state}
 use Rattle.bench.specs.Ready.{Sized}
 
 -- a loop that counts its calls down

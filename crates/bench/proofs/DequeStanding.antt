@@ -6,13 +6,14 @@ use mathlib.Core.Logic.{inl, ⊎-elim}
 use mathlib.Core.Bool.{Bool, true, false, not}
 use mathlib.Core.List.{List, [], _∷_}
 use lib.ListN.{length}
-use Rattle.deque_rules.specs.Chain.{none, In, first}
-use Rattle.deque_rules.specs.Lists.{homeOf, takeOut, freed}
-use Rattle.deque_rules.specs.alone.State.{State, Shows, nodes}
+use Rattle.deque_rules.specs.Links.{first, homeOf}
+use Rattle.numbers.specs.Shared.{noSlot as none, In}
+use Rattle.deque_rules.specs.Lists.{takeOut, freed}
+use Rattle.deque_rules.specs.Deque.{State, nodeCount as nodes}
+use Rattle.deque_rules.specs.alone.State.{Shows}
 use Rattle.deque_rules.specs.alone.Sound.{Judged}
 use Rattle.deque_rules.specs.alone.Ready.{DequeReady, PushReady, NodeReady}
-use Rattle.deque_rules.specs.alone.Work.{Steps}
-use Rattle.deque_rules.specs.alone.Work.{Pushes, Drops, Moves}
+use Rattle.deque_rules.specs.alone.Work.{Steps, Pushes, Drops, Moves}
 use Rattle.deque_rules.proofs.alone.Keeping.{stepped-shows}
 use Rattle.deque_rules.proofs.alone.Sounding.{sound-shows}
 use Rattle.deque_rules.specs.declared.alone.Looked.{Looked}

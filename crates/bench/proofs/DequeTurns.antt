@@ -6,10 +6,10 @@ use mathlib.Core.Path.{_≡_, refl, subst, sym}
 use mathlib.Core.Logic.{inl}
 use mathlib.Core.List.{List, [], _∷_, _++_}
 use lib.ListN.{length, take, drop}
-use Rattle.deque_rules.specs.Chain.{In, first}
-use Rattle.deque_rules.specs.Lists.{deq, taken, pushBack}
-use Rattle.deque_rules.specs.alone.State.{State, state}
-use Rattle.deque_rules.specs.alone.Step.{frontOf}
+use Rattle.deque_rules.specs.Links.{first, deq}
+use Rattle.numbers.specs.Shared.{In}
+use Rattle.deque_rules.specs.Lists.{taken, pushBack}
+use Rattle.deque_rules.specs.Deque.{State, state, frontOf}
 use Rattle.deque_rules.specs.alone.Ready.{PushReady, NodeReady}
 use Rattle.deque_rules.specs.alone.Work.{Pushes, Drops, Moves}
 use Rattle.deque_rules.proofs.Laws.{deq-at, head-is}

@@ -8,15 +8,14 @@ use mathlib.Core.Option.{none, some}
 use mathlib.Core.List.{List, []}
 use lib.ListN.{length, take}
 use lib.Seq.{length-take-le}
-use Rattle.rules.specs.Geometry.{wheel01}
-use Rattle.rules.specs.Lists.{bare}
-use Rattle.rules.specs.Wheel.{closed, Wheel, enable, setEntry, schedule, deschedule, start, pull}
+use Rattle.rules.specs.Places.{wheel01}
+use Rattle.rules.specs.Wheel.{bare, closed, Wheel, enable, setEntry, schedule, deschedule, start, pull}
 use Rattle.rules.specs.Calls.{act}
 use Rattle.rules.specs.Sound.{Sound}
-use Rattle.wheel_rules.specs.declared.records.Clock.{Clock}
+use Rattle.wheel_rules.specs.declared.calls.Clock.{Clock}
 use Rattle.wheel_rules.specs.declared.timers.Armed.{Armed}
 use Rattle.wheel_rules.specs.declared.popping.Pulled.{Pulled}
-use Rattle.wheel_rules.specs.records.Records.{Nodes, Entries, records}
+use Rattle.wheel_rules.specs.Lent.{Nodes, Entries, records}
 use Rattle.wheel_rules.specs.records.Settings.{EntryReady, Sets, settled}
 use Rattle.wheel_rules.specs.layout.Layout.{LayReady, Lays}
 use Rattle.wheel_rules.specs.timers.Timers.{ArmReady, SlotReady, Arms, Disarms}
@@ -29,8 +28,8 @@ use Rattle.bench.specs.Turns.{MayArm, MayCancel, Fit, Arming, Opens}
 use Rattle.bench.specs.declared.wheels.turning.Turn.{Turn}
 use Rattle.bench.specs.declared.wheels.turning.Turn.the-variants.{Arm, Cancel, Open, Pull, Stop}
 use Rattle.bench.proofs.WheelStaying.{enable-sound, set-stays, schedule-stays, deschedule-stays, start-stays, pull-stays, set-has}
-use Rattle.bench.proofs.WheelParts.{nodesBack, NodesKept, nodes-part-back, nodes-fit-back}
-use Rattle.bench.proofs.WheelParts.{entriesBack, EntriesKept, entries-part-back, entries-fit-back, settled-part, settled-fit}
+use Rattle.bench.proofs.WheelParts.{nodesBack, NodesKept, nodes-part-back, nodes-fit-back, entriesBack, EntriesKept, entries-part-back}
+use Rattle.bench.proofs.WheelParts.{entries-fit-back, settled-part, settled-fit}
 
 -- ---- laying out
 module _ (n m : ℕ) (N : Nodes) (E : Entries) (low : 165 < n) (high : n ≤ 4096) (f : NodesFit n N) (g : EntriesFit m E) where

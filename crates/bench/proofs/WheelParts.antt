@@ -7,7 +7,7 @@ use mathlib.Core.List.{List, _++_}
 use lib.ListN.{length, take, drop, length-set}
 use lib.Seq.{length-front, take-set-lt}
 use Rattle.lines.proofs.Lent.{lent-back}
-use Rattle.wheel_rules.specs.records.Records.{Nodes, Entries, nodes, entries}
+use Rattle.wheel_rules.specs.Lent.{Nodes, Entries, nodes, entries}
 use Rattle.wheel_rules.specs.records.Settings.{settled}
 use Rattle.bench.specs.Kept.{nodesPart, NodesFit, entriesPart, EntriesFit}
 

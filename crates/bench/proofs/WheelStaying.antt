@@ -5,7 +5,7 @@ use mathlib.Core.Path.{_≡_, refl, ap}
 use mathlib.Core.Bool.{Bool, true, cond}
 use mathlib.Core.Option.{Option, some}
 use borrow.Author.Tests.{eq-eqb}
-use Rattle.rules.specs.Geometry.{Geometry, buckets}
+use Rattle.rules.specs.Places.{Geometry, buckets}
 use Rattle.rules.specs.Wheel.{Wheel, enable, setEntry, schedule, deschedule, start, pull}
 use Rattle.rules.specs.Calls.{act}
 use Rattle.rules.specs.Sound.{Sound}

@@ -2,9 +2,9 @@
 use Prim.Native.Nat.{ℕ, _-_, _≤_}
 use mathlib.Core.Path.{_≡_}
 use lib.ListN.{length, take}
-use Rattle.rules.specs.Geometry.{wheel01}
-use Rattle.wheel_rules.specs.declared.records.Clock.{Clock}
-use Rattle.wheel_rules.specs.records.Records.{Nodes, Entries, Records, nodes, entries, records}
+use Rattle.rules.specs.Places.{wheel01}
+use Rattle.wheel_rules.specs.declared.calls.Clock.{Clock}
+use Rattle.wheel_rules.specs.Lent.{Nodes, Entries, Records, nodes, entries, records}
 use Rattle.wheel_rules.specs.timers.Timers.{Ready}
 use Rattle.bench.specs.declared.wheels.laying.Laid.{Laid}
 

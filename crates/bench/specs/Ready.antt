@@ -4,8 +4,9 @@ use mathlib.Core.Path.{_≡_}
 use mathlib.Core.Bool.{Bool, true}
 use mathlib.Core.List.{List, []}
 use lib.ListN.{length, take}
-use Rattle.deque_rules.specs.Lists.{Lists}
-use Rattle.deque_rules.specs.alone.State.{State, Shows, state}
+use Rattle.deque_rules.specs.Links.{Deques as Lists}
+use Rattle.deque_rules.specs.Deque.{State, state}
+use Rattle.deque_rules.specs.alone.State.{Shows}
 use Rattle.bench.specs.declared.deques.records.Records.{Records}
 
 -- the records are sound, and there is one deque

@@ -5,8 +5,8 @@ use mathlib.Core.Bool.{Bool, true}
 use mathlib.Core.Logic.{_⊎_}
 use mathlib.Core.List.{List}
 use lib.ListN.{length, getD}
-use Rattle.rules.specs.Geometry.{wheel01}
-use Rattle.wheel_rules.specs.declared.records.Clock.{Clock}
+use Rattle.rules.specs.Places.{wheel01}
+use Rattle.wheel_rules.specs.declared.calls.Clock.{Clock}
 use Rattle.wheel_rules.specs.records.Moments.{Starts}
 use Rattle.bench.specs.declared.wheels.turning.Turn.{Turn}
 use Rattle.bench.specs.declared.wheels.turning.Turn.the-variants.{Arm, Cancel, Open, Pull, Stop}

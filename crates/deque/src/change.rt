@@ -1,9 +1,9 @@
 // For proved code only, unchecked: push, remove, move to the back, turn until a member is last. Each takes constant
 // time.
-ghost use Rattle.deque_rules.specs.Lists.{links};
 ghost use Rattle.deque_rules.specs.Change.{CanPut, Puts, Linkable, LinksBack, Held, CutsOut, Pushable, PushesBack, Removes, Movable, MovesBack, HeldBy, Ahead};
 ghost use Rattle.deque_rules.specs.Change.{Turns};
 ghost use Rattle.deque_rules.specs.Lending.{linksBefore, linksAfter};
+ghost use Rattle.deque_rules.specs.Links.{links};
 use crate::NONE;
 use crate::free::give_back;
 use crate::free::take;

@@ -1,9 +1,9 @@
 // For proved code only, unchecked: lays the records out, whatever they held.
-ghost use Rattle.deque_rules.specs.Lists.{links};
 ghost use Rattle.deque_rules.specs.Layout.{Sizes, LaysOut, Empties, Strings};
+ghost use Rattle.deque_rules.specs.Lending.{linksBefore, linksAfter};
+ghost use Rattle.deque_rules.specs.Links.{links};
 ghost use mathlib.Core.Path.{_≡_};
 ghost use lib.ListN.{length};
-ghost use Rattle.deque_rules.specs.Lending.{linksBefore, linksAfter};
 use crate::NONE;
 
 // Makes every deque empty.

@@ -1,6 +1,6 @@
 // The test of links and free chain. It assumes nothing, looks at each slot once, and ends on any links.
-ghost use Rattle.deque_rules.specs.Sound.{Verdict, Sized};
 ghost use Rattle.deque_rules.specs.Lending.{linksBefore};
+ghost use Rattle.deque_rules.specs.Sound.{Verdict, Sized};
 use crate::NONE;
 use crate::walk::walk;
 use crate::walk::walk_free;

@@ -3,10 +3,10 @@
 // made of them.
 ghost use Prim.Native.Nat.{_<_};
 ghost use lib.ListN.{length};
-ghost use Rattle.deque_rules.specs.Lists.{links};
 ghost use Rattle.deque_rules.specs.Layout.{Sizes};
-ghost use Rattle.deque_rules.specs.Sound.{Walked, WalkedFree, SizesFree};
 ghost use Rattle.deque_rules.specs.Lending.{linksBefore};
+ghost use Rattle.deque_rules.specs.Links.{links};
+ghost use Rattle.deque_rules.specs.Sound.{Walked, WalkedFree, SizesFree};
 use crate::NONE;
 
 // More than there may be.

@@ -1,7 +1,6 @@
 // The public calls that look, count or move a cursor: refusals in order, then the work. None asks anything of its
 // input. A refused call leaves every record as found.
-ghost use Rattle.deque_rules.specs.alone.Calls.{Promised, lookFront, lookBack, lengthOf, nextByCursor, resetCursor};
-ghost use Rattle.deque_rules.specs.alone.Lending.{before, after};
+ghost use Rattle.deque_rules.specs.Deque.{DequePromised, lookFront, lookBack, lengthOf, nextByCursor, resetCursor, before, after};
 use crate::NONE;
 use crate::looks::back;
 use crate::looks::front;
@@ -24,7 +23,7 @@ pub fn look_front(
     free: usize,
     d: usize,
 ) -> Looked
-    ensures { λ r. ⌜ Promised (lookFront d)
+    ensures { λ r. ⌜ DequePromised (lookFront d)
         (before heads tails lens cursors next prev home element) free
         (after heads tails lens cursors next prev home element) r ⌝ }
 {
@@ -70,7 +69,7 @@ pub fn look_back(
     free: usize,
     d: usize,
 ) -> Looked
-    ensures { λ r. ⌜ Promised (lookBack d)
+    ensures { λ r. ⌜ DequePromised (lookBack d)
         (before heads tails lens cursors next prev home element) free
         (after heads tails lens cursors next prev home element) r ⌝ }
 {
@@ -116,7 +115,7 @@ pub fn length_of(
     free: usize,
     d: usize,
 ) -> Counted
-    ensures { λ r. ⌜ Promised (lengthOf d)
+    ensures { λ r. ⌜ DequePromised (lengthOf d)
         (before heads tails lens cursors next prev home element) free
         (after heads tails lens cursors next prev home element) r ⌝ }
 {
@@ -153,7 +152,7 @@ pub fn next_by_cursor(
     free: usize,
     d: usize,
 ) -> Looked
-    ensures { λ r. ⌜ Promised (nextByCursor d)
+    ensures { λ r. ⌜ DequePromised (nextByCursor d)
         (before heads tails lens cursors next prev home element) free
         (after heads tails lens cursors next prev home element) r ⌝ }
 {
@@ -199,7 +198,7 @@ pub fn reset_cursor(
     free: usize,
     d: usize,
 ) -> Done
-    ensures { λ r. ⌜ Promised (resetCursor d)
+    ensures { λ r. ⌜ DequePromised (resetCursor d)
         (before heads tails lens cursors next prev home element) free
         (after heads tails lens cursors next prev home element) r ⌝ }
 {

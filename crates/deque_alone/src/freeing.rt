@@ -1,7 +1,6 @@
 // The public calls that take a node out and free it: refusals in order, then the work. None asks anything of its input.
 // A refused call leaves every record as found.
-ghost use Rattle.deque_rules.specs.alone.Calls.{Promised, popFront, unlinkAndDrop};
-ghost use Rattle.deque_rules.specs.alone.Lending.{before, after};
+ghost use Rattle.deque_rules.specs.Deque.{DequePromised, popFront, unlinkAndDrop, before, after};
 use crate::refuse::deque_refusal;
 use crate::refuse::node_refusal;
 use crate::unchecked::pop;
@@ -23,7 +22,7 @@ pub fn pop_front(
     free: usize,
     d: usize,
 ) -> Popped
-    ensures { λ r. ⌜ Promised (popFront d)
+    ensures { λ r. ⌜ DequePromised (popFront d)
         (before heads tails lens cursors next prev home element) free
         (after heads tails lens cursors next prev home element) r ⌝ }
 {
@@ -70,7 +69,7 @@ pub fn unlink_and_drop(
     d: usize,
     s: usize,
 ) -> Dropped
-    ensures { λ r. ⌜ Promised (unlinkAndDrop d s)
+    ensures { λ r. ⌜ DequePromised (unlinkAndDrop d s)
         (before heads tails lens cursors next prev home element) free
         (after heads tails lens cursors next prev home element) r ⌝ }
 {

@@ -1,7 +1,6 @@
 // The public calls that put a node at the back: refusals in order, then the work. None asks anything of its input. A
 // refused call leaves every record as found.
-ghost use Rattle.deque_rules.specs.alone.Calls.{Promised, pushBack, moveToBack};
-ghost use Rattle.deque_rules.specs.alone.Lending.{before, after};
+ghost use Rattle.deque_rules.specs.Deque.{DequePromised, pushBack, moveToBack, before, after};
 use crate::refuse::node_refusal;
 use crate::refuse::push_refusal;
 use crate::unchecked::push;
@@ -23,7 +22,7 @@ pub fn push_back(
     d: usize,
     e: u64,
 ) -> Pushed
-    ensures { λ r. ⌜ Promised (pushBack d e)
+    ensures { λ r. ⌜ DequePromised (pushBack d e)
         (before heads tails lens cursors next prev home element) free
         (after heads tails lens cursors next prev home element) r ⌝ }
 {
@@ -75,7 +74,7 @@ pub fn move_to_back(
     d: usize,
     s: usize,
 ) -> Done
-    ensures { λ r. ⌜ Promised (moveToBack d s)
+    ensures { λ r. ⌜ DequePromised (moveToBack d s)
         (before heads tails lens cursors next prev home element) free
         (after heads tails lens cursors next prev home element) r ⌝ }
 {

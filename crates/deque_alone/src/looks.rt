@@ -3,11 +3,9 @@
 ghost use Prim.Native.Nat.{_<_};
 ghost use mathlib.Core.Path.{_≡_};
 ghost use lib.ListN.{length};
-ghost use Rattle.deque_rules.specs.alone.State.{state};
+ghost use Rattle.deque_rules.specs.Deque.{state, movedOn, startAt, before, after};
 ghost use Rattle.deque_rules.specs.alone.Ready.{DequeReady};
-ghost use Rattle.deque_rules.specs.alone.Step.{movedOn, startAt};
 ghost use Rattle.deque_rules.specs.alone.Work.{LooksFront, LooksBack, Steps};
-ghost use Rattle.deque_rules.specs.alone.Lending.{before, after};
 use crate::NONE;
 use crate::PAST_END;
 use deque_rules::alone::Looked;

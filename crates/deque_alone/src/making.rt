@@ -1,7 +1,6 @@
 // Making: the refusal, then the work. It asks nothing of its input. A refused call leaves every record as found.
 ghost use Prim.Native.Nat.{ℕ};
-ghost use Rattle.deque_rules.specs.alone.Calls.{Promised, make};
-ghost use Rattle.deque_rules.specs.alone.Lending.{before, after};
+ghost use Rattle.deque_rules.specs.Deque.{DequePromised, make, before, after};
 use crate::layout::clear;
 use crate::layout::zero;
 use crate::sound::lent;
@@ -20,7 +19,7 @@ pub fn make(
     home: &mut [usize],
     element: &mut [u64],
 ) -> Made
-    ensures { λ r. ⌜ ((free : ℕ) → Promised make
+    ensures { λ r. ⌜ ((free : ℕ) → DequePromised make
         (before heads tails lens cursors next prev home element) free
         (after heads tails lens cursors next prev home element) r) ⌝ }
 {

@@ -1,6 +1,6 @@
 // Which refusal applies: the lowest number of 01 whose row holds, or 0. Each reads the records and changes nothing.
+ghost use Rattle.deque_rules.specs.Deque.{before};
 ghost use Rattle.deque_rules.specs.alone.Refuse.{RefusesDeque, RefusesPush, RefusesNode};
-ghost use Rattle.deque_rules.specs.alone.Lending.{before};
 use crate::NONE;
 use crate::sound::sound;
 

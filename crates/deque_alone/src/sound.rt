@@ -1,7 +1,7 @@
 // The soundness test. It assumes nothing of what the records hold, looks at each node once, and ends on any links.
 ghost use Prim.Native.Nat.{_<_};
+ghost use Rattle.deque_rules.specs.Deque.{before};
 ghost use Rattle.deque_rules.specs.alone.Sound.{DequesOk, NodesOk, IsLent, StandsOk, Judged};
-ghost use Rattle.deque_rules.specs.alone.Lending.{before};
 use crate::NONE;
 use crate::PAST_END;
 use deque::walk::walk;

@@ -3,11 +3,9 @@
 ghost use Prim.Native.Nat.{_<_};
 ghost use mathlib.Core.Path.{_≡_};
 ghost use lib.ListN.{length};
-ghost use Rattle.deque_rules.specs.alone.State.{state};
+ghost use Rattle.deque_rules.specs.Deque.{state, stepOff, before, after};
 ghost use Rattle.deque_rules.specs.alone.Ready.{DequeReady, PushReady, NodeReady};
-ghost use Rattle.deque_rules.specs.alone.Step.{stepOff};
 ghost use Rattle.deque_rules.specs.alone.Work.{Pushes, Drops, Moves, Pops};
-ghost use Rattle.deque_rules.specs.alone.Lending.{before, after};
 pub use crate::looks::back;
 pub use crate::looks::front;
 use crate::looks::moved_on;

@@ -6,8 +6,8 @@ use mathlib.Core.Logic.{inl, inr, ⊎-elim}
 use mathlib.Core.List.{List, [], _∷_}
 use lib.ListN.{length, getD}
 use lib.Seq.{ext-getD}
-use Rattle.deque_rules.specs.Chain.{none, In, Path}
-use Rattle.deque_rules.specs.Lists.{Links, Lists, step, homeOf, deq, Rep}
+use Rattle.deque_rules.specs.Links.{Path, Links, Deques as Lists, slotAfter as step, homeOf, deq, Rep}
+use Rattle.numbers.specs.Shared.{noSlot as none, In}
 use Rattle.numbers.proofs.Cases.{same?}
 use Rattle.deque_rules.proofs.Chains.{agreed}
 use Rattle.deque_rules.proofs.Arrays.{step-slot}

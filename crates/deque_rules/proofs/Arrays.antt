@@ -6,9 +6,8 @@ use mathlib.Core.List.{List}
 use lib.ListN.{length, getD, set, length-set}
 use lib.Seq.{getD-set-same, getD-set-other}
 use borrow.Author.Tests.{eq-eqb, ne-eqb}
-use Rattle.deque_rules.specs.Chain.{none}
-use Rattle.deque_rules.specs.Lists.{step}
-use Rattle.deque_rules.specs.Change.{endAt}
+use Rattle.numbers.specs.Shared.{noSlot as none}
+use Rattle.deque_rules.specs.Links.{slotAfter as step, endAt}
 use Rattle.numbers.proofs.Cases.{same?}
 
 pub length-endAt : (h : List ℕ) (d p q : ℕ) → length (endAt h d p q) ≡ length h

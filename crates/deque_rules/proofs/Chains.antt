@@ -7,7 +7,9 @@ use mathlib.Core.Logic.{_⊎_, inl, inr, ⊎-elim}
 use mathlib.Core.List.{List, [], _∷_, _++_}
 use lib.ListN.{length}
 use borrow.Author.Tests.{eq-eqb, ne-eqb}
-use Rattle.deque_rules.specs.Chain.{none, In, Once, Chain, first, lastOr, Path, remove}
+use Rattle.deque_rules.specs.Links.{Chain, first, Path}
+use Rattle.numbers.specs.Lists.{lastOr, remove}
+use Rattle.numbers.specs.Shared.{noSlot as none, In, Once}
 use Rattle.numbers.proofs.Cases.{same?}
 use Rattle.numbers.proofs.Members.{in-at}
 

@@ -6,9 +6,11 @@ use mathlib.Core.Logic.{inl, inr, ⊎-elim}
 use mathlib.Core.List.{List, _∷_}
 use lib.ListN.{getD, set, length-set}
 use lib.Seq.{getD-set-same, getD-set-other}
-use Rattle.deque_rules.specs.Chain.{none, In, Chain, remove}
-use Rattle.deque_rules.specs.Lists.{Links, Lists, links, step, homeOf, deq, Rep, takeOut}
-use Rattle.deque_rules.specs.Change.{endAt, CanPut, cutOut, Held, CutsOut}
+use Rattle.deque_rules.specs.Links.{Chain, Links, Deques as Lists, links, slotAfter as step, homeOf, deq, Rep, endAt, cutOut}
+use Rattle.numbers.specs.Lists.{remove}
+use Rattle.numbers.specs.Shared.{noSlot as none, In}
+use Rattle.deque_rules.specs.Lists.{takeOut}
+use Rattle.deque_rules.specs.Change.{CanPut, Held, CutsOut}
 use Rattle.numbers.proofs.Members.{in-at, removed, kept, gone}
 use Rattle.deque_rules.proofs.Chains.{prev-in, next-in, cut}
 use Rattle.deque_rules.proofs.Arrays.{length-endAt, endAt-other, step-slot, put-at, put-other}

@@ -6,10 +6,11 @@ use mathlib.Core.Logic.{⊎-elim}
 use mathlib.Core.List.{List}
 use lib.ListN.{length, getD}
 use Rattle.numbers.proofs.Cases.{below?}
-use Rattle.deque_rules.specs.Chain.{first, upFrom}
-use Rattle.deque_rules.specs.Lists.{Links, Lists, Rep, turn}
-use Rattle.deque_rules.specs.Change.{linkBack, removed, moveBack, turnTo, Pushable, Held, Movable, HeldBy, PushesBack, Removes, MovesBack, Turns}
-use Rattle.deque_rules.specs.Layout.{fresh, Sizes, LaysOut}
+use Rattle.deque_rules.specs.Links.{first, Links, Deques as Lists, Rep, linkBack, removed, moveBack, fresh}
+use Rattle.numbers.specs.Shared.{upFrom}
+use Rattle.deque_rules.specs.Lists.{turn}
+use Rattle.deque_rules.specs.Change.{turnTo, Pushable, Held, Movable, HeldBy, PushesBack, Removes, MovesBack, Turns}
+use Rattle.deque_rules.specs.Layout.{Sizes, LaysOut}
 use Rattle.deque_rules.proofs.Pushing.{push-rep, remove-rep, move-rep}
 use Rattle.deque_rules.proofs.Turning.{turn-stays, turn-does}
 use Rattle.deque_rules.proofs.Laying.{fresh-rep}

@@ -7,11 +7,9 @@ use lib.ListN.{length, getD, set, length-set, replicate}
 use lib.Seq.{set-out}
 use lib.Dec.{eqb}
 use borrow.Author.Tests.{eq-eqb}
-use Rattle.deque_rules.specs.Chain.{none, Path, upFrom}
-use Rattle.deque_rules.specs.Lists.{Links}
-use Rattle.deque_rules.specs.Free.{handBack}
-use Rattle.deque_rules.specs.Change.{linkBack, cutOut, removed, moveBack, turnNow, turnTo}
-use Rattle.deque_rules.specs.Layout.{fresh}
+use Rattle.deque_rules.specs.Links.{Path, Links, handBack, linkBack, cutOut, removed, moveBack, fresh}
+use Rattle.numbers.specs.Shared.{noSlot as none, upFrom}
+use Rattle.deque_rules.specs.Change.{turnNow, turnTo}
 use Rattle.numbers.proofs.Counting.{length-up}
 use Rattle.deque_rules.proofs.Arrays.{length-endAt}
 use Rattle.deque_rules.proofs.Laying.{length-nexts, path-up}

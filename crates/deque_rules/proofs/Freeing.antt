@@ -7,8 +7,10 @@ use mathlib.Core.List.{List, _∷_}
 use lib.ListN.{length, getD, set, length-set}
 use lib.Seq.{getD-set-same, getD-set-other}
 use borrow.Author.Tests.{ne-eqb}
-use Rattle.deque_rules.specs.Chain.{none, In, Once, Path, first, rest}
-use Rattle.deque_rules.specs.Lists.{Links, Lists, links, deq, step, Rep, taken, freed}
+use Rattle.deque_rules.specs.Links.{Path, first, Links, Deques as Lists, links, deq, slotAfter as step, Rep}
+use Rattle.numbers.specs.Lists.{rest}
+use Rattle.numbers.specs.Shared.{noSlot as none, In, Once}
+use Rattle.deque_rules.specs.Lists.{taken, freed}
 use Rattle.deque_rules.specs.Free.{Takes, GivesBack}
 use Rattle.numbers.proofs.Members.{in-at, in-same}
 use Rattle.deque_rules.proofs.Slots.{some-first}

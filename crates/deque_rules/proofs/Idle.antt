@@ -9,10 +9,9 @@ use lib.ListN.{getD}
 use lib.Seq.{getD-set-same, getD-set-other}
 use borrow.Author.Tests.{eq-eqb, ne-eqb}
 use Rattle.numbers.proofs.Cases.{same?}
-use Rattle.deque_rules.specs.Chain.{none}
-use Rattle.deque_rules.specs.Lists.{Links, Lists, homeOf, Rep}
-use Rattle.deque_rules.specs.Free.{handBack}
-use Rattle.deque_rules.specs.Change.{linkBack, cutOut, removed, moveBack, turnTo}
+use Rattle.numbers.specs.Shared.{noSlot as none}
+use Rattle.deque_rules.specs.Links.{Links, Deques as Lists, homeOf, Rep, handBack, linkBack, cutOut, removed, moveBack}
+use Rattle.deque_rules.specs.Change.{turnTo}
 use Rattle.deque_rules.proofs.Cutting.{cut-local}
 use Rattle.deque_rules.proofs.Turning.{turn-local}
 

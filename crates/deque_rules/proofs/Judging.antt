@@ -6,10 +6,10 @@ use mathlib.Core.Logic.{inl, ⊎-elim}
 use mathlib.Core.List.{List, [], _∷_, _++_}
 use lib.ListN.{length, getD, length-append, List·getD-append}
 use lib.Seq.{getD-at}
-use Rattle.deque_rules.specs.Chain.{none, In, Once}
-use Rattle.deque_rules.specs.Lists.{Links, step, homeOf, deq}
+use Rattle.numbers.specs.Shared.{noSlot as none, In, Once}
+use Rattle.deque_rules.specs.Links.{Links, slotAfter as step, homeOf, deq, Whole}
 use Rattle.deque_rules.specs.Layout.{Sizes}
-use Rattle.deque_rules.specs.Sound.{Whole, Runs, Spares, Walked, WalkedFree}
+use Rattle.deque_rules.specs.Sound.{Runs, Spares, Walked, WalkedFree}
 use Rattle.numbers.proofs.Cases.{same?}
 use Rattle.numbers.proofs.Members.{in-same, in-app, app-left, app-right, once-app}
 use Rattle.deque_rules.proofs.Chains.{chain-once, chain-way, alike, path-once, path-alike}

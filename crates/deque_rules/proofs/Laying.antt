@@ -6,9 +6,10 @@ use mathlib.Core.Logic.{inl, ⊎-elim}
 use mathlib.Core.List.{List, [], _∷_}
 use lib.ListN.{length, getD, set, length-set, replicate, length-replicate, getD-replicate}
 use lib.Seq.{getD-set-same, getD-set-other, ext-getD}
-use Rattle.deque_rules.specs.Chain.{none, Path, first, upFrom}
-use Rattle.deque_rules.specs.Lists.{Links, links, Rep, homeOf, deq, allFree}
-use Rattle.deque_rules.specs.Layout.{nexts, fresh, Sizes, Empties, Strings, LaysOut}
+use Rattle.deque_rules.specs.Links.{Path, first, Links, links, Rep, homeOf, deq, nexts, fresh}
+use Rattle.numbers.specs.Shared.{noSlot as none, upFrom}
+use Rattle.deque_rules.specs.Lists.{allFree}
+use Rattle.deque_rules.specs.Layout.{Sizes, Empties, Strings, LaysOut}
 use Rattle.numbers.proofs.Cases.{same?}
 use Rattle.numbers.proofs.Members.{in-same}
 use Rattle.numbers.proofs.Counting.{up-range, range-up, length-up}

@@ -7,9 +7,10 @@ use mathlib.Core.List.{List, [], _∷_, _++_}
 use lib.ListN.{getD, set, length-set}
 use lib.Seq.{getD-set-same, getD-set-other}
 use borrow.Author.Tests.{ne-eqb}
-use Rattle.deque_rules.specs.Chain.{none, In, Chain}
-use Rattle.deque_rules.specs.Lists.{Links, Lists, links, step, homeOf, deq, Rep, pushBack}
-use Rattle.deque_rules.specs.Change.{endAt, CanPut, linkBack, Linkable, LinksBack}
+use Rattle.deque_rules.specs.Links.{Chain, Links, Deques as Lists, links, slotAfter as step, homeOf, deq, Rep, endAt, linkBack}
+use Rattle.numbers.specs.Shared.{noSlot as none, In}
+use Rattle.deque_rules.specs.Lists.{pushBack}
+use Rattle.deque_rules.specs.Change.{CanPut, Linkable, LinksBack}
 use Rattle.numbers.proofs.Cases.{same?}
 use Rattle.numbers.proofs.Members.{in-at, in-back, back-old, back-new}
 use Rattle.deque_rules.proofs.Chains.{chain-end, snoc}

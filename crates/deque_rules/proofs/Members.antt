@@ -7,8 +7,9 @@ use mathlib.Core.Logic.{⊎-elim}
 use mathlib.Core.List.{List, [], _++_}
 use lib.ListN.{length, length-append}
 use lib.Seq.{getD-set-same, getD-set-other, set-set, set-getD}
-use Rattle.deque_rules.specs.Chain.{none, In, Once}
-use Rattle.deque_rules.specs.Lists.{Links, Lists, Rep, homeOf, deq, withDeque, pushBack}
+use Rattle.numbers.specs.Shared.{noSlot as none, In, Once}
+use Rattle.deque_rules.specs.Links.{Links, Deques as Lists, Rep, homeOf, deq}
+use Rattle.deque_rules.specs.Lists.{withDeque, pushBack}
 use Rattle.numbers.proofs.Cases.{same?}
 use Rattle.numbers.proofs.Members.{in-app, app-left, app-right, back-old, once-app}
 use Rattle.deque_rules.proofs.Chains.{path-once}

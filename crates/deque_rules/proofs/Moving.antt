@@ -10,9 +10,11 @@ use borrow.Author.Tests.{ne-eqb}
 use borrow.Author.Needs.{scaled-fits}
 use mir.Syntax.{w64}
 use mir.Val.{Fits}
-use Rattle.deque_rules.specs.Chain.{none, In, last, before, after}
-use Rattle.deque_rules.specs.Lists.{Links, links, homeOf, deq, takeOut}
-use Rattle.deque_rules.specs.Change.{endAt, linkBack, cutOut, moveBack, CanPut, Held, Movable, Linkable, Ahead, CutsOut, LinksBack, MovesBack}
+use Rattle.deque_rules.specs.Chain.{last}
+use Rattle.numbers.specs.Shared.{noSlot as none, In, beforeIn as before, afterIn as after}
+use Rattle.deque_rules.specs.Links.{Links, links, homeOf, deq, endAt, linkBack, cutOut, moveBack}
+use Rattle.deque_rules.specs.Lists.{takeOut}
+use Rattle.deque_rules.specs.Change.{CanPut, Held, Movable, Linkable, Ahead, CutsOut, LinksBack, MovesBack}
 use Rattle.numbers.proofs.Members.{split, after-in, last-back}
 use Rattle.deque_rules.proofs.Slots.{none-first}
 use Rattle.deque_rules.proofs.Swap.{slot-real}

@@ -3,10 +3,11 @@ use Prim.Native.Nat.{ℕ, _<_}
 use mathlib.Core.Path.{_≡_, ap}
 use mathlib.Core.List.{List, [], _∷_}
 use lib.ListN.{getD}
-use Rattle.deque_rules.specs.Chain.{none, first}
-use Rattle.deque_rules.specs.Lists.{Links, Lists, links, Rep, homeOf, pushBack, takeOut, taken, freed}
-use Rattle.deque_rules.specs.Free.{handBack, Takes, GivesBack}
-use Rattle.deque_rules.specs.Change.{linkBack, cutOut, removed, moveBack, Pushable, Linkable, LinksBack, PushesBack, CutsOut, Removes}
+use Rattle.deque_rules.specs.Links.{first, Links, Deques as Lists, links, Rep, homeOf, handBack, linkBack, cutOut, removed, moveBack}
+use Rattle.numbers.specs.Shared.{noSlot as none}
+use Rattle.deque_rules.specs.Lists.{pushBack, takeOut, taken, freed}
+use Rattle.deque_rules.specs.Free.{Takes, GivesBack}
+use Rattle.deque_rules.specs.Change.{Pushable, Linkable, LinksBack, PushesBack, CutsOut, Removes}
 use Rattle.deque_rules.proofs.Freeing.{take-does, give-rep}
 use Rattle.deque_rules.proofs.Linking.{link-rep}
 use Rattle.deque_rules.proofs.Cutting.{cut-rep}

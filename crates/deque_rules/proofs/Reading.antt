@@ -3,8 +3,9 @@ use Prim.Native.Nat.{ℕ, _<_}
 use mathlib.Core.Path.{_≡_, refl, sym, subst, _∙_}
 use mathlib.Core.List.{List, [], _∷_}
 use lib.ListN.{getD}
-use Rattle.deque_rules.specs.Chain.{none, In, Chain, first, last, after, before, following}
-use Rattle.deque_rules.specs.Lists.{Links, Lists, links, step, deq, Rep}
+use Rattle.deque_rules.specs.Chain.{last, following}
+use Rattle.deque_rules.specs.Links.{Chain, first, Links, Deques as Lists, links, slotAfter as step, deq, Rep}
+use Rattle.numbers.specs.Shared.{noSlot as none, In, afterIn as after, beforeIn as before}
 use Rattle.deque_rules.specs.Read.{Front, Follows}
 use Rattle.numbers.proofs.Members.{split}
 use Rattle.deque_rules.proofs.Chains.{chain-last, parts}

@@ -4,7 +4,10 @@ use mathlib.Core.Path.{_≡_, refl, sym, ap}
 use mathlib.Core.Logic.{inl, ⊎-elim}
 use mathlib.Core.List.{List, [], _∷_, _++_}
 use Rattle.numbers.proofs.Members.{in-at, in-same, in-app, app-left, app-right, in-back, back-old, back-new, before-in, after-in, split}
-use Rattle.deque_rules.specs.Chain.{none, In, first, rest, before, after, turned}
+use Rattle.deque_rules.specs.Chain.{turned}
+use Rattle.deque_rules.specs.Links.{first}
+use Rattle.numbers.specs.Lists.{rest}
+use Rattle.numbers.specs.Shared.{noSlot as none, In, beforeIn as before, afterIn as after}
 
 -- a turned list has the same members
 pub in-turned : (xs : List ℕ) (s x : ℕ) → In s xs → In x (turned s xs) → In x xs

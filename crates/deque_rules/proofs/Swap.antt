@@ -8,8 +8,9 @@ use mathlib.Core.List.{List, []}
 use lib.ListN.{length, getD, length-set}
 use lib.Seq.{getD-set-same, getD-set-other}
 use borrow.Author.Tests.{ne-eqb}
-use Rattle.deque_rules.specs.Chain.{none, In, Once, Chain}
-use Rattle.deque_rules.specs.Lists.{Links, Lists, step, homeOf, deq, Rep, withDeque}
+use Rattle.deque_rules.specs.Links.{Chain, Links, Deques as Lists, slotAfter as step, homeOf, deq, Rep}
+use Rattle.numbers.specs.Shared.{noSlot as none, In, Once}
+use Rattle.deque_rules.specs.Lists.{withDeque}
 use Rattle.numbers.proofs.Cases.{same?}
 use Rattle.numbers.proofs.Members.{in-at}
 use Rattle.deque_rules.proofs.Chains.{agree, path-agree, chain-once}

@@ -7,9 +7,12 @@ use mathlib.Core.List.{List, [], _∷_, _++_, append-assoc}
 use lib.ListN.{length, getD, set}
 use lib.Seq.{set-set, set-getD, ext-getD}
 use borrow.Author.Tests.{eq-eqb, ne-eqb}
-use Rattle.deque_rules.specs.Chain.{none, In, Once, first, last, lastOr, before, after}
-use Rattle.deque_rules.specs.Lists.{Links, Lists, step, homeOf, deq, Rep, withDeque, pushBack, takeOut, turn}
-use Rattle.deque_rules.specs.Change.{linkBack, cutOut, turnNow, turnTo}
+use Rattle.deque_rules.specs.Chain.{last}
+use Rattle.deque_rules.specs.Links.{first, Links, Deques as Lists, slotAfter as step, homeOf, deq, Rep, linkBack, cutOut}
+use Rattle.numbers.specs.Lists.{lastOr}
+use Rattle.numbers.specs.Shared.{noSlot as none, In, Once, beforeIn as before, afterIn as after}
+use Rattle.deque_rules.specs.Lists.{withDeque, pushBack, takeOut, turn}
+use Rattle.deque_rules.specs.Change.{turnNow, turnTo}
 use Rattle.deque_rules.specs.Turn.{frontToBack, untilLast}
 use Rattle.numbers.proofs.Cases.{same?}
 use Rattle.numbers.proofs.Members.{in-at, in-same, app-right, once-right, last-back, split}

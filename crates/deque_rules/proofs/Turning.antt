@@ -10,8 +10,11 @@ use borrow.Author.Tests.{eq-eqb, ne-eqb}
 use borrow.Author.Needs.{scaled-fits}
 use mir.Syntax.{w64}
 use mir.Val.{Fits}
-use Rattle.deque_rules.specs.Chain.{none, In, Once, Chain, first, rest, before, after, turned}
-use Rattle.deque_rules.specs.Lists.{Links, Lists, links, step, homeOf, deq, Rep, turn}
+use Rattle.deque_rules.specs.Chain.{turned}
+use Rattle.deque_rules.specs.Links.{Chain, first, Links, Deques as Lists, links, slotAfter as step, homeOf, deq, Rep}
+use Rattle.numbers.specs.Lists.{rest}
+use Rattle.numbers.specs.Shared.{noSlot as none, In, Once, beforeIn as before, afterIn as after}
+use Rattle.deque_rules.specs.Lists.{turn}
 use Rattle.deque_rules.specs.Change.{turnNow, turnTo, HeldBy, Turns}
 use Rattle.numbers.proofs.Cases.{same?}
 use Rattle.numbers.proofs.Members.{in-at, app-left, app-right, once-left, once-right, split}

@@ -7,10 +7,8 @@ use mathlib.Core.List.{List, [], _∷_}
 use lib.ListN.{length, getD}
 use lib.Seq.{ext-getD}
 use borrow.Author.Tests.{eq-eqb, ne-eqb}
-use Rattle.deque_rules.specs.Chain.{none, Chain, Path, first}
-use Rattle.deque_rules.specs.Lists.{Links, Lists, Rep, step, deq}
-use Rattle.deque_rules.specs.Listed.{listFrom, listEach, listed}
-use Rattle.deque_rules.specs.Sound.{Whole}
+use Rattle.deque_rules.specs.Links.{Chain, Path, first, Links, Deques as Lists, Rep, slotAfter as step, deq, listFrom, listEach, listed, Whole}
+use Rattle.numbers.specs.Shared.{noSlot as none}
 use Rattle.deque_rules.proofs.Chains.{Real, path-once}
 use Rattle.deque_rules.proofs.Arrays.{step-slot}
 use Rattle.numbers.proofs.Counting.{at-most}

@@ -7,10 +7,10 @@ use mathlib.Core.List.{List}
 use lib.ListN.{length}
 use lib.Dec.{eqb}
 use borrow.Author.Tests.{eq-eqb, eqb-true, not-true, not-false}
-use Rattle.deque_rules.specs.Chain.{none}
-use Rattle.deque_rules.specs.Lists.{Links, links}
+use Rattle.numbers.specs.Shared.{noSlot as none}
+use Rattle.deque_rules.specs.Links.{Links, links, Whole}
 use Rattle.deque_rules.specs.Layout.{Sizes}
-use Rattle.deque_rules.specs.Sound.{Whole, Verdict, Sized, Walked, WalkedFree}
+use Rattle.deque_rules.specs.Sound.{Verdict, Sized, Walked, WalkedFree}
 use Rattle.numbers.proofs.Cases.{same?}
 use Rattle.deque_rules.proofs.Judging.{Upto, begin, whole-sizes, no-walk, no-walk-free, too-few, is-whole}
 

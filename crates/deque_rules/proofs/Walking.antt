@@ -5,8 +5,8 @@ use mathlib.Core.Path.{_≡_, refl, sym, ap, _∙_}
 use mathlib.Core.Logic.{inl, inr, ⊎-elim}
 use mathlib.Core.List.{List, [], _∷_}
 use lib.ListN.{length, getD}
-use Rattle.deque_rules.specs.Chain.{none, In}
-use Rattle.deque_rules.specs.Lists.{Links, step, homeOf}
+use Rattle.numbers.specs.Shared.{noSlot as none, In}
+use Rattle.deque_rules.specs.Links.{Links, slotAfter as step, homeOf}
 use Rattle.deque_rules.specs.Layout.{Sizes}
 use Rattle.deque_rules.specs.Sound.{Runs, Walked}
 use Rattle.deque_rules.proofs.Chains.{chain-once}

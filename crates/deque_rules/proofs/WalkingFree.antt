@@ -5,7 +5,7 @@ use mathlib.Core.Path.{_≡_, refl, sym}
 use mathlib.Core.Logic.{inl, inr, ⊎-elim}
 use mathlib.Core.List.{List, [], _∷_}
 use lib.ListN.{length, getD}
-use Rattle.deque_rules.specs.Chain.{none, In}
+use Rattle.numbers.specs.Shared.{noSlot as none, In}
 use Rattle.deque_rules.specs.Sound.{Spares, WalkedFree, SizesFree}
 use Rattle.deque_rules.proofs.Chains.{path-once}
 use Rattle.numbers.proofs.Counting.{at-most}

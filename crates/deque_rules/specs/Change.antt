@@ -1,19 +1,13 @@
--- Push, remove, move to the back, turn: what each writes into the records, and what that means for the lists.
+-- inner: push, remove, move to the back, turn: what each writes into the records, and what that means for the lists.
 use Prim.Native.Nat.{ℕ, _≤_, _<_}
-use mathlib.Core.Path.{_≡_}
 use mathlib.Core.Bool.{cond}
 use mathlib.Core.List.{List, [], _∷_}
-use lib.ListN.{length, getD, set}
+use mathlib.Core.Path.{_≡_}
 use lib.Dec.{eqb}
-use Rattle.deque_rules.specs.Chain.{none, first}
-use Rattle.deque_rules.specs.Lists.{Links, Lists, links, homeOf, Rep, pushBack, takeOut, turn, taken, freed}
-use Rattle.deque_rules.specs.Free.{handBack}
-
--- ---- on the records
--- the slot after p in the deque d is q: the head, where p is none (the list of next has no place for none, so there it
--- stays)
-abbrev pub endAt : List ℕ → ℕ → ℕ → ℕ → List ℕ
-endAt ends d p q = cond (eqb p none) (set ends d q) ends
+use lib.ListN.{length, getD, set}
+use Rattle.deque_rules.specs.Links.{first, Links, Deques, links, homeOf, Rep, endAt, linkBack, cutOut, removed, moveBack}
+use Rattle.deque_rules.specs.Lists.{pushBack, takeOut, turn, taken, freed}
+use Rattle.numbers.specs.Shared.{noSlot}
 
 pub record Puts (ends next ends′ next′ : List ℕ) (d p q : ℕ) : Type 0 where
   pub ends-is : ends′ ≡ endAt ends d p q
@@ -21,31 +15,8 @@ pub record Puts (ends next ends′ next′ : List ℕ) (d p q : ℕ) : Type 0 wh
 
 pub record CanPut (ends next : List ℕ) (d p : ℕ) : Type 0 where
   pub deque : d < length ends
-  pub slot : (p ≡ none → ⊥) → p < length next
-  pub small : length next ≤ none
-
--- s is linked at the back of the deque d, after the old tail
-unfoldable pub linkBack : Links → ℕ → ℕ → Links
-linkBack a d s =
-    let t = getD (a .tails) d 0 in
-    links (endAt (a .heads) d t s) (set (a .tails) d s) (set (set (a .next) s none) t s) (set (a .prev) s t) (set (a .home) s d)
-
--- s is taken out of its deque: what stood before it and what stood after it are neighbours now. Its own next and prev
--- stay as they are
-unfoldable pub cutOut : Links → ℕ → Links
-cutOut a s =
-    let d = homeOf a s in
-    let p = getD (a .prev) s 0 in
-    let q = getD (a .next) s 0 in
-    links (endAt (a .heads) d p q) (endAt (a .tails) d q p) (set (a .next) p q) (set (a .prev) q p) (set (a .home) s none)
-
--- s is taken out of its deque and handed back, where free was the first free slot
-unfoldable pub removed : Links → ℕ → ℕ → Links
-removed a free s = handBack (cutOut a s) s free
-
--- s is moved to the back of the deque d, from whichever deque it is in
-unfoldable pub moveBack : Links → ℕ → ℕ → Links
-moveBack a d s = linkBack (cutOut a s) d s
+  pub slot : (p ≡ noSlot → ⊥) → p < length next
+  pub small : length next ≤ noSlot
 
 -- the deque d is turned until s is last, in one splice: the old tail is followed by the old head, and the slot after s
 -- is the head
@@ -53,16 +24,16 @@ abbrev pub turnNow : Links → ℕ → ℕ → ℕ → Links
 turnNow a d s q =
     let h = getD (a .heads) d 0 in
     let t = getD (a .tails) d 0 in
-    links (set (a .heads) d q) (set (a .tails) d s) (set (set (a .next) t h) s none) (set (set (a .prev) h t) q none) (a .home)
+    links (set (a .heads) d q) (set (a .tails) d s) (set (set (a .next) t h) s noSlot) (set (set (a .prev) h t) q noSlot) (a .home)
 
 -- nothing is written where s is last already
 unfoldable pub turnTo : Links → ℕ → ℕ → Links
-turnTo a d s = let q = getD (a .next) s 0 in cond (eqb q none) a (turnNow a d s q)
+turnTo a d s = let q = getD (a .next) s 0 in cond (eqb q noSlot) a (turnNow a d s q)
 
 -- ---- what the functions ask
 -- free is the first free slot, and d is a deque
 pub record Pushable (a : Links) (free d : ℕ) : Type 0 where
-  pub v : Lists
+  pub v : Deques
   pub rep : Rep a v []
   pub free-is : first (v .free) ≡ free
   pub slot : free < v .slots
@@ -70,7 +41,7 @@ pub record Pushable (a : Links) (free d : ℕ) : Type 0 where
 
 -- s is loose, and d is a deque
 pub record Linkable (a : Links) (d s : ℕ) : Type 0 where
-  pub v : Lists
+  pub v : Deques
   pub loose : List ℕ
   pub rep : Rep a v (s ∷ loose)
   pub slot : s < v .slots
@@ -78,24 +49,24 @@ pub record Linkable (a : Links) (d s : ℕ) : Type 0 where
 
 -- s is in a deque
 pub record Held (a : Links) (s : ℕ) : Type 0 where
-  pub v : Lists
+  pub v : Deques
   pub loose : List ℕ
   pub rep : Rep a v loose
   pub slot : s < v .slots
-  pub homed : homeOf a s ≡ none → ⊥
+  pub homed : homeOf a s ≡ noSlot → ⊥
 
 -- s is in a deque, and d is a deque
 pub record Movable (a : Links) (d s : ℕ) : Type 0 where
-  pub v : Lists
+  pub v : Deques
   pub loose : List ℕ
   pub rep : Rep a v loose
   pub slot : s < v .slots
-  pub homed : homeOf a s ≡ none → ⊥
+  pub homed : homeOf a s ≡ noSlot → ⊥
   pub deque : d < v .count
 
 -- s is in the deque d
 pub record HeldBy (a : Links) (d s : ℕ) : Type 0 where
-  pub v : Lists
+  pub v : Deques
   pub loose : List ℕ
   pub rep : Rep a v loose
   pub slot : s < v .slots
@@ -113,26 +84,26 @@ pub record PushesBack (a b : Links) (free d r : ℕ) : Type 0 where
   pub is : b ≡ linkBack a d free
   pub free-is : r ≡ getD (a .next) free 0
   pub does :
-      (v : Lists) → Rep a v [] → first (v .free) ≡ free →
+      (v : Deques) → Rep a v [] → first (v .free) ≡ free →
       Rep b (pushBack d free (taken v)) [] × (first (taken v .free) ≡ r) × (v .free ≡ free ∷ (taken v .free))
 
 -- s leaves its deque, and is the first free slot then
 pub record Removes (a b : Links) (free s : ℕ) : Type 0 where
   pub is : b ≡ removed a free s
-  pub does : (v : Lists) → Rep a v [] → first (v .free) ≡ free → Rep b (freed s (takeOut (homeOf a s) s v)) []
+  pub does : (v : Deques) → Rep a v [] → first (v .free) ≡ free → Rep b (freed s (takeOut (homeOf a s) s v)) []
 
 pub record LinksBack (a b : Links) (d s : ℕ) : Type 0 where
   pub is : b ≡ linkBack a d s
-  pub does : (v : Lists) (loose : List ℕ) → Rep a v (s ∷ loose) → Rep b (pushBack d s v) loose
+  pub does : (v : Deques) (loose : List ℕ) → Rep a v (s ∷ loose) → Rep b (pushBack d s v) loose
 
 pub record CutsOut (a b : Links) (s : ℕ) : Type 0 where
   pub is : b ≡ cutOut a s
-  pub does : (v : Lists) (loose : List ℕ) → Rep a v loose → Rep b (takeOut (homeOf a s) s v) (s ∷ loose)
+  pub does : (v : Deques) (loose : List ℕ) → Rep a v loose → Rep b (takeOut (homeOf a s) s v) (s ∷ loose)
 
 pub record MovesBack (a b : Links) (d s : ℕ) : Type 0 where
   pub is : b ≡ moveBack a d s
-  pub does : (v : Lists) (loose : List ℕ) → Rep a v loose → Rep b (pushBack d s (takeOut (homeOf a s) s v)) loose
+  pub does : (v : Deques) (loose : List ℕ) → Rep a v loose → Rep b (pushBack d s (takeOut (homeOf a s) s v)) loose
 
 pub record Turns (a b : Links) (d s : ℕ) : Type 0 where
   pub is : b ≡ turnTo a d s
-  pub does : (v : Lists) (loose : List ℕ) → Rep a v loose → Rep b (turn d s v) loose
+  pub does : (v : Deques) (loose : List ℕ) → Rep a v loose → Rep b (turn d s v) loose

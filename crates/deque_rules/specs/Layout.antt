@@ -1,37 +1,29 @@
--- Laying the records out: all deques empty, all slots free in ascending order from 0.
+-- inner: laying the records out: all deques empty, all slots free in ascending order from 0.
 use Prim.Native.Nat.{ℕ, _≤_}
+use mathlib.Core.List.{List, []}
 use mathlib.Core.Path.{_≡_}
-use mathlib.Core.List.{List, [], _∷_}
 use lib.ListN.{length, replicate}
-use Rattle.deque_rules.specs.Chain.{none, first, upFrom}
-use Rattle.deque_rules.specs.Lists.{Links, links, Rep, allFree}
-
--- the next of each slot of a chain, in its order
-abbrev pub nexts : List ℕ → List ℕ
-nexts [] = []
-nexts (x ∷ xs) = first xs ∷ nexts xs
-
--- the records of c empty deques over n free slots
-unfoldable pub fresh : ℕ → ℕ → Links
-fresh c n = links (replicate c none) (replicate c none) (nexts (upFrom n 0)) (replicate n none) (replicate n none)
+use Rattle.deque_rules.specs.Links.{first, Links, Rep, nexts, fresh}
+use Rattle.deque_rules.specs.Lists.{allFree}
+use Rattle.numbers.specs.Shared.{noSlot, upFrom}
 
 -- the lent slices have the lengths of deques and slots
 pub record Sizes (a : Links) : Type 0 where
   pub tails-len : length (a .tails) ≡ length (a .heads)
   pub prev-len : length (a .prev) ≡ length (a .next)
   pub home-len : length (a .home) ≡ length (a .next)
-  pub few : length (a .heads) ≤ none
-  pub small : length (a .next) ≤ none
+  pub few : length (a .heads) ≤ noSlot
+  pub small : length (a .next) ≤ noSlot
 
 -- the two halves of the work
 pub record Empties (heads₀ heads tails : List ℕ) : Type 0 where
-  pub heads-is : heads ≡ replicate (length heads₀) none
-  pub tails-is : tails ≡ replicate (length heads₀) none
+  pub heads-is : heads ≡ replicate (length heads₀) noSlot
+  pub tails-is : tails ≡ replicate (length heads₀) noSlot
 
 pub record Strings (next₀ next prev home : List ℕ) (r : ℕ) : Type 0 where
   pub next-is : next ≡ nexts (upFrom (length next₀) 0)
-  pub prev-is : prev ≡ replicate (length next₀) none
-  pub home-is : home ≡ replicate (length next₀) none
+  pub prev-is : prev ≡ replicate (length next₀) noSlot
+  pub home-is : home ≡ replicate (length next₀) noSlot
   pub free-is : r ≡ first (upFrom (length next₀) 0)
 
 -- r is the first free slot of the records b that are made of a

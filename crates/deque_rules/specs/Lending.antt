@@ -1,7 +1,7 @@
--- The links that five lent slices are, before a call and after it: heads, tails; next, prev, home.
+-- inner: the links that five lent slices are, before a call and after it: heads, tails; next, prev, home.
 use denote.Ref.{now}
-use Rattle.numbers.specs.Lending.{Numbers}
-use Rattle.deque_rules.specs.Lists.{Links, links}
+use Rattle.deque_rules.specs.Links.{Links, links}
+use Rattle.numbers.specs.Shared.{Numbers}
 
 abbrev pub linksBefore : Numbers → Numbers → Numbers → Numbers → Numbers → Links
 linksBefore h t n p o = links (now (h .entry)) (now (t .entry)) (now (n .entry)) (now (p .entry)) (now (o .entry))

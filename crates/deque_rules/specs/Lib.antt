@@ -1,4 +1,6 @@
 -- Linked deques and the free chain, and, in alone, the deque by itself.
+pub mod Deque
+pub mod Links
 pub mod Chain
 pub mod Lists
 pub mod Change
@@ -7,6 +9,5 @@ pub mod Read
 pub mod Layout
 pub mod Sound
 pub mod Turn
-pub mod Listed
 pub mod alone
 pub mod Lending

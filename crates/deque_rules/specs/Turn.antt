@@ -1,11 +1,10 @@
--- The rule that turning in one splice stands for: "nodes go front to back until the sentinel is last", one node after
+-- inner: the rule that turning in one splice stands for: "nodes go front to back until the sentinel is last", one node after
 -- another.
 use Prim.Native.Nat.{ℕ, zero, suc}
 use mathlib.Core.Bool.{cond}
-use lib.ListN.{getD}
 use lib.Dec.{eqb}
-use Rattle.deque_rules.specs.Lists.{Links}
-use Rattle.deque_rules.specs.Change.{linkBack, cutOut}
+use lib.ListN.{getD}
+use Rattle.deque_rules.specs.Links.{Links, linkBack, cutOut}
 
 -- the front of the deque d goes to its back
 abbrev pub frontToBack : Links → ℕ → Links

@@ -4,9 +4,5 @@ pub mod Sound
 pub mod Refuse
 pub mod Ready
 pub mod Step
-pub mod Answer
 pub mod Work
-pub mod Meets
-pub mod Calls
 pub mod History
-pub mod Lending

@@ -1,14 +1,13 @@
 // Start, pull and abandon, answered in numbers. No `requires`. A refused call leaves every record as found.
+ghost use Rattle.face_rules.specs.Face.{Told, before, after};
 ghost use Rattle.rules.specs.Wheel.{start, pull, abandon};
-ghost use Rattle.face_rules.specs.exports.Exports.{Told};
-ghost use Rattle.face_rules.specs.nodes.Lending.{before, after};
 use crate::words::tell_noted;
 use crate::words::tell_pulled;
 use face::abandon;
 use face::pull;
 use face::start;
-use face_rules::nodes::Node;
-use wheel_rules::records::Clock;
+use face_rules::Node;
+use wheel_rules::calls::Clock;
 
 // Opens an advance to q. Refuses (1, 4, 5).
 #[no_mangle]

@@ -1,13 +1,12 @@
 // Armed count and next due, answered in numbers. They change no record. No `requires`.
+ghost use Rattle.face_rules.specs.Face.{Told, before, after};
 ghost use Rattle.rules.specs.Wheel.{armedCount, nextDue};
-ghost use Rattle.face_rules.specs.exports.Exports.{Told};
-ghost use Rattle.face_rules.specs.nodes.Lending.{before, after};
 use crate::words::tell_counted;
 use crate::words::tell_due;
 use face::armed_count;
 use face::next_due;
-use face_rules::nodes::Node;
-use wheel_rules::records::Clock;
+use face_rules::Node;
+use wheel_rules::calls::Clock;
 
 // How many slots are armed. It answers while an advance is open too. Refuses (1, 4).
 #[no_mangle]

@@ -1,13 +1,12 @@
 // Create, and enable answered in numbers. No `requires`. A refused call leaves every record as found.
+ghost use Rattle.face_rules.specs.Face.{Told, before, after};
 ghost use Rattle.rules.specs.Wheel.{ok};
-ghost use Rattle.wheel_rules.specs.calls.Promise.{enabling, Begins};
-ghost use Rattle.face_rules.specs.exports.Exports.{Told};
-ghost use Rattle.face_rules.specs.nodes.Lending.{before, after};
+ghost use Rattle.wheel_rules.specs.Promise.{enabling, Begins};
 use crate::words::tell_noted;
 use face::enable;
-use face_rules::nodes::Node;
+use face_rules::Node;
+use wheel_rules::calls::Clock;
 use wheel_rules::calls::Created;
-use wheel_rules::records::Clock;
 
 // Begins a wheel with this first serial: clock, heads and tails by value. Never refused.
 #[no_mangle]

@@ -1,13 +1,12 @@
 // Set entry, answered in numbers. No `requires`. A refused call leaves every record as found.
 ghost use mathlib.Core.Bool.{cond};
 ghost use mathlib.Core.Option.{none, some};
+ghost use Rattle.face_rules.specs.Face.{Told, before, after};
 ghost use Rattle.rules.specs.Wheel.{setEntry};
-ghost use Rattle.face_rules.specs.exports.Exports.{Told};
-ghost use Rattle.face_rules.specs.nodes.Lending.{before, after};
 use crate::words::tell_noted;
 use face::set_entry;
-use face_rules::nodes::Node;
-use wheel_rules::records::Clock;
+use face_rules::Node;
+use wheel_rules::calls::Clock;
 
 // Sets the entry e: whether it has a deadline, which, and its generation. Refuses (1, 4, 5, 7).
 #[no_mangle]

@@ -1,15 +1,14 @@
 // Schedule, reschedule and deschedule, answered in numbers. No `requires`. A refused call leaves every record as found.
+ghost use Rattle.face_rules.specs.Face.{Told, before, after};
 ghost use Rattle.rules.specs.Wheel.{schedule, reschedule, deschedule};
-ghost use Rattle.face_rules.specs.exports.Exports.{Told};
-ghost use Rattle.face_rules.specs.nodes.Lending.{before, after};
 use crate::words::tell_noted;
 use crate::words::tell_rescheduled;
 use crate::words::tell_scheduled;
 use face::deschedule;
 use face::reschedule;
 use face::schedule;
-use face_rules::nodes::Node;
-use wheel_rules::records::Clock;
+use face_rules::Node;
+use wheel_rules::calls::Clock;
 
 // Arms a timer for the entry e, whose generation is h. Refuses (1, 4, 5, 7 to 11).
 #[no_mangle]

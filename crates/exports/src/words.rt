@@ -1,8 +1,7 @@
 // Each answer of the wheel's calls over lent nodes, written to five lent numbers: the refusal's number, or 0; which
 // answer it is; and its values. The result is the first of them. No `requires`.
-ghost use Rattle.wheel_rules.specs.calls.Answers.{notedSays, countedSays, dueSays};
-ghost use Rattle.face_rules.specs.Answers.{scheduledSays, rescheduledSays, pulledSays};
-ghost use Rattle.face_rules.specs.exports.Words.{wordsOf, Writes};
+ghost use Rattle.face_rules.specs.Face.{scheduledSays, rescheduledSays, pulledSays, wordsOf, Writes};
+ghost use Rattle.wheel_rules.specs.Promise.{notedSays, countedSays, dueSays};
 use face_rules::Pulled;
 use face_rules::Rescheduled;
 use face_rules::Scheduled;

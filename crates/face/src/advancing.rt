@@ -1,19 +1,17 @@
 // Start, pull and abandon over lent nodes. No `requires`. A refused call leaves every record as found.
+ghost use Rattle.face_rules.specs.Face.{pulledSays, before, after};
 ghost use Rattle.rules.specs.Wheel.{start, pull, abandon};
-ghost use Rattle.wheel_rules.specs.calls.Answers.{notedSays};
-ghost use Rattle.wheel_rules.specs.calls.Promise.{Promised};
-ghost use Rattle.face_rules.specs.Answers.{pulledSays};
-ghost use Rattle.face_rules.specs.nodes.Lending.{before, after};
+ghost use Rattle.wheel_rules.specs.Promise.{notedSays, Promised};
+use face_rules::Node;
 use face_rules::Pulled;
-use face_rules::nodes::Node;
 use face_works::advancing::abandon_work;
 use face_works::advancing::start_work;
 use face_works::pulling::pull_work;
 use nodes::ROOM;
 use nodes::load;
 use nodes::store;
+use wheel_rules::calls::Clock;
 use wheel_rules::calls::Noted;
-use wheel_rules::records::Clock;
 
 // Opens an advance to q. Refuses (1, 4, 5).
 pub fn start(

@@ -1,16 +1,15 @@
 // Armed count and next due over lent nodes. They change nothing. No `requires`.
+ghost use Rattle.face_rules.specs.Face.{before, after};
 ghost use Rattle.rules.specs.Wheel.{armedCount, nextDue};
-ghost use Rattle.wheel_rules.specs.calls.Answers.{countedSays, dueSays};
-ghost use Rattle.wheel_rules.specs.calls.Promise.{Promised};
-ghost use Rattle.face_rules.specs.nodes.Lending.{before, after};
-use face_rules::nodes::Node;
+ghost use Rattle.wheel_rules.specs.Promise.{countedSays, dueSays, Promised};
+use face_rules::Node;
 use face_works::counts::armed_count_work;
 use face_works::counts::next_due_work;
 use nodes::ROOM;
 use nodes::load;
+use wheel_rules::calls::Clock;
 use wheel_rules::calls::Counted;
 use wheel_rules::calls::Due;
-use wheel_rules::records::Clock;
 
 // How many slots are armed. It answers while an advance is open too. Refuses (1, 4).
 pub fn armed_count(

@@ -1,12 +1,11 @@
 // Enable over lent nodes. No `requires`. A refused call leaves every record as found.
-ghost use Rattle.wheel_rules.specs.calls.Answers.{notedSays};
-ghost use Rattle.wheel_rules.specs.calls.Promise.{enabling, Promised};
-ghost use Rattle.face_rules.specs.nodes.Lending.{before, after};
-use face_rules::nodes::Node;
+ghost use Rattle.face_rules.specs.Face.{before, after};
+ghost use Rattle.wheel_rules.specs.Promise.{notedSays, enabling, Promised};
+use face_rules::Node;
 use face_works::making::enable_work;
 use nodes::laying::lay;
+use wheel_rules::calls::Clock;
 use wheel_rules::calls::Noted;
-use wheel_rules::records::Clock;
 
 // Lays the lent nodes and entries out as a wheel with no timer. Refuses (2, 3).
 pub fn enable(

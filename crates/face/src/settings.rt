@@ -1,16 +1,15 @@
 // Set entry over lent nodes. No `requires`. A refused call leaves every record as found.
 ghost use mathlib.Core.Bool.{cond};
 ghost use mathlib.Core.Option.{none, some};
+ghost use Rattle.face_rules.specs.Face.{before, after};
 ghost use Rattle.rules.specs.Wheel.{setEntry};
-ghost use Rattle.wheel_rules.specs.calls.Answers.{notedSays};
-ghost use Rattle.wheel_rules.specs.calls.Promise.{Promised};
-ghost use Rattle.face_rules.specs.nodes.Lending.{before, after};
-use face_rules::nodes::Node;
+ghost use Rattle.wheel_rules.specs.Promise.{notedSays, Promised};
+use face_rules::Node;
 use face_works::settings::set_entry_work;
 use nodes::ROOM;
 use nodes::load;
+use wheel_rules::calls::Clock;
 use wheel_rules::calls::Noted;
-use wheel_rules::records::Clock;
 
 // Sets the entry e: whether it has a deadline, which, and its generation. Refuses (1, 4, 5, 7).
 pub fn set_entry(

@@ -1,20 +1,18 @@
 // Schedule, reschedule and deschedule over lent nodes. No `requires`. A refused call leaves every record as found.
+ghost use Rattle.face_rules.specs.Face.{scheduledSays, rescheduledSays, before, after};
 ghost use Rattle.rules.specs.Wheel.{schedule, reschedule, deschedule};
-ghost use Rattle.wheel_rules.specs.calls.Answers.{notedSays};
-ghost use Rattle.wheel_rules.specs.calls.Promise.{Promised};
-ghost use Rattle.face_rules.specs.Answers.{scheduledSays, rescheduledSays};
-ghost use Rattle.face_rules.specs.nodes.Lending.{before, after};
+ghost use Rattle.wheel_rules.specs.Promise.{notedSays, Promised};
+use face_rules::Node;
 use face_rules::Rescheduled;
 use face_rules::Scheduled;
-use face_rules::nodes::Node;
 use face_works::timers::deschedule_work;
 use face_works::timers::reschedule_work;
 use face_works::timers::schedule_work;
 use nodes::ROOM;
 use nodes::load;
 use nodes::store;
+use wheel_rules::calls::Clock;
 use wheel_rules::calls::Noted;
-use wheel_rules::records::Clock;
 
 // Arms a timer for the entry e, whose generation is h. Refuses (1, 4, 5, 7 to 11).
 pub fn schedule(

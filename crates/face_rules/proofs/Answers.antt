@@ -9,7 +9,7 @@ use Rattle.face_rules.specs.declared.Rescheduled.{Rescheduled}
 use Rattle.face_rules.specs.declared.Rescheduled.the-variants.{Moved, Removed, Refused as RescheduledRefused}
 use Rattle.face_rules.specs.declared.Pulled.{Pulled}
 use Rattle.face_rules.specs.declared.Pulled.the-variants.{Expired, Rescheduled as Placed, End, Refused as PulledRefused}
-use Rattle.face_rules.specs.Answers.{scheduledSays, rescheduledSays, pulledSays}
+use Rattle.face_rules.specs.Face.{scheduledSays, rescheduledSays, pulledSays}
 
 pub scheduled : (r s : Scheduled) → scheduledSays r ≡ scheduledSays s → r ≡ s
 scheduled (Armed x0 x1) (Armed y0 y1) e = cc

@@ -7,15 +7,16 @@ use mathlib.Core.Bool.{Bool, true, false, cond, false≢true}
 use mathlib.Core.List.{List}
 use lib.ListN.{length, length-map}
 use Rattle.rules.specs.Wheel.{Call, create, enable, setEntry, schedule, reschedule, deschedule, start, pull, abandon, armedCount, nextDue, refused}
-use Rattle.rules.specs.Refusals.{rows}
-use Rattle.wheel_rules.specs.declared.records.Clock.{Clock}
-use Rattle.wheel_rules.specs.records.Records.{Records}
-use Rattle.wheel_rules.specs.refusals.Refuse.{given, standing, testsOn, rowsOn}
-use Rattle.wheel_rules.specs.calls.Promise.{Promised}
+use Rattle.rules.specs.Calls.{rows}
+use Rattle.wheel_rules.specs.declared.calls.Clock.{Clock}
+use Rattle.wheel_rules.specs.Lent.{Records}
+use Rattle.numbers.specs.Rows.{given}
+use Rattle.wheel_rules.specs.refusals.Refuse.{standing, testsOn, rowsOn}
+use Rattle.wheel_rules.specs.Promise.{Promised}
 use Rattle.wheel_rules.proofs.calls.Deciding.{LentTo, later}
 use Rattle.wheel_rules.proofs.calls.Calling.{no}
-use Rattle.face_rules.specs.declared.nodes.Node.{Node}
-use Rattle.face_rules.specs.nodes.Shown.{shown}
+use Rattle.face_rules.specs.declared.Node.{Node}
+use Rattle.face_rules.specs.Face.{recordsOf as shown}
 use Rattle.face_rules.specs.Crowded.{crowdedNumber}
 
 -- the calls that 1 names: "all wheel calls but create, enable"

@@ -8,12 +8,12 @@ use mathlib.Core.Bool.{Bool}
 use mathlib.Core.List.{List, [], _∷_}
 use lib.ListN.{length}
 use Rattle.rules.specs.Wheel.{Call, Answer}
-use Rattle.wheel_rules.specs.declared.records.Clock.{Clock}
-use Rattle.wheel_rules.specs.records.Records.{Records}
-use Rattle.wheel_rules.specs.calls.Promise.{Promised}
+use Rattle.wheel_rules.specs.declared.calls.Clock.{Clock}
+use Rattle.wheel_rules.specs.Lent.{Records}
+use Rattle.wheel_rules.specs.Promise.{Promised}
 use Rattle.wheel_rules.proofs.calls.Promising.{coincide}
-use Rattle.face_rules.specs.declared.nodes.Node.{Node}
-use Rattle.face_rules.specs.nodes.Shown.{nexts, prevs, buckets, entryNumbers, generations, serials, shown}
+use Rattle.face_rules.specs.declared.Node.{Node}
+use Rattle.face_rules.specs.Face.{nexts, prevs, buckets, entryNumbers, generations, serials, recordsOf as shown}
 
 -- ---- equal fields, equal nodes
 nodes-one : (ns ms : List Node) → nexts ns ≡ nexts ms → prevs ns ≡ prevs ms → buckets ns ≡ buckets ms → entryNumbers ns ≡ entryNumbers ms

@@ -5,24 +5,22 @@ use mathlib.Core.Path.{_≡_, refl, sym, ap, subst, _∙_}
 use mathlib.Core.Bool.{Bool, true, false}
 use mathlib.Core.List.{List}
 use lib.ListN.{length, length-map}
-use Rattle.rules.specs.Geometry.{wheel01}
+use Rattle.rules.specs.Places.{wheel01}
 use Rattle.rules.specs.Wheel.{refused, ok}
-use Rattle.wheel_rules.specs.declared.records.Clock.{Clock}
-use Rattle.wheel_rules.specs.records.Records.{Records, records, nodes, entries}
+use Rattle.wheel_rules.specs.declared.calls.Clock.{Clock}
+use Rattle.wheel_rules.specs.Lent.{Records, records, nodes, entries, NodesLengths}
 use Rattle.wheel_rules.specs.layout.Layout.{bareLinks, bareNodes, enabledWith, LayReady}
 use Rattle.wheel_rules.specs.layout.Around.{AroundReady, LaysAround}
 use Rattle.wheel_rules.proofs.layout.Bare.{bare-lays}
-use Rattle.wheel_rules.specs.sound.Clauses.{NodesLengths}
 use Rattle.wheel_rules.specs.refusals.Refuse.{LendableAround, RefusesAround, RefusesEnable}
 use Rattle.wheel_rules.proofs.refusals.Rows.{past}
 use Rattle.wheel_rules.proofs.refusals.Refusing.{enable-around}
 use Rattle.wheel_rules.proofs.calls.Acting.{lay-ready}
 use Rattle.wheel_rules.proofs.calls.Calling as calling
 use Rattle.wheel_rules.specs.calls.Work.{laidOut}
-use Rattle.wheel_rules.specs.calls.Promise.{enabling, Promised}
-use Rattle.face_rules.specs.declared.nodes.Node.{Node}
-use Rattle.face_rules.specs.nodes.Shown.{nexts, prevs, entryNumbers, generations, serials, shown}
-use Rattle.face_rules.specs.nodes.Shown.{buckets as homes}
+use Rattle.wheel_rules.specs.Promise.{enabling, Promised}
+use Rattle.face_rules.specs.declared.Node.{Node}
+use Rattle.face_rules.specs.Face.{nexts, prevs, entryNumbers, generations, serials, recordsOf as shown, buckets as homes}
 use Rattle.face_rules.specs.nodes.Columns.{columnsOf}
 use Rattle.face_rules.specs.nodes.Laid.{Laid}
 use Rattle.face_rules.proofs.nodes.InPlace.{columnsIn, laid-bare}

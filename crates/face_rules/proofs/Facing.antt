@@ -4,9 +4,9 @@ use mathlib.Core.Path.{_≡_, sym, subst}
 use mathlib.Core.Bool.{Bool}
 use mathlib.Core.List.{List}
 use Rattle.rules.specs.Wheel.{Call, Answer, refused}
-use Rattle.wheel_rules.specs.declared.records.Clock.{Clock}
-use Rattle.wheel_rules.specs.records.Records.{Records}
-use Rattle.wheel_rules.specs.calls.Promise.{Promised}
+use Rattle.wheel_rules.specs.declared.calls.Clock.{Clock}
+use Rattle.wheel_rules.specs.Lent.{Records}
+use Rattle.wheel_rules.specs.Promise.{Promised}
 use Rattle.face_rules.specs.nodes.Columns.{Columns, front}
 use Rattle.face_rules.specs.Crowded.{crowdedNumber}
 use Rattle.face_rules.specs.Works.{Stored, Loaded}

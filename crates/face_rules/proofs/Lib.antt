@@ -1,4 +1,5 @@
 -- The laws of the face. Determined and exports are what a reader looks for.
+pub mod nodes
 pub mod Turning
 pub mod Loading
 pub mod Crowding

@@ -7,11 +7,10 @@ use mathlib.Core.Bool.{Bool}
 use mathlib.Core.List.{List, _++_}
 use lib.ListN.{length, take, drop}
 use lib.Seq.{length-take-le, take-at}
-use Rattle.wheel_rules.specs.declared.records.Clock.{Clock}
-use Rattle.wheel_rules.specs.records.Records.{Records}
-use Rattle.wheel_rules.specs.refusals.Lent.{lent}
-use Rattle.face_rules.specs.declared.nodes.Node.{Node}
-use Rattle.face_rules.specs.nodes.Shown.{shown}
+use Rattle.wheel_rules.specs.declared.calls.Clock.{Clock}
+use Rattle.wheel_rules.specs.Lent.{Records, lent}
+use Rattle.face_rules.specs.declared.Node.{Node}
+use Rattle.face_rules.specs.Face.{recordsOf as shown}
 use Rattle.face_rules.specs.nodes.Columns.{Columns, columns, columnsOf, front, Holds, Loads, Stores}
 use Rattle.face_rules.specs.Works.{OfLoaded, OfStored}
 

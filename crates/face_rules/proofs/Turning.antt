@@ -1,7 +1,7 @@
 -- Each case of what a call over columns answers, in two.
 use Prim.Native.Nat.{ℕ}
 use mathlib.Core.Path.{_≡_, sym, ap}
-use Rattle.wheel_rules.specs.declared.records.Clock.{Clock}
+use Rattle.wheel_rules.specs.declared.calls.Clock.{Clock}
 use Rattle.wheel_rules.specs.declared.calls.Timed.{Timed}
 use Rattle.wheel_rules.specs.declared.calls.Timed.the-variants.{Done, Refused as TimedRefused}
 use Rattle.wheel_rules.specs.declared.calls.Noted.the-variants.{Done as Set, Refused as NotedRefused}
@@ -11,7 +11,7 @@ use Rattle.wheel_rules.specs.declared.calls.Rescheduled as reschedule
 use Rattle.wheel_rules.specs.declared.calls.Rescheduled.the-variants as rescheduled
 use Rattle.wheel_rules.specs.declared.calls.Pulled as pull
 use Rattle.wheel_rules.specs.declared.calls.Pulled.the-variants as pulled
-use Rattle.wheel_rules.specs.calls.Answers as there
+use Rattle.wheel_rules.specs.Promise as there
 use Rattle.face_rules.specs.declared.Scheduled.the-variants.{Armed, Refused as ScheduledRefused}
 use Rattle.face_rules.specs.declared.Rescheduled.the-variants.{Moved, Removed, Refused as RescheduledRefused}
 use Rattle.face_rules.specs.declared.Pulled.the-variants.{Expired, Rescheduled as Placed, End, Refused as PulledRefused}

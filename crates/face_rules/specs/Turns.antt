@@ -1,17 +1,17 @@
--- What a call over parallel slices answers, in two: the answer without the clock, and the clock from now on, which is
+-- inner: what a call over parallel slices answers, in two: the answer without the clock, and the clock from now on, which is
 -- the caller's own where none is handed back.
 use mathlib.Core.Path.{_≡_}
-use Rattle.wheel_rules.specs.declared.records.Clock.{Clock}
-use Rattle.wheel_rules.specs.declared.calls.Timed.{Timed}
-use Rattle.wheel_rules.specs.declared.calls.Scheduled.{Scheduled}
-use Rattle.wheel_rules.specs.declared.calls.Rescheduled.{Rescheduled}
-use Rattle.wheel_rules.specs.declared.calls.Pulled.{Pulled}
-use Rattle.wheel_rules.specs.calls.Answers as there
+use Rattle.face_rules.specs.Face.{scheduledSays, rescheduledSays, pulledSays}
 use Rattle.face_rules.specs.declared.NotedTurn.{NotedTurn}
-use Rattle.face_rules.specs.declared.ScheduledTurn.{ScheduledTurn}
-use Rattle.face_rules.specs.declared.RescheduledTurn.{RescheduledTurn}
 use Rattle.face_rules.specs.declared.PulledTurn.{PulledTurn}
-use Rattle.face_rules.specs.Answers.{scheduledSays, rescheduledSays, pulledSays}
+use Rattle.face_rules.specs.declared.RescheduledTurn.{RescheduledTurn}
+use Rattle.face_rules.specs.declared.ScheduledTurn.{ScheduledTurn}
+use Rattle.wheel_rules.specs.Promise as there
+use Rattle.wheel_rules.specs.declared.calls.Pulled.{Pulled}
+use Rattle.wheel_rules.specs.declared.calls.Rescheduled.{Rescheduled}
+use Rattle.wheel_rules.specs.declared.calls.Scheduled.{Scheduled}
+use Rattle.wheel_rules.specs.declared.calls.Timed.{Timed}
+use Rattle.wheel_rules.specs.declared.calls.Clock.{Clock}
 
 pub record TurnsTimed (own : Clock) (r : Timed) (t : NotedTurn) : Type 0 where
   pub says : there.notedSays (t .answer) ≡ there.timedSays r

@@ -1,5 +1,4 @@
 -- Lent nodes and the six columns that they are read into.
-pub mod Shown
 pub mod Columns
 pub mod Laid
 pub mod Blocks

@@ -1,9 +1,18 @@
 // The face: the wheel's calls over lent nodes. Its promises, the theorems about them, and what the calls answer. No
 // code.
-pub mod nodes;
-
+use wheel_rules::calls::Clock;
 use wheel_rules::calls::Noted;
-use wheel_rules::records::Clock;
+
+// One slot: its links, its bucket (or none), and the timer armed there: entry, generation and serial.
+#[repr(C)]
+pub struct Node {
+    pub next: usize,
+    pub prev: usize,
+    pub bucket: usize,
+    pub entry: usize,
+    pub generation: u32,
+    pub serial: u64,
+}
 
 pub struct ScheduledTurn {
     pub clock: Clock,

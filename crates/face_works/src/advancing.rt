@@ -1,14 +1,14 @@
 // The work of start and abandon. For proved code only, unchecked: it hands over columns that are long enough.
-ghost use Rattle.face_rules.specs.nodes.Columns.{Holds, columns};
-ghost use Rattle.rules.specs.Wheel.{start, abandon};
-ghost use Rattle.wheel_rules.specs.calls.Answers.{notedSays};
 ghost use Rattle.face_rules.specs.Works.{Loaded};
+ghost use Rattle.face_rules.specs.nodes.Columns.{Holds, columns};
 ghost use Rattle.face_rules.specs.nodes.Lending.{columnsBefore};
+ghost use Rattle.rules.specs.Wheel.{start, abandon};
+ghost use Rattle.wheel_rules.specs.Promise.{notedSays};
 use crate::answers::timed;
 use crate::refusals::crowded;
 use face_rules::NotedTurn;
+use wheel_rules::calls::Clock;
 use wheel_rules::calls::Noted;
-use wheel_rules::records::Clock;
 
 // Start: opens an advance to q. Refuses (1, 4, 5).
 pub fn start_work(

@@ -9,9 +9,9 @@ use face_rules::Rescheduled;
 pub use face_rules::RescheduledTurn;
 use face_rules::Scheduled;
 pub use face_rules::ScheduledTurn;
+use wheel_rules::calls::Clock;
 use wheel_rules::calls::Noted;
 use wheel_rules::calls::Timed;
-use wheel_rules::records::Clock;
 
 pub fn timed(own: Clock, r: Timed) -> NotedTurn
     ensures { λ t. ⌜ TurnsTimed own r t ⌝ }

@@ -1,13 +1,13 @@
 // The work of armed count and next due. For proved code only, unchecked: it hands over columns that are long enough.
-ghost use Rattle.face_rules.specs.nodes.Columns.{Holds, columns};
-ghost use Rattle.rules.specs.Wheel.{armedCount, nextDue};
-ghost use Rattle.wheel_rules.specs.calls.Answers.{countedSays, dueSays};
 ghost use Rattle.face_rules.specs.Works.{Loaded};
+ghost use Rattle.face_rules.specs.nodes.Columns.{Holds, columns};
 ghost use Rattle.face_rules.specs.nodes.Lending.{columnsBefore};
+ghost use Rattle.rules.specs.Wheel.{armedCount, nextDue};
+ghost use Rattle.wheel_rules.specs.Promise.{countedSays, dueSays};
 use crate::refusals::crowded;
+use wheel_rules::calls::Clock;
 use wheel_rules::calls::Counted;
 use wheel_rules::calls::Due;
-use wheel_rules::records::Clock;
 
 // Armed count: how many slots are armed. Refuses (1, 4).
 pub fn armed_count_work(

@@ -1,11 +1,11 @@
 // The work of enable, over what is lent beside the nodes: the nodes themselves are laid out in place, where it says so.
 // No `requires`.
-ghost use Rattle.wheel_rules.specs.calls.Answers.{notedSays};
 ghost use Rattle.face_rules.specs.Works.{Enabled};
+ghost use Rattle.wheel_rules.specs.Promise.{notedSays};
 use face_rules::LaidTurn;
 use wheel_refusals::around_refusal;
+use wheel_rules::calls::Clock;
 use wheel_rules::calls::Noted;
-use wheel_rules::records::Clock;
 use wheel_timers::around::lay_out_around;
 
 // Enable over n nodes: sentinels placed, the other slots free, each entry without a deadline, whatever the records

@@ -1,14 +1,14 @@
 // The work of pull. For proved code only, unchecked: it hands over columns that are long enough.
-ghost use Rattle.face_rules.specs.nodes.Columns.{Holds, columns};
-ghost use Rattle.rules.specs.Wheel.{pull};
-ghost use Rattle.face_rules.specs.Answers.{pulledSays};
+ghost use Rattle.face_rules.specs.Face.{pulledSays};
 ghost use Rattle.face_rules.specs.Works.{Stored};
+ghost use Rattle.face_rules.specs.nodes.Columns.{Holds, columns};
 ghost use Rattle.face_rules.specs.nodes.Lending.{columnsBefore, columnsAfter};
+ghost use Rattle.rules.specs.Wheel.{pull};
 use crate::answers::pulled;
 use crate::refusals::crowded;
 use face_rules::Pulled;
 use face_rules::PulledTurn;
-use wheel_rules::records::Clock;
+use wheel_rules::calls::Clock;
 
 // Pull: one event of the open advance, or End. Refuses (1, 4, 6).
 pub fn pull_work(

@@ -2,7 +2,7 @@
 // `requires`.
 ghost use mathlib.Core.Path.{_≡_};
 ghost use Rattle.face_rules.specs.Crowded.{crowdedNumber};
-use wheel_rules::records::Clock;
+use wheel_rules::calls::Clock;
 
 // 1, 4.
 pub fn crowded(clock: Clock) -> u64

@@ -1,14 +1,14 @@
 // The work of set entry. For proved code only, unchecked: it hands over columns that are long enough.
 ghost use mathlib.Core.Bool.{cond};
 ghost use mathlib.Core.Option.{none, some};
-ghost use Rattle.face_rules.specs.nodes.Columns.{Holds, columns};
-ghost use Rattle.rules.specs.Wheel.{setEntry};
-ghost use Rattle.wheel_rules.specs.calls.Answers.{notedSays};
 ghost use Rattle.face_rules.specs.Works.{Loaded};
+ghost use Rattle.face_rules.specs.nodes.Columns.{Holds, columns};
 ghost use Rattle.face_rules.specs.nodes.Lending.{columnsBefore};
+ghost use Rattle.rules.specs.Wheel.{setEntry};
+ghost use Rattle.wheel_rules.specs.Promise.{notedSays};
 use crate::refusals::crowded;
+use wheel_rules::calls::Clock;
 use wheel_rules::calls::Noted;
-use wheel_rules::records::Clock;
 
 // Set entry: whether the entry e has a deadline, which, and its generation. Refuses (1, 4, 5, 7).
 pub fn set_entry_work(

@@ -1,11 +1,11 @@
 // The work of schedule, reschedule and deschedule. For proved code only, unchecked: it hands over columns that are long
 // enough.
-ghost use Rattle.face_rules.specs.nodes.Columns.{Holds, columns};
-ghost use Rattle.rules.specs.Wheel.{schedule, reschedule, deschedule};
-ghost use Rattle.wheel_rules.specs.calls.Answers.{notedSays};
-ghost use Rattle.face_rules.specs.Answers.{scheduledSays, rescheduledSays};
+ghost use Rattle.face_rules.specs.Face.{scheduledSays, rescheduledSays};
 ghost use Rattle.face_rules.specs.Works.{Stored};
+ghost use Rattle.face_rules.specs.nodes.Columns.{Holds, columns};
 ghost use Rattle.face_rules.specs.nodes.Lending.{columnsBefore, columnsAfter};
+ghost use Rattle.rules.specs.Wheel.{schedule, reschedule, deschedule};
+ghost use Rattle.wheel_rules.specs.Promise.{notedSays};
 use crate::answers;
 use crate::refusals::crowded;
 use face_rules::NotedTurn;
@@ -13,8 +13,8 @@ use face_rules::Rescheduled;
 use face_rules::RescheduledTurn;
 use face_rules::Scheduled;
 use face_rules::ScheduledTurn;
+use wheel_rules::calls::Clock;
 use wheel_rules::calls::Noted;
-use wheel_rules::records::Clock;
 
 // Schedule: a new node for the entry e, whose generation is h. Refuses (1, 4, 5, 7 to 11).
 pub fn schedule_work(

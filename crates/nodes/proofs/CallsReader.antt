@@ -39,7 +39,7 @@ use denote.Triple.Clauses.{ensured, closing}
 use denote.Triple.Spec.{tripleOf}
 use denote.Triple.Statement.{Contract, Triple}
 use denote.Triple.Walked.{says}
-use Rattle.face_rules.specs.declared.nodes.Node.{Node}
+use Rattle.face_rules.specs.declared.Node.{Node}
 use Rattle.face_rules.specs.nodes.Blocks.{Reaches, written}
 use Rattle.nodes.proofs.Lending.{ref-at, Lease, lft-of, lends-row, row-back}
 use Rattle.nodes.proofs.Reading.{Field, signature, ended, clauses}

@@ -52,7 +52,7 @@ use denote.Triple.Entry.{onEntry}
 use denote.Triple.Spec.{Meets}
 use denote.Triple.Walked.{says, needs, Stays, stay-dropped, stay-slice, walkOf, goes-dropped, goes-slice, Walks, ends-at, walked, walk-meets}
 use denote.Exit.{yes}
-use Rattle.face_rules.specs.declared.nodes.Node.{Node}
+use Rattle.face_rules.specs.declared.Node.{Node}
 use Rattle.face_rules.specs.nodes.Blocks.{Reaches, written}
 use Rattle.nodes.proofs.Counts.{counts, yes-less, not-less, one-more}
 use Rattle.face_rules.proofs.nodes.Using.{blank}

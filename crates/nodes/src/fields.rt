@@ -2,9 +2,9 @@
 // stream. For load alone, unchecked.
 // Nothing is assumed of what the nodes hold.
 ghost use mathlib.Core.Path.{_≡_};
-ghost use Rattle.face_rules.specs.nodes.Shown.{nexts, prevs, buckets, entryNumbers, generations, serials};
+ghost use Rattle.face_rules.specs.Face.{nexts, prevs, buckets, entryNumbers, generations, serials};
 ghost use Rattle.face_rules.specs.nodes.Blocks.{Reaches, written};
-use face_rules::nodes::Node;
+use face_rules::Node;
 
 pub fn read_next(nodes: &[Node], next: &mut [usize], from: usize, to: usize)
     requires { ⌜ Reaches (now nodes) (now next) from to ⌝ }

@@ -2,10 +2,10 @@
 // more of them than a wheel may have are written too.
 ghost use mathlib.Core.Path.{_≡_};
 ghost use Prim.Native.Nat.{_<_};
-ghost use Rattle.rules.specs.Geometry.{wheel01, buckets};
 ghost use Rattle.face_rules.specs.nodes.Laid.{turnsOf, laidNode, Laid};
+ghost use Rattle.rules.specs.Places.{wheel01, buckets};
 use deque::NONE;
-use face_rules::nodes::Node;
+use face_rules::Node;
 use wheel_refusals::BUCKETS;
 
 // How many of n nodes are written: all of them or none.

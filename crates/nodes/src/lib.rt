@@ -16,7 +16,7 @@ use crate::fields::read_generation;
 use crate::fields::read_next;
 use crate::fields::read_prev;
 use crate::fields::read_serial;
-pub use face_rules::nodes::Node;
+pub use face_rules::Node;
 
 // The length of a column: 72 more than are used, so that equal places of two columns do not fall into the same set of
 // the cache.

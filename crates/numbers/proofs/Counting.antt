@@ -5,7 +5,8 @@ use mathlib.Core.Path.{_≡_, refl, ap}
 use mathlib.Core.Logic.{inl, inr, ⊎-elim}
 use mathlib.Core.List.{List, [], _∷_, _++_}
 use lib.ListN.{length, getD, length-append}
-use Rattle.numbers.specs.Lists.{In, Once, remove, upFrom}
+use Rattle.numbers.specs.Lists.{remove}
+use Rattle.numbers.specs.Shared.{In, Once, upFrom}
 use Rattle.numbers.proofs.Cases.{same?}
 use Rattle.numbers.proofs.Members.{in?, in-at, kept, length-remove, in-app, app-left, app-right, once-app}
 

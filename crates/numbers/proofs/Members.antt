@@ -5,7 +5,8 @@ use mathlib.Core.Logic.{_⊎_, inl, inr, ⊎-elim}
 use mathlib.Core.List.{List, [], _∷_, _++_}
 use lib.ListN.{length}
 use borrow.Author.Tests.{eq-eqb, ne-eqb}
-use Rattle.numbers.specs.Lists.{In, Once, lastOr, remove, before, after}
+use Rattle.numbers.specs.Lists.{lastOr, remove}
+use Rattle.numbers.specs.Shared.{In, Once, beforeIn as before, afterIn as after}
 use Rattle.numbers.proofs.Cases.{same?}
 
 pub in? : (x : ℕ) (ys : List ℕ) → In x ys ⊎ (In x ys → ⊥)

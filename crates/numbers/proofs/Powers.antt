@@ -10,7 +10,7 @@ use lib.Dec.{eqb, ltb, leb}
 use lib.Pow.{pow-pos, pow-mono}
 use lib.Bits.{bitAnd, and-step, and-self, and-comm, and-mask}
 use borrow.Author.Tests.{eqb-true, eq-eqb, ne-eqb, ltb-true, ltb-false, leb-true, leb-false, le-leb, lt-leb}
-use Rattle.numbers.specs.Powers.{isPowerTo, powerFor}
+use Rattle.numbers.specs.Shared.{isPowerTo, powerFor}
 
 -- n is a power of two with an exponent up to k
 pub record Power (k n : ℕ) : Type 0 where

@@ -2,7 +2,7 @@
 use Prim.Native.Nat.{ℕ}
 use mathlib.Core.Path.{_≡_, sym, _∙_}
 use mathlib.Core.Logic.{inl, inr}
-use Rattle.numbers.specs.Rows.{unless, answered}
+use Rattle.numbers.specs.Shared.{unless, notRefused as answered}
 
 abbrev pub Single : (ℕ → Type 0) → Type 0
 Single rows = (j k : ℕ) → rows j → rows k → j ≡ k

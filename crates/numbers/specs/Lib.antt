@@ -1,8 +1,5 @@
 -- What the contracts of `numbers` cite, the form that refusals and answers have, lists of numbers, and the numbers that
 -- are no slot.
-pub mod Powers
-pub mod Answers
+pub mod Shared
 pub mod Rows
 pub mod Lists
-pub mod Lending
-pub mod Slots

@@ -2,7 +2,7 @@
 // number, and the two that are no slot.
 ghost use mathlib.Core.Path.{_≡_};
 ghost use Prim.Native.Nat.{_*_, _%_, _^_};
-ghost use Rattle.numbers.specs.Powers.{powerFor, isPowerTo};
+ghost use Rattle.numbers.specs.Shared.{powerFor, isPowerTo};
 
 pub mod slots; // what a link or a cursor holds where it stands at no slot
 

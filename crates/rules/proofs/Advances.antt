@@ -6,14 +6,11 @@ use mathlib.Core.Logic.{_⊎_, inl, inr, ⊎-elim}
 use mathlib.Core.Bool.{Bool, true, false}
 use mathlib.Core.Option.{Option, none, some}
 use mathlib.Core.List.{List, [], _∷_, _++_}
-use Rattle.rules.specs.Geometry.{Geometry}
-use Rattle.rules.specs.Lists.{Lists, enter}
-use Rattle.rules.specs.Wheel.{Entry, Advance, closed, poised, within, Wheel, Call, create, enable, setEntry, schedule, reschedule, deschedule, start}
-use Rattle.rules.specs.Wheel.{pull, abandon, armedCount, nextDue, Answer, ok, end}
-use Rattle.rules.specs.Refusals.{isOpen, rows, testsOf, refusal}
-use Rattle.rules.specs.Pull.{Found, emptied, Pulled, stopped, swept, pulled}
-use Rattle.rules.specs.Calls.{armed, rearmed, origin, act, judged, step}
-use Rattle.rules.specs.Runs.{Run, answer, next, after}
+use Rattle.rules.specs.Places.{Geometry}
+use Rattle.rules.specs.Wheel.{Lists, enter, Entry, Advance, closed, poised, within, Wheel, Call, create, enable, setEntry, schedule, reschedule}
+use Rattle.rules.specs.Wheel.{deschedule, start, pull, abandon, armedCount, nextDue, Answer, ok, end}
+use Rattle.rules.specs.Calls.{isOpen, rows, testsOf, Found, emptied, AfterPull as Pulled, stopped, swept, pulled, armed, rearmed, origin, act, judged}
+use Rattle.rules.specs.Runs.{refusal, step, Run, answer, next, after}
 use Rattle.rules.specs.Demand3.{StaysOpen, Advancing}
 use Rattle.numbers.proofs.Cases.{not-both}
 use Rattle.rules.proofs.Passing.{rest, pass-not, ready, running}

@@ -5,17 +5,14 @@ use mathlib.Core.Path.{_≡_, refl, sym, ap, subst, _∙_}
 use mathlib.Core.Bool.{true, false}
 use mathlib.Core.Option.{Option, none, some}
 use mathlib.Core.List.{List, [], _∷_}
-use Rattle.rules.specs.Geometry.{Geometry, buckets}
-use Rattle.rules.specs.Place.{bucketOf, effective}
-use Rattle.rules.specs.Lists.{Node, Lists, newNode, placedIn, update, link, unlink, claim}
-use Rattle.rules.specs.Wheel.{Advance, closed, poised, within, Wheel, Call, create, enable, setEntry, schedule, reschedule, deschedule, start, pull}
-use Rattle.rules.specs.Wheel.{abandon, armedCount, nextDue, handle, ok}
-use Rattle.rules.specs.Refusals.{isOpen, rows, testsOf, refusal}
-use Rattle.rules.specs.Calls.{armed, rearmed, act, judged, step}
+use Rattle.rules.specs.Places.{Geometry, buckets, bucketOf}
+use Rattle.rules.specs.Place.{effective}
+use Rattle.rules.specs.Wheel.{Node, Lists, newNode, placedIn, update, link, unlink, claim, Advance, closed, poised, within, Wheel, Call, create}
+use Rattle.rules.specs.Wheel.{enable, setEntry, schedule, reschedule, deschedule, start, pull, abandon, armedCount, nextDue, handle, ok, Timely}
+use Rattle.rules.specs.Calls.{isOpen, rows, testsOf, armed, rearmed, act, judged}
+use Rattle.rules.specs.Runs.{refusal, step, Run, next}
 use Rattle.rules.specs.Sound.{Sound, SoundIfEnabled}
-use Rattle.rules.specs.Runs.{Run, next}
 use Rattle.rules.specs.Demand3.{Arms}
-use Rattle.rules.specs.Timers.{Timely}
 use Rattle.numbers.proofs.Cases.{not-both}
 use Rattle.rules.proofs.Counting.{update-is}
 use Rattle.rules.proofs.Effective.{effective-placed}

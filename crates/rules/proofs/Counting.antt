@@ -7,7 +7,8 @@ use mathlib.Core.Bool.{cond}
 use mathlib.Core.List.{List, [], _∷_, _++_}
 use lib.Dec.{eqb}
 use borrow.Author.Tests.{eq-eqb, ne-eqb}
-use Rattle.rules.specs.Lists.{Bucket, update, without, hit, count, times, upwards}
+use Rattle.rules.specs.Lists.{times}
+use Rattle.rules.specs.Wheel.{Bucket, update, without, hit, count, upwards}
 use Rattle.numbers.proofs.Cases.{same?}
 
 pub hit-is : (b c : ℕ) → b ≡ c → hit b c ≡ 1

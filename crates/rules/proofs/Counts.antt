@@ -8,9 +8,8 @@ use mathlib.Core.Option.{Option, none, some}
 use mathlib.Core.List.{List, [], _∷_}
 use lib.ListN.{length}
 use borrow.Author.Tests.{lt-ltb, le-ltb}
-use Rattle.rules.specs.Geometry.{Geometry, buckets}
-use Rattle.rules.specs.Lists.{Lists, count}
-use Rattle.rules.specs.Wheel.{Wheel}
+use Rattle.rules.specs.Places.{Geometry, buckets}
+use Rattle.rules.specs.Wheel.{Lists, count, Wheel}
 use Rattle.rules.specs.Calls.{armedBelow, sooner, keyOf, leastKey}
 use Rattle.rules.specs.Sound.{spare, SoundLists, Sound}
 use Rattle.numbers.proofs.Cases.{below?, same?}

@@ -5,16 +5,13 @@ use mathlib.Core.Path.{_≡_, refl, sym, ap, subst, _∙_}
 use mathlib.Core.Logic.{_⊎_, inl, inr, ⊎-elim}
 use mathlib.Core.Bool.{true, false}
 use mathlib.Core.List.{List, [], _∷_, _++_, append-assoc}
-use Rattle.rules.specs.Geometry.{Geometry}
+use Rattle.rules.specs.Places.{Geometry}
 use Rattle.rules.specs.Place.{effective}
-use Rattle.rules.specs.Lists.{Node}
-use Rattle.rules.specs.Wheel.{Advance, closed, poised, within, Wheel, Call, create, start, pull, ok, end, expired}
-use Rattle.rules.specs.Refusals.{isOpen, refusal}
-use Rattle.rules.specs.Calls.{origin, step}
-use Rattle.rules.specs.Runs.{Run, answer, next, answers, after}
-use Rattle.rules.specs.Demand3.{Arms, Unchanged, NotYet, InOneBucket, StaysOpen, Advancing, Full, NoneBefore}
-use Rattle.rules.specs.Timers.{Timely, Changes, handsOut, handed, Later}
-use Rattle.rules.specs.Demand3.{AbandonedOneHad, Demand3}
+use Rattle.rules.specs.Wheel.{Node, Advance, closed, poised, within, Wheel, Call, create, start, pull, ok, end, expired, Timely, Changes, handsOut}
+use Rattle.rules.specs.Wheel.{handed, Later}
+use Rattle.rules.specs.Calls.{isOpen, origin}
+use Rattle.rules.specs.Runs.{refusal, step, Run, answer, next, answers, after}
+use Rattle.rules.specs.Demand3.{Arms, Unchanged, NotYet, InOneBucket, StaysOpen, Advancing, Full, NoneBefore, AbandonedOneHad, Demand3}
 use Rattle.numbers.proofs.Cases.{below?, not-both}
 use Rattle.rules.proofs.Counting.{hit-is}
 use Rattle.rules.proofs.Effective.{effective-deadline}
@@ -23,8 +20,8 @@ use Rattle.rules.proofs.WaitingCalls.{Waits, Goes, each-call}
 use Rattle.rules.proofs.PastCalls.{each-call-past}
 use Rattle.rules.proofs.SoundCalls.{sound-created}
 use Rattle.rules.proofs.Arming.{Armed, arms-waiting}
-use Rattle.rules.proofs.Advances.{Stays, while-open, start-taken, after-app, stays-last, stays-app, stays-prefix, stays-first, advancing-clock, Opened}
-use Rattle.rules.proofs.Advances.{opened-by, Closed, closed-by}
+use Rattle.rules.proofs.Advances.{Stays, while-open, start-taken, after-app, stays-last, stays-app, stays-prefix, stays-first, advancing-clock}
+use Rattle.rules.proofs.Advances.{Opened, opened-by, Closed, closed-by}
 
 -- ---- lists of calls
 handed-app : (g : Geometry) (n : ℕ) (R : Run) (cs ds : List Call) → handed n (answers g R (cs ++ ds)) ≡ handed n (answers g R cs) + handed n

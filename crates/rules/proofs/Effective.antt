@@ -2,8 +2,8 @@
 use Prim.Native.Nat.{ℕ, _≤_}
 use native.Mathlib.Omega.{arith}
 use mathlib.Core.Path.{_≡_, refl}
-use Rattle.rules.specs.Geometry.{Geometry, tick}
-use Rattle.rules.specs.Place.{bucketOf, effective}
+use Rattle.rules.specs.Places.{Geometry, tick, bucketOf}
+use Rattle.rules.specs.Place.{effective}
 use Rattle.rules.proofs.Placing.{InTime, placed-in-time}
 
 -- it is not before the deadline

@@ -5,12 +5,11 @@ use mathlib.Core.Logic.{_⊎_, inl, inr, ⊎-elim}
 use mathlib.Core.Bool.{true}
 use mathlib.Core.Option.{Option, none, some}
 use mathlib.Core.List.{List, [], _∷_}
-use Rattle.rules.specs.Geometry.{Geometry}
-use Rattle.rules.specs.Wheel.{Wheel, Call, create, enable, setEntry, schedule, reschedule, deschedule, start, pull, abandon, armedCount, nextDue, Answer}
-use Rattle.rules.specs.Timers.{Changes}
-use Rattle.rules.specs.Refusals.{refusal}
-use Rattle.rules.specs.Calls.{armed, rearmed, act, judged, step}
-use Rattle.rules.specs.Runs.{Run, next, after}
+use Rattle.rules.specs.Places.{Geometry}
+use Rattle.rules.specs.Wheel.{Wheel, Call, create, enable, setEntry, schedule, reschedule, deschedule, start, pull, abandon, armedCount, nextDue}
+use Rattle.rules.specs.Wheel.{Answer, Changes}
+use Rattle.rules.specs.Runs.{refusal, step, Run, next, after}
+use Rattle.rules.specs.Calls.{armed, rearmed, act, judged}
 use Rattle.rules.specs.Demand3.{Unchanged}
 
 armed-enabled : (g : Geometry) (w : Wheel) (e h : ℕ) (o : Option ℕ) (fs : List ℕ) → armed g w e h o fs .1 .enabled ≡ w .enabled

@@ -3,9 +3,8 @@
 use Prim.Native.Nat.{ℕ, _≤_}
 use mathlib.Core.Path.{_≡_, sym, subst, _∙_}
 use mathlib.Core.List.{List, [], _∷_, _++_, append-assoc}
-use Rattle.rules.specs.Geometry.{Geometry}
-use Rattle.rules.specs.Wheel.{Call, start, pull, end}
-use Rattle.rules.specs.Timers.{Later}
+use Rattle.rules.specs.Places.{Geometry}
+use Rattle.rules.specs.Wheel.{Call, start, pull, end, Later}
 use Rattle.rules.specs.Calls.{origin}
 use Rattle.rules.specs.Runs.{Run, answer, next, after}
 use Rattle.rules.specs.Demand3.{NoneBefore}

@@ -6,12 +6,9 @@ use mathlib.Core.Logic.{⊎-elim}
 use mathlib.Core.Option.{Option, none, some}
 use mathlib.Core.List.{List, [], _∷_}
 use borrow.Author.Tests.{le-leb, lt-leb}
-use Rattle.rules.specs.Geometry.{Geometry}
-use Rattle.rules.specs.Place.{bucketOf}
-use Rattle.rules.specs.Lists.{Node, Lists, placedIn, count, link, release, enter, pop}
-use Rattle.rules.specs.Wheel.{Entry, Advance, closed, poised, within, Answer}
-use Rattle.rules.specs.Pull.{Found, dealt, emptied, Pulled, stopped, swept, pulled}
-use Rattle.rules.specs.Timers.{handsOut}
+use Rattle.rules.specs.Places.{Geometry, bucketOf}
+use Rattle.rules.specs.Wheel.{Node, Lists, placedIn, count, link, release, enter, pop, Entry, Advance, closed, poised, within, Answer, handsOut}
+use Rattle.rules.specs.Calls.{Found, dealt, emptied, AfterPull as Pulled, stopped, swept, pulled}
 use Rattle.numbers.proofs.Cases.{below?}
 use Rattle.rules.proofs.Counting.{hit-is, hit-not}
 use Rattle.rules.proofs.Standing.{Gone, bearers-enter, bearers-else, pop-release, pop-link, serial-freed, serial-linked, early-pop}

@@ -8,12 +8,12 @@ use mathlib.Core.Option.{Option, none, some}
 use mathlib.Core.List.{List, [], _∷_, _++_, append-assoc, append-nil}
 use lib.ListN.{length, length-append}
 use borrow.Author.Tests.{eq-eqb, ne-eqb}
-use Rattle.rules.specs.Geometry.{Geometry}
-use Rattle.rules.specs.Place.{bucketOf}
-use Rattle.rules.specs.Lists.{Bucket, Node, Lists, whole, newNode, placedIn, count, times, pushed, link, unlink, claim, turned}
-use Rattle.rules.specs.Wheel.{Wheel, schedule, reschedule, handle, ok}
-use Rattle.rules.specs.Refusals.{refusal}
-use Rattle.rules.specs.Calls.{armed, rearmed, act, judged, step}
+use Rattle.rules.specs.Places.{Geometry, bucketOf}
+use Rattle.rules.specs.Lists.{times}
+use Rattle.rules.specs.Wheel.{Bucket, Node, Lists, whole, newNode, placedIn, count, atBack as pushed, link, unlink, claim, turned, Wheel, schedule}
+use Rattle.rules.specs.Wheel.{reschedule, handle, ok}
+use Rattle.rules.specs.Runs.{refusal, step}
+use Rattle.rules.specs.Calls.{armed, rearmed, act, judged}
 use Rattle.rules.specs.Order.{isLast, turnUntilLast}
 use Rattle.rules.proofs.Counting.{hit-is, count-app, update-is, update-not}
 

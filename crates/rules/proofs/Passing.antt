@@ -6,9 +6,10 @@ use mathlib.Core.Bool.{Bool, true, false, cond, not}
 use mathlib.Core.List.{List, [], _∷_}
 use lib.Dec.{eqb, leb}
 use borrow.Author.Tests.{eqb-true, leb-false}
-use Rattle.rules.specs.Geometry.{Geometry}
+use Rattle.rules.specs.Places.{Geometry}
 use Rattle.rules.specs.Wheel.{Advance, closed, poised, within, Wheel, reschedule}
-use Rattle.rules.specs.Refusals.{Row, pick, isOpen, isStale, refusal}
+use Rattle.rules.specs.Calls.{Row, pick, isOpen, isStale}
+use Rattle.rules.specs.Runs.{refusal}
 use Rattle.numbers.proofs.Cases.{not-both}
 
 abbrev pub rest : List (Row Bool) → List (Row Bool)

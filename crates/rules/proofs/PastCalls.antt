@@ -5,14 +5,11 @@ use mathlib.Core.Path.{_≡_, refl, sym, _∙_}
 use mathlib.Core.Bool.{true}
 use mathlib.Core.Option.{Option, none, some}
 use mathlib.Core.List.{List, [], _∷_}
-use Rattle.rules.specs.Geometry.{Geometry}
-use Rattle.rules.specs.Place.{bucketOf}
-use Rattle.rules.specs.Lists.{Node, Lists, newNode, placedIn, link, unlink, release, claim}
-use Rattle.rules.specs.Wheel.{Wheel, Call, create, enable, setEntry, schedule, reschedule, deschedule, start, pull, abandon, armedCount, nextDue, Answer}
-use Rattle.rules.specs.Refusals.{rows, testsOf, refusal}
-use Rattle.rules.specs.Calls.{armed, rearmed, act, judged, step}
-use Rattle.rules.specs.Runs.{Run, next}
-use Rattle.rules.specs.Timers.{Changes, handsOut}
+use Rattle.rules.specs.Places.{Geometry, bucketOf}
+use Rattle.rules.specs.Wheel.{Node, Lists, newNode, placedIn, link, unlink, release, claim, Wheel, Call, create, enable, setEntry, schedule}
+use Rattle.rules.specs.Wheel.{reschedule, deschedule, start, pull, abandon, armedCount, nextDue, Answer, Changes, handsOut}
+use Rattle.rules.specs.Calls.{rows, testsOf, armed, rearmed, act, judged}
+use Rattle.rules.specs.Runs.{refusal, step, Run, next}
 use Rattle.numbers.proofs.Cases.{not-both}
 use Rattle.rules.proofs.Standing.{Gone, bearers-else, unlink-release, unlink-link, claim-link, serial-freed, serial-linked}
 use Rattle.rules.proofs.Timers.{Past}

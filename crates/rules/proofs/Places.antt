@@ -8,8 +8,7 @@ use mathlib.Core.Bool.{cond}
 use mathlib.Core.List.{List, [], _∷_}
 use lib.ListN.{length, drop, length-append, length-drop}
 use borrow.Author.Tests.{lt-ltb}
-use Rattle.rules.specs.Geometry.{Geometry, tick, shiftOf, sizeOf}
-use Rattle.rules.specs.Visits.{moves, visited, visitsAt, visitsFrom, visitedAt, aheadFrom, ahead}
+use Rattle.rules.specs.Places.{Geometry, tick, shiftOf, sizeOf, moves, visited, visitsAt, visitsFrom, visitedAt, aheadFrom, ahead}
 use Rattle.numbers.proofs.Cases.{below?}
 use Rattle.rules.proofs.Ticks.{tick-up-mono}
 use Rattle.rules.proofs.Placing.{visits-none, visited-still}

@@ -11,9 +11,8 @@ use lib.Dec.{ltb}
 use lib.ListN.{length}
 use lib.Pow.{pow-pos, pow-mono}
 use borrow.Author.Tests.{lt-ltb, le-ltb, ltb-true, ltb-false}
-use Rattle.rules.specs.Geometry.{Geometry, tick, total, buckets, shiftOf, sizeOf, dense, firstOf}
-use Rattle.rules.specs.Place.{placeFrom, bucketOf}
-use Rattle.rules.specs.Visits.{moves, visited, ring, visitsAt, visitsFrom}
+use Rattle.rules.specs.Places.{Geometry, tick, total, buckets, shiftOf, sizeOf, dense, firstOf, placeFrom, bucketOf, moves, visited, ring, visitsAt}
+use Rattle.rules.specs.Places.{visitsFrom}
 use Rattle.numbers.proofs.Cases.{below?}
 use Rattle.rules.proofs.Ticks.{tick-mono, tick-up-mono, tick-later}
 

@@ -10,8 +10,8 @@ use lib.ListN.{length, getD, drop, drop-of-length-le}
 use lib.Seq.{drop-cons}
 use lib.Pow.{pow-pos}
 use borrow.Author.Tests.{lt-ltb, le-ltb}
-use Rattle.rules.specs.Geometry.{Geometry, tick, shiftOf, sizeOf, dense, firstOf}
-use Rattle.rules.specs.Visits.{moves, visited, ring, visitsFrom, visits, visitedAt, bucketAt, aheadFrom, ahead}
+use Rattle.rules.specs.Places.{Geometry, tick, shiftOf, sizeOf, dense, firstOf, moves, visited, ring, visitsFrom, visits, visitedAt, bucketAt}
+use Rattle.rules.specs.Places.{aheadFrom, ahead}
 use Rattle.numbers.proofs.Cases.{below?}
 use Rattle.rules.proofs.Ticks.{tick-up-mono}
 use Rattle.rules.proofs.Placing.{visits-none, visited-covers}

@@ -5,11 +5,10 @@ use mathlib.Core.Path.{_≡_, refl}
 use mathlib.Core.Bool.{true}
 use mathlib.Core.Option.{some}
 use mathlib.Core.List.{List, [], _∷_, _++_}
-use Rattle.rules.specs.Geometry.{wheel01, tick}
-use Rattle.rules.specs.Wheel.{Call, create, enable, setEntry, schedule, reschedule, start, pull, abandon}
+use Rattle.rules.specs.Places.{wheel01, tick}
+use Rattle.rules.specs.Wheel.{Call, create, enable, setEntry, schedule, reschedule, start, pull, abandon, handed}
 use Rattle.rules.specs.Runs.{Run, answers, after, next}
 use Rattle.rules.specs.Demand3.{Arms, Unchanged, Full, Demand3}
-use Rattle.rules.specs.Timers.{handed}
 use Rattle.rules.specs.Worked.{nothing}
 use Rattle.rules.proofs.Demand3.{demand3}
 

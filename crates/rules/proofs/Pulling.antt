@@ -6,20 +6,20 @@ use mathlib.Core.Logic.{_⊎_, inl, inr, ⊎-elim}
 use mathlib.Core.Option.{Option, none, some}
 use mathlib.Core.List.{List, [], _∷_}
 use borrow.Author.Tests.{eq-eqb, le-leb, lt-leb}
-use Rattle.rules.specs.Geometry.{Geometry}
-use Rattle.rules.specs.Place.{bucketOf, effective}
-use Rattle.rules.specs.Lists.{Node, Lists, newNode, placedIn, hit, count, times, link, release, enter, pop}
-use Rattle.rules.specs.Wheel.{Entry, Advance, poised, within, pull, Answer, expired}
-use Rattle.rules.specs.Pull.{Found, dealt, emptied, Pulled, stopped, swept, pulled}
+use Rattle.rules.specs.Places.{Geometry, bucketOf}
+use Rattle.rules.specs.Place.{effective}
+use Rattle.rules.specs.Lists.{times}
+use Rattle.rules.specs.Wheel.{Node, Lists, newNode, placedIn, hit, count, link, release, enter, pop, Entry, Advance, poised, within, pull, Answer}
+use Rattle.rules.specs.Wheel.{expired, Later, handsOut}
+use Rattle.rules.specs.Calls.{Found, dealt, emptied, AfterPull as Pulled, stopped, swept, pulled}
 use Rattle.rules.specs.Runs.{placing, noted}
-use Rattle.rules.specs.Timers.{Later, handsOut}
 use Rattle.numbers.proofs.Cases.{below?, same?}
 use Rattle.rules.proofs.Counting.{hit-is, hit-not, update-is, update-not}
 use Rattle.rules.proofs.Ticks.{tick-mono}
 use Rattle.rules.proofs.Placing.{Mem, in-time-back}
 use Rattle.rules.proofs.Effective.{effective-late, effective-placed}
-use Rattle.rules.proofs.Standing.{enter-same, pop-release, pop-link, At, Gone, at-same, bearers-enter, bearers-else, nowhere, pop-own, link-own, gone}
-use Rattle.rules.proofs.Standing.{serial-freed, serial-linked, early-link, early-pop}
+use Rattle.rules.proofs.Standing.{enter-same, pop-release, pop-link, At, Gone, at-same, bearers-enter, bearers-else, nowhere, pop-own, link-own}
+use Rattle.rules.proofs.Standing.{gone, serial-freed, serial-linked, early-link, early-pop}
 use Rattle.rules.proofs.Timers.{Due, Settled, Stage, Timer, timer-else, Ends}
 
 -- the timer x of the entry e, with the deadline d, in an advance from p to q; f holds the readings at last placings

@@ -7,9 +7,8 @@ use mathlib.Core.Logic.{_⊎_}
 use mathlib.Core.Bool.{true}
 use mathlib.Core.Option.{some}
 use mathlib.Core.List.{List, [], _∷_, _++_}
-use Rattle.rules.specs.Geometry.{wheel01, tick}
-use Rattle.rules.specs.Wheel.{Call, create, enable, setEntry, schedule, start, pull, abandon, ok, end, expired, rescheduled}
-use Rattle.rules.specs.Timers.{handed}
+use Rattle.rules.specs.Places.{wheel01, tick}
+use Rattle.rules.specs.Wheel.{Call, create, enable, setEntry, schedule, start, pull, abandon, ok, end, expired, rescheduled, handed}
 use Rattle.rules.specs.Runs.{Run, answers, after, next}
 use Rattle.rules.specs.Demand3.{Unchanged, NotYet, Advancing, Full, NoneBefore, AbandonedOneHad, Demand3}
 use Rattle.rules.specs.Worked.{nothing}

@@ -4,9 +4,9 @@ use Prim.Native.Nat.{ℕ}
 use mathlib.Core.Path.{_≡_, subst}
 use mathlib.Core.Option.{Option, none, some}
 use mathlib.Core.List.{List, [], _∷_}
-use Rattle.rules.specs.Geometry.{Geometry}
+use Rattle.rules.specs.Places.{Geometry}
 use Rattle.rules.specs.Wheel.{Wheel, Call, create, enable, setEntry, schedule, reschedule, deschedule, start, pull, abandon, armedCount, nextDue}
-use Rattle.rules.specs.Timers.{Changes, IsRefused, LeftAlone}
+use Rattle.rules.specs.Wheel.{Changes, IsRefused, LeftAlone}
 use Rattle.rules.specs.Calls.{act, judged, rearmed}
 use Rattle.rules.specs.Runs.{Run, next, answers}
 use Rattle.rules.specs.Demand3.{Unchanged}

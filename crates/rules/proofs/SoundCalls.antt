@@ -10,17 +10,13 @@ use mathlib.Core.Option.{Option, none, some}
 use mathlib.Core.List.{List, [], _∷_}
 use lib.Dec.{eqb, leb, ltb}
 use borrow.Author.Tests.{le-leb, lt-leb, ltb-true}
-use Rattle.rules.specs.Geometry.{Geometry, buckets}
-use Rattle.rules.specs.Place.{bucketOf}
-use Rattle.rules.specs.Visits.{visits, ahead}
-use Rattle.rules.specs.Lists.{Lists, newNode, placedIn, count, unlink, release, claim, enter, pop}
-use Rattle.rules.specs.Wheel.{Entry, Advance, closed, poised, within, Wheel, Call, create, enable, setEntry, schedule, reschedule, deschedule, start}
-use Rattle.rules.specs.Wheel.{pull, abandon, armedCount, nextDue, Answer}
-use Rattle.rules.specs.Refusals.{Row, isOpen, inRange, rows, testsOf, refusal}
-use Rattle.rules.specs.Pull.{Found, dealt, emptied, Pulled, stopped, swept, pulled}
-use Rattle.rules.specs.Calls.{armed, rearmed, act, judged, step}
+use Rattle.rules.specs.Places.{Geometry, buckets, bucketOf, visits, ahead}
+use Rattle.rules.specs.Wheel.{Lists, newNode, placedIn, count, unlink, release, claim, enter, pop, Entry, Advance, closed, poised, within, Wheel}
+use Rattle.rules.specs.Wheel.{Call, create, enable, setEntry, schedule, reschedule, deschedule, start, pull, abandon, armedCount, nextDue, Answer}
+use Rattle.rules.specs.Calls.{Row, isOpen, inRange, rows, testsOf, Found, dealt, emptied, AfterPull as Pulled, stopped, swept, pulled, armed, rearmed}
+use Rattle.rules.specs.Calls.{act, judged}
+use Rattle.rules.specs.Runs.{refusal, step, Run, next, after}
 use Rattle.rules.specs.Sound.{SoundLists, SoundAdvance, Sound, SoundIfEnabled}
-use Rattle.rules.specs.Runs.{Run, next, after}
 use Rattle.numbers.proofs.Cases.{below?, not-both}
 use Rattle.rules.proofs.Counting.{hit-is}
 use Rattle.rules.proofs.Placing.{bucketOf-in}

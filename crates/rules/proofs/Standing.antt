@@ -8,11 +8,12 @@ use mathlib.Core.Logic.{⊎-elim}
 use mathlib.Core.Bool.{true, false}
 use mathlib.Core.List.{List, [], _∷_}
 use borrow.Author.Tests.{eq-eqb, ne-eqb}
-use Rattle.rules.specs.Lists.{Bucket, Node, Lists, freed, update, hit, count, times, pushed, link, taken, unlink, release, claim, turned, enter}
-use Rattle.rules.specs.Lists.{shortened, pop}
+use Rattle.rules.specs.Lists.{times}
+use Rattle.rules.specs.Wheel.{Bucket, Node, Lists, freed, update, hit, count, atBack as pushed, link, taken, unlink, release, claim, turned, enter}
+use Rattle.rules.specs.Wheel.{shortened, pop}
 use Rattle.numbers.proofs.Cases.{same?, not-both}
-use Rattle.rules.proofs.Counting.{hit-is, hit-not, hit-most, hit-same, count-app, count-without, count-without-own, update-is, update-not, times-more}
-use Rattle.rules.proofs.Counting.{times-same}
+use Rattle.rules.proofs.Counting.{hit-is, hit-not, hit-most, hit-same, count-app, count-without, count-without-own, update-is, update-not}
+use Rattle.rules.proofs.Counting.{times-more, times-same}
 
 -- ---- what does not change
 -- z stands in M where it stands in L, and its record says the same

@@ -5,12 +5,11 @@ use mathlib.Core.Path.{_≡_}
 use mathlib.Core.Logic.{_⊎_}
 use mathlib.Core.Bool.{true}
 use mathlib.Core.Option.{some}
-use Rattle.rules.specs.Geometry.{Geometry, buckets}
+use Rattle.rules.specs.Places.{Geometry, buckets}
 use Rattle.rules.specs.Place.{effective}
-use Rattle.rules.specs.Lists.{Lists, newNode, hit, count}
-use Rattle.rules.specs.Wheel.{Advance, closed, poised, within, Answer, refused, ok, handle, removed, end, expired, rescheduled, number, due}
+use Rattle.rules.specs.Wheel.{Lists, newNode, hit, count, Advance, closed, poised, within, Answer, refused, ok, handle, removed, end, expired}
+use Rattle.rules.specs.Wheel.{rescheduled, number, due, Later}
 use Rattle.rules.specs.Runs.{Run}
-use Rattle.rules.specs.Timers.{Later}
 use Rattle.rules.proofs.Placing.{Mem, InTime, in-time-in}
 use Rattle.rules.proofs.Standing.{Elsewhere, At, Bearers, Gone, at-same, bearers-else}
 

@@ -4,11 +4,9 @@ use mathlib.Core.Path.{_≡_, refl, sym, ap, _∙_}
 use mathlib.Core.Option.{none, some}
 use mathlib.Core.List.{List, [], _∷_}
 use borrow.Author.Tests.{le-leb, lt-leb}
-use Rattle.rules.specs.Geometry.{Geometry}
-use Rattle.rules.specs.Place.{bucketOf, placeOf}
-use Rattle.rules.specs.Lists.{Lists, placedIn, link, release, enter, pop}
-use Rattle.rules.specs.Wheel.{Entry, closed, poised, within, end, expired, rescheduled}
-use Rattle.rules.specs.Pull.{emptied, Pulled, stopped, swept, pulled}
+use Rattle.rules.specs.Places.{Geometry, bucketOf, placeOf}
+use Rattle.rules.specs.Wheel.{Lists, placedIn, link, release, enter, pop, Entry, closed, poised, within, end, expired, rescheduled}
+use Rattle.rules.specs.Calls.{emptied, AfterPull as Pulled, stopped, swept, pulled}
 use Rattle.rules.proofs.Standing.{early-pop}
 
 module _ (g : Geometry) (E : ℕ → Entry) (p q : ℕ) where

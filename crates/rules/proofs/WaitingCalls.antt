@@ -7,17 +7,13 @@ use mathlib.Core.Bool.{true, false}
 use mathlib.Core.Option.{Option, none, some}
 use mathlib.Core.List.{List, [], _∷_}
 use borrow.Author.Tests.{eq-eqb, ne-eqb}
-use Rattle.rules.specs.Geometry.{Geometry, tick}
-use Rattle.rules.specs.Place.{bucketOf, effective}
-use Rattle.rules.specs.Visits.{visits}
-use Rattle.rules.specs.Lists.{Node, Lists, newNode, placedIn, update, count, link, unlink, release, claim}
-use Rattle.rules.specs.Wheel.{Advance, closed, poised, within, Wheel, Call, create, enable, setEntry, schedule, reschedule, deschedule, start, pull}
-use Rattle.rules.specs.Wheel.{abandon, armedCount, nextDue, Answer, expired}
-use Rattle.rules.specs.Refusals.{isOpen, isStale, rows, testsOf, refusal}
-use Rattle.rules.specs.Pull.{Pulled, pulled}
-use Rattle.rules.specs.Calls.{withLists, withNext, armed, rearmed, origin, act, judged, step}
-use Rattle.rules.specs.Runs.{Run, placing, noted, answer, next}
-use Rattle.rules.specs.Timers.{Changes, Later, handsOut}
+use Rattle.rules.specs.Places.{Geometry, tick, bucketOf, visits}
+use Rattle.rules.specs.Place.{effective}
+use Rattle.rules.specs.Wheel.{Node, Lists, newNode, placedIn, update, count, link, unlink, release, claim, Advance, closed, poised, within, Wheel}
+use Rattle.rules.specs.Wheel.{Call, create, enable, setEntry, schedule, reschedule, deschedule, start, pull, abandon, armedCount, nextDue, Answer}
+use Rattle.rules.specs.Wheel.{expired, Changes, Later, handsOut}
+use Rattle.rules.specs.Calls.{isOpen, isStale, rows, testsOf, AfterPull as Pulled, pulled, withLists, withNext, armed, rearmed, origin, act, judged}
+use Rattle.rules.specs.Runs.{refusal, step, Run, placing, noted, answer, next}
 use Rattle.numbers.proofs.Cases.{below?, same?, not-both}
 use Rattle.rules.proofs.Counting.{hit-is, update-not}
 use Rattle.rules.proofs.Placing.{Mem, in-time-back, in-time-on, in-time-after, in-time-weak, visits-none}

@@ -4,9 +4,10 @@ use mathlib.Core.Path.{_≡_, refl}
 use mathlib.Core.Bool.{true}
 use mathlib.Core.Option.{none, some}
 use mathlib.Core.List.{List, [], _∷_}
-use Rattle.rules.specs.Geometry.{wheel01, tick, shifts, counts, buckets}
-use Rattle.rules.specs.Wheel.{Call, create, enable, setEntry, schedule, reschedule, deschedule, start, pull, abandon, armedCount, nextDue, refused, ok}
-use Rattle.rules.specs.Wheel.{handle, removed, end, expired, rescheduled, number, due}
+use Rattle.rules.specs.Geometry.{shifts, counts}
+use Rattle.rules.specs.Places.{wheel01, tick, buckets}
+use Rattle.rules.specs.Wheel.{Call, create, enable, setEntry, schedule, reschedule, deschedule, start, pull, abandon, armedCount, nextDue, refused}
+use Rattle.rules.specs.Wheel.{ok, handle, removed, end, expired, rescheduled, number, due}
 use Rattle.rules.specs.Runs.{Run, answers, after}
 use Rattle.rules.specs.Worked.{nothing}
 

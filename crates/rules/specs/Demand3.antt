@@ -1,4 +1,4 @@
--- Demand 3: what is promised of a timer over a run of calls. The demand's words stand beside what states them.
+-- inner: demand 3: what is promised of a timer over a run of calls. The demand's words stand beside what states them.
 --
 -- "Let only this wheel's calls write the lent records. Arm or re-arm a timer whose deadline is not in an earlier tick
 -- than the wheel's reading, and change neither it nor its deadline afterwards. It stands in exactly one bucket until it
@@ -10,19 +10,17 @@
 -- A timer is its slot x and serial n; e is its entry, d its deadline, R the run just after it was armed. Each part
 -- speaks of every list of calls from there on.
 use Prim.Native.Nat.{ℕ, _≤_, _<_}
-use mathlib.Core.Path.{_≡_}
-use mathlib.Core.Logic.{_⊎_}
 use mathlib.Core.Bool.{true}
-use mathlib.Core.Option.{some}
 use mathlib.Core.List.{List, [], _∷_, _++_}
-use Rattle.rules.specs.Geometry.{Geometry, buckets}
-use Rattle.rules.specs.Lists.{hit, times}
-use Rattle.rules.specs.Wheel.{Wheel, Call, create, enable, setEntry, schedule, reschedule, deschedule, start, pull, abandon, armedCount, nextDue, Answer}
-use Rattle.rules.specs.Wheel.{refused, ok, handle, removed, end, expired, rescheduled, number, due}
-use Rattle.rules.specs.Timers.{Changes, handsOut, handed, Later}
-use Rattle.rules.specs.Refusals.{isOpen, refusal}
-use Rattle.rules.specs.Calls.{origin, step}
-use Rattle.rules.specs.Runs.{Run, answer, next, answers, after}
+use mathlib.Core.Logic.{_⊎_}
+use mathlib.Core.Option.{some}
+use mathlib.Core.Path.{_≡_}
+use Rattle.rules.specs.Calls.{isOpen, origin}
+use Rattle.rules.specs.Lists.{times}
+use Rattle.rules.specs.Places.{Geometry, buckets}
+use Rattle.rules.specs.Runs.{refusal, step, Run, answer, next, answers, after}
+use Rattle.rules.specs.Wheel.{hit, Wheel, Call, create, enable, setEntry, schedule, reschedule, deschedule, start, pull, abandon, armedCount, nextDue}
+use Rattle.rules.specs.Wheel.{ok, handle, end, expired, Changes, handsOut, handed, Later}
 
 -- ---- the premises
 -- "Arm or re-arm": the call, at the wheel w, is a schedule that answers the handle (x, n), or a reschedule with that

@@ -1,4 +1,4 @@
--- The order of a bucket, as 01 tells it step by step.
+-- inner: the order of a bucket, as 01 tells it step by step.
 use Prim.Native.Nat.{ℕ, zero, suc}
 use mathlib.Core.Bool.{Bool, false, cond}
 use mathlib.Core.List.{List, [], _∷_, _++_}

@@ -1,13 +1,25 @@
--- Runs: lists of calls, what they answer, and what they lead to.
--- A run keeps beside the wheel, for each serial, the reading at which the timer with that serial was last placed.
+-- inner: runs of the rules on sound wheels: lists of calls, what they answer, and what they lead to. A run keeps beside the
+-- wheel, for each serial, the reading at which the timer with that serial was last placed.
 use Prim.Native.Nat.{ℕ}
-use mathlib.Core.Option.{Option, none, some}
+use mathlib.Core.Bool.{true}
 use mathlib.Core.List.{List, [], _∷_}
-use Rattle.rules.specs.Geometry.{Geometry}
-use Rattle.rules.specs.Lists.{update}
-use Rattle.rules.specs.Wheel.{Wheel, Call, create, enable, setEntry, schedule, reschedule, deschedule, start, pull, abandon, armedCount, nextDue, Answer}
-use Rattle.rules.specs.Wheel.{refused, ok, handle, removed, end, expired, rescheduled, number, due}
-use Rattle.rules.specs.Calls.{step}
+use mathlib.Core.Option.{Option, none, some}
+use Rattle.rules.specs.Calls.{refusalIf, act, judged}
+use Rattle.rules.specs.Places.{Geometry}
+use Rattle.rules.specs.Wheel.{Wheel, Call, Answer, create, enable, setEntry, schedule, reschedule, deschedule, start, pull, abandon, armedCount}
+use Rattle.rules.specs.Wheel.{nextDue, refused, ok, handle, removed, end, expired, rescheduled, number, due, update}
+
+-- ======== refusals
+
+-- of a wheel on lists, whose every state that calls lead to is sound
+abbrev pub refusal : Geometry → Wheel → Call → ℕ
+refusal g w c = refusalIf g true w c
+
+-- ======== the calls
+
+-- a call on a sound wheel
+abbrev pub step : Geometry → Wheel → Call → Answer × Wheel
+step g w c = judged (refusal g w c) (act g w c) w
 
 pub record Run : Type 0 where
   pub wheel : Wheel

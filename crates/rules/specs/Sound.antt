@@ -1,14 +1,13 @@
--- 01's "Sound means", of a wheel on lists.
+-- inner: 01's "Sound means", of a wheel on lists.
 -- What 01 says there of links needs no sentence: lists have none. What it says of lengths is said of lent records (the
 -- code's soundness).
 use Prim.Native.Nat.{ℕ, suc, _≤_, _<_}
-use mathlib.Core.Path.{_≡_}
 use mathlib.Core.Bool.{true, cond}
+use mathlib.Core.Path.{_≡_}
 use lib.Dec.{ltb}
-use Rattle.rules.specs.Geometry.{Geometry, buckets}
-use Rattle.rules.specs.Visits.{visits, visitedAt, bucketAt, ahead}
-use Rattle.rules.specs.Lists.{Node, Lists, hit, count, times}
-use Rattle.rules.specs.Wheel.{Advance, closed, poised, within, Wheel}
+use Rattle.rules.specs.Lists.{times}
+use Rattle.rules.specs.Places.{Geometry, buckets, visits, visitedAt, bucketAt, ahead}
+use Rattle.rules.specs.Wheel.{Node, Lists, hit, count, Advance, closed, poised, within, Wheel}
 
 -- how often the free chain has to hold the slot y: once where it is free. A slot below D is a sentinel, one from
 -- `nodes` on is absent, any other is armed or free.

@@ -1,16 +1,13 @@
--- What 01's worked numbers of the wheel say, as tests that compute: a place, and the tick in which a deadline first
+-- inner: what 01's worked numbers of the wheel say, as tests that compute: a place, and the tick in which a deadline first
 -- fires.
 use Prim.Native.Nat.{ℕ, zero, suc, _+_, _-_, _*_, _^_}
 use mathlib.Core.Bool.{Bool, true, false, cond}
-use mathlib.Core.Option.{none, some}
 use mathlib.Core.List.{[], _∷_}
+use mathlib.Core.Option.{none, some}
 use lib.Dec.{eqb}
-use Rattle.rules.specs.Geometry.{wheel01}
-use Rattle.rules.specs.Place.{placeOf}
-use Rattle.rules.specs.Lists.{bare}
-use Rattle.rules.specs.Wheel.{closed, create, enable, setEntry, schedule, start, pull}
+use Rattle.rules.specs.Places.{wheel01, placeOf}
 use Rattle.rules.specs.Runs.{Run, answers, after}
-use Rattle.rules.specs.Timers.{handed}
+use Rattle.rules.specs.Wheel.{bare, closed, create, enable, setEntry, schedule, start, pull, handed}
 
 -- some run to begin with: create begins another wheel over whatever it holds
 abbrev pub nothing : Run

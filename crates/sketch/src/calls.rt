@@ -1,8 +1,7 @@
 // The sketch's public calls: refusals in order, then the unchecked work.
 ghost use mathlib.Core.Path.{_≡_};
 ghost use Prim.Native.Nat.{_<_, _≤_};
-ghost use Rattle.sketch_rules.specs.Sound.{sampleFor};
-ghost use Rattle.sketch_rules.specs.Calls.{unusedSketch, Ensures, Estimates, Increases};
+ghost use Rattle.sketch_rules.specs.Sketch.{sampleFor, unusedSketch, Ensures, Estimates, Increases};
 use crate::sound::is_sound;
 use crate::unchecked;
 use sketch_rules::Ensured;

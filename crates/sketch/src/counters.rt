@@ -4,8 +4,8 @@
 ghost use mathlib.Core.Path.{_≡_};
 ghost use Prim.Native.Nat.{_<_, _≤_};
 ghost use lib.ListN.{length};
-ghost use Rattle.sketch_rules.specs.Counters.{counter, Raises, Halves, odds};
-ghost use Rattle.sketch_rules.specs.Tables.{halvedTo, oddsTo};
+ghost use Rattle.sketch_rules.specs.Counters.{Raises, Halves};
+ghost use Rattle.sketch_rules.specs.Sketch.{counter, odds, halvedTo, oddsTo};
 
 // Counter k of a word.
 pub fn counter_at(w: u64, k: u64) -> u64

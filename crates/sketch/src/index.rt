@@ -3,8 +3,9 @@
 ghost use mathlib.Core.Path.{_≡_};
 ghost use Prim.Native.Nat.{_<_};
 ghost use mathlib.Core.Bool.{true};
-ghost use Rattle.numbers.specs.Powers.{isPowerTo};
-ghost use Rattle.sketch_rules.specs.Index.{seed, Places, wordIndex};
+ghost use Rattle.numbers.specs.Shared.{isPowerTo};
+ghost use Rattle.sketch_rules.specs.Index.{Places};
+ghost use Rattle.sketch_rules.specs.Sketch.{seed, wordIndex};
 
 // The seed of a depth.
 fn seed_of(depth: u64) -> u64

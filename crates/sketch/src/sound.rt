@@ -1,6 +1,6 @@
 // The soundness test of a sketch's record against a lent table of some length.
 ghost use mathlib.Core.Path.{_≡_};
-ghost use Rattle.sketch_rules.specs.Sound.{sound};
+ghost use Rattle.sketch_rules.specs.Sketch.{sound};
 use sketch_rules::Sketch;
 
 // Whether the record is sound. A power of two L is what a capacity c gives just where L / 2 < c and c <= L.

@@ -4,7 +4,7 @@ use mathlib.Core.List.{List, [], _∷_}
 use Prim.Native.Nat.{ℕ}
 use native.Mathlib.Omega.{arith}
 use lib.ListN.{length, getD}
-use Rattle.numbers.specs.Answers.{Answer}
+use Rattle.numbers.specs.Shared.{Reply as Answer}
 use Rattle.sketch_rules.specs.declared.Sketch.{Sketch}
 use Rattle.sketch_rules.specs.declared.Ensured.{Ensured}
 use Rattle.sketch_rules.specs.declared.Ensured.the-variants as ensured
@@ -12,8 +12,7 @@ use Rattle.sketch_rules.specs.declared.Estimated.{Estimated}
 use Rattle.sketch_rules.specs.declared.Estimated.the-variants as estimated
 use Rattle.sketch_rules.specs.declared.Increased.{Increased}
 use Rattle.sketch_rules.specs.declared.Increased.the-variants as increased
-use Rattle.sketch_rules.specs.Index.{wordIndex}
-use Rattle.sketch_rules.specs.Calls.{fields, unusedSketch, ensuredSays, estimatedSays, increasedSays, Ensures, Estimates, Increases}
+use Rattle.sketch_rules.specs.Sketch.{wordIndex, fields, unusedSketch, ensuredSays, estimatedSays, increasedSays, Ensures, Estimates, Increases}
 
 -- ---- an answer's number and values leave one answer
 

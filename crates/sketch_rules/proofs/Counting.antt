@@ -10,11 +10,9 @@ use lib.Dec.{ltb}
 use lib.ListN.{length, getD, set, length-set}
 use lib.Seq.{set-getD}
 use borrow.Author.Tests.{ltb-true, ltb-false}
-use Rattle.sketch_rules.specs.Counters.{counter, raised}
+use Rattle.sketch_rules.specs.Sketch.{counter, raised, wordAt, counterOf, countAt, least, raisedAt, risesAt, counted, rose}
 use Rattle.sketch_rules.proofs.Words.{counter-below}
 use Rattle.sketch_rules.proofs.Rises.{raised-new, raised-same, one-up}
-use Rattle.sketch_rules.specs.Index.{wordAt, counterOf}
-use Rattle.sketch_rules.specs.Hashes.{countAt, least, raisedAt, risesAt, counted, rose}
 
 -- ---- raising: the word changes just where the counter rises
 

@@ -9,11 +9,10 @@ use lib.Dec.{eqb}
 use lib.ListN.{length, getD, set}
 use lib.Seq.{getD-set-same, getD-set-other}
 use borrow.Author.Tests.{eqb-true, eqb-false, ne-eqb}
-use Rattle.sketch_rules.specs.Counters.{counter, raised}
+use Rattle.sketch_rules.specs.Sketch.{counter, raised, wordAt, counterOf, counted}
 use Rattle.sketch_rules.proofs.Rises.{raises-at}
 use Rattle.numbers.proofs.Replies.{and-not-right}
-use Rattle.sketch_rules.specs.Index.{wordAt, counterOf}
-use Rattle.sketch_rules.specs.Hashes.{counted, isCountedAt}
+use Rattle.sketch_rules.specs.Hashes.{isCountedAt}
 use Rattle.sketch_rules.proofs.Places.{word-below}
 use Rattle.sketch_rules.proofs.Counting.{counted-length}
 

@@ -8,17 +8,15 @@ use native.Mathlib.Omega.{arith}
 use lib.Dec.{eqb, ltb, leb}
 use lib.ListN.{length, replicate, drop, length-append, length-replicate, length-drop}
 use borrow.Author.Tests.{eqb-true, eqb-false, eq-eqb, ltb-true, ltb-false, leb-false, le-leb, lt-ltb}
-use Rattle.numbers.specs.Powers.{isPowerTo, powerFor}
+use Rattle.numbers.specs.Shared.{isPowerTo, powerFor}
 use Rattle.numbers.proofs.Powers.{power-means, power-gap, power-for-power, power-from, power-least, power-most, power-for-half}
 use Rattle.numbers.proofs.Replies.{and-both, and-right}
-use Rattle.sketch_rules.specs.Tables.{halvedTo, oddsTo}
+use Rattle.sketch_rules.specs.Sketch.{halvedTo, oddsTo, sound, wordsFor, sampleFor, gives, rose, grownSize, isFull, agedSize, settledTable}
+use Rattle.sketch_rules.specs.Sketch.{settledSketch, raisedTable, raisedSize, increasedTable, increasedSketch, unusedSketch, mustGrow, ensureRefusal}
+use Rattle.sketch_rules.specs.Sketch.{ensuredTable, ensuredSketch, SketchCall as Call, ensureCapacity, estimateHash, increaseHash, Holding as Held}
+use Rattle.sketch_rules.specs.Sketch.{refusalOf, sketchDone as done, sketchAfter as step, run}
 use Rattle.sketch_rules.proofs.Passes.{halved-length}
 use Rattle.sketch_rules.specs.declared.Sketch.{Sketch}
-use Rattle.sketch_rules.specs.Sound.{sound, wordsFor, sampleFor, gives}
-use Rattle.sketch_rules.specs.Hashes.{rose}
-use Rattle.sketch_rules.specs.Aging.{grownSize, isFull, agedSize, settledTable, settledSketch, raisedTable, raisedSize, increasedTable, increasedSketch}
-use Rattle.sketch_rules.specs.Calls.{unusedSketch, mustGrow, ensureRefusal, ensuredTable, ensuredSketch}
-use Rattle.sketch_rules.specs.Histories.{Call, ensureCapacity, estimateHash, increaseHash, Held, refusalOf, done, step, run}
 use Rattle.sketch_rules.proofs.Counting.{counted-length}
 use Rattle.sketch_rules.proofs.Soundness.{Used, sound-unused, sound-in-use, used-sound, gives-inside, blank-size}
 use Rattle.sketch_rules.proofs.Promises.{stands, ensure-too-large, ensure-stays, ensure-too-short, ensure-grows}

@@ -6,7 +6,7 @@ use native.Mathlib.Omega.{arith}
 use lib.Dec.{lit<}
 use lib.Bits.{bitAnd, and-block, and-mask, and-zero-r, and-lt}
 use lib.Count.{ones, ones-cat}
-use Rattle.sketch_rules.specs.Counters.{counter, word, total, halved, odds}
+use Rattle.sketch_rules.specs.Sketch.{counter, word, sumTo as total, halved, odds}
 use Rattle.sketch_rules.proofs.Words.{counter-below, counter-first, counter-rest}
 
 -- the mask works on each counter by itself

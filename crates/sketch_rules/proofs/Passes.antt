@@ -6,8 +6,7 @@ use native.Mathlib.Nat.{not-suc-le-zero, le-of-suc-le-suc, mod-lt, zero-lt-suc, 
 use native.Mathlib.Omega.{arith}
 use native.Mathlib.Numerals.{add-one}
 use lib.ListN.{length, getD, set}
-use Rattle.sketch_rules.specs.Counters.{counter, total, odds, halved}
-use Rattle.sketch_rules.specs.Tables.{halvedTo, oddsTo}
+use Rattle.sketch_rules.specs.Sketch.{counter, sumTo as total, odds, halved, halvedTo, oddsTo}
 
 pub halved-length : (n : ℕ) (t : List ℕ) → length (halvedTo n t) ≡ length t
 unfolding halvedTo

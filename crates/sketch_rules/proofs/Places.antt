@@ -7,11 +7,12 @@ use native.Mathlib.Omega.{arith}
 use lib.Dec.{ltb}
 use lib.Bits.{bitAnd}
 use borrow.Author.Tests.{le-ltb, lt-ltb}
-use Rattle.numbers.specs.Powers.{isPowerTo}
+use Rattle.numbers.specs.Shared.{isPowerTo}
 use Rattle.numbers.proofs.Products.{factor-cut}
 use Rattle.numbers.proofs.Powers.{power-least, power-most, mask-cut}
 use Rattle.numbers.proofs.Replies.{is-false, and-right}
-use Rattle.sketch_rules.specs.Index.{seed, product, folded, wordAt, Places, wordIndex}
+use Rattle.sketch_rules.specs.Index.{Places}
+use Rattle.sketch_rules.specs.Sketch.{seed, product, folded, wordAt, wordIndex}
 
 pub word-below : (hash i n : ℕ) → 0 < n → wordAt hash i n < n
 unfolding wordAt

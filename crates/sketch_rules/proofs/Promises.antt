@@ -6,16 +6,17 @@ use Prim.Native.Nat.{ℕ, _≤_, _<_}
 use lib.Dec.{eqb}
 use lib.ListN.{length, replicate, drop}
 use borrow.Author.Tests.{eq-eqb, ne-eqb, lt-ltb, le-ltb}
-use Rattle.numbers.specs.Answers.{answered, refused, reply, unlessRefused}
+use Rattle.numbers.specs.Shared.{replied as answered, refusedBy as refused, reply, unlessRefused}
 use Rattle.sketch_rules.specs.declared.Sketch.{Sketch}
 use Rattle.sketch_rules.specs.declared.Ensured.the-variants as ensured
 use Rattle.sketch_rules.specs.declared.Estimated.the-variants as estimated
 use Rattle.sketch_rules.specs.declared.Increased.the-variants as increased
 use Rattle.sketch_rules.specs.declared.Counted.{Counted}
-use Rattle.sketch_rules.specs.Sound.{sound, wordsFor, sampleFor}
-use Rattle.sketch_rules.specs.Hashes.{InUse, least}
-use Rattle.sketch_rules.specs.Aging.{settledTable, settledSketch, raisedTable, raisedSize, increasedTable, increasedSketch, Ready, Raises}
-use Rattle.sketch_rules.specs.Calls.{fields, ensureRefusal, ensuredTable, ensuredSketch, Ensures, standing, estimateOf, Estimates, Increases}
+use Rattle.sketch_rules.specs.Sketch.{sound, wordsFor, sampleFor, least, settledTable, settledSketch, raisedTable, raisedSize, increasedTable}
+use Rattle.sketch_rules.specs.Sketch.{increasedSketch, fields, ensureRefusal, ensuredTable, ensuredSketch, Ensures, standing, estimateOf, Estimates}
+use Rattle.sketch_rules.specs.Sketch.{Increases}
+use Rattle.sketch_rules.specs.Hashes.{InUse}
+use Rattle.sketch_rules.specs.Aging.{Ready, Raises}
 use Rattle.sketch_rules.proofs.Soundness.{sound-in-use}
 
 -- ---- estimate and increase: the refusal

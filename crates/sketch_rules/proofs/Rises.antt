@@ -8,7 +8,8 @@ use lib.Dec.{ltb, lit<}
 use lib.Pow.{shl-exact}
 use lib.Bits.{bitAnd, and-mask}
 use borrow.Author.Tests.{ltb-true, ltb-false, lt-ltb, le-ltb}
-use Rattle.sketch_rules.specs.Counters.{counter, raised, Raises}
+use Rattle.sketch_rules.specs.Counters.{Raises}
+use Rattle.sketch_rules.specs.Sketch.{counter, raised}
 use Rattle.sketch_rules.proofs.Words.{pow16, counter-below, counter-first, counter-rest}
 
 -- a counter as the program reads it, and 16 ^ k as the program writes it

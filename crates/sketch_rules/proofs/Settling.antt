@@ -4,11 +4,11 @@ use mathlib.Core.Bool.{Bool, true, false, cond}
 use mathlib.Core.List.{List}
 use Prim.Native.Nat.{ℕ, _≤_, _<_}
 use borrow.Author.Tests.{lt-leb, le-leb}
-use Rattle.sketch_rules.specs.Tables.{halvedTo, oddsTo}
+use Rattle.sketch_rules.specs.Sketch.{halvedTo, oddsTo, rose, withSize, grownSize, agedSize, raisedTable, raisedSize}
 use Rattle.sketch_rules.specs.declared.Sketch.{Sketch}
 use Rattle.sketch_rules.specs.declared.Counted.{Counted}
-use Rattle.sketch_rules.specs.Hashes.{Counts, rose}
-use Rattle.sketch_rules.specs.Aging.{withSize, grownSize, agedSize, raisedTable, raisedSize, Settles, Raises}
+use Rattle.sketch_rules.specs.Hashes.{Counts}
+use Rattle.sketch_rules.specs.Aging.{Settles, Raises}
 
 pub not-full : (s : Sketch) (size risen : ℕ) (t : List ℕ) → size < s .sample
     → Settles s size risen t (record { rose = risen; aged = false; sketch = withSize s size }) t

@@ -5,11 +5,11 @@ use Prim.Native.Nat.{ℕ, _*_, _/_, _%_, _≤_, _<_}
 use native.Mathlib.Omega.{arith}
 use lib.Dec.{eqb, ltb, leb}
 use borrow.Author.Tests.{eqb-true, leb-true, ltb-true, eq-eqb, ne-eqb, lt-ltb, le-leb, lt-leb}
-use Rattle.numbers.specs.Powers.{isPowerTo}
+use Rattle.numbers.specs.Shared.{isPowerTo}
 use Rattle.numbers.proofs.Powers.{power-least, power-most, power-for-from, power-for-half, power-for-above}
 use Rattle.numbers.proofs.Replies.{and-left, and-right, and-both, and-not-left, and-not-right, is-false}
 use Rattle.sketch_rules.specs.declared.Sketch.{Sketch}
-use Rattle.sketch_rules.specs.Sound.{wordsFor, usedFits, gives, usedSound, unusedSound, sound}
+use Rattle.sketch_rules.specs.Sketch.{wordsFor, usedFits, gives, usedSound, unusedSound, sound}
 
 -- ---- a capacity gives a length just where it is above half of it and not above it
 

@@ -4,15 +4,14 @@ use mathlib.Core.Bool.{Bool, true, false, cond}
 use mathlib.Core.List.{List}
 use Prim.Native.Nat.{ℕ}
 use lib.Dec.{eqb}
-use Rattle.numbers.specs.Answers.{Answer, answered, refused}
+use Rattle.numbers.specs.Shared.{Reply as Answer, replied as answered, refusedBy as refused}
 use Rattle.sketch_rules.specs.declared.Sketch.{Sketch}
 use Rattle.sketch_rules.specs.declared.Ensured.{Ensured}
 use Rattle.sketch_rules.specs.declared.Ensured.the-variants as ensured
 use Rattle.sketch_rules.specs.declared.Increased.{Increased}
 use Rattle.sketch_rules.specs.declared.Increased.the-variants as increased
-use Rattle.sketch_rules.specs.Aging.{increasedTable, increasedSketch}
-use Rattle.sketch_rules.specs.Calls.{fields, ensuredSays, increasedSays, ensureRefusal, ensuredTable, ensuredSketch, Ensures, standing, Increases}
-use Rattle.sketch_rules.specs.Histories.{ensureCapacity, increaseHash, Held, step}
+use Rattle.sketch_rules.specs.Sketch.{increasedTable, increasedSketch, fields, ensuredSays, increasedSays, ensureRefusal, ensuredTable, ensuredSketch}
+use Rattle.sketch_rules.specs.Sketch.{Ensures, standing, Increases, ensureCapacity, increaseHash, Holding as Held, sketchAfter as step}
 use Rattle.sketch_rules.proofs.Coincidence.{same-sketch, no-values}
 
 -- the record that a caller goes on with: the one that was handed back, and after a refusal its own

@@ -6,7 +6,7 @@ use native.Mathlib.Nat.{le-of-suc-le-suc}
 use native.Mathlib.Omega.{arith}
 use lib.Arith.{lt-one, digits-div, digits-mod}
 use lib.Pow.{pow-add}
-use Rattle.sketch_rules.specs.Counters.{counter, word, halved}
+use Rattle.sketch_rules.specs.Sketch.{counter, word, halved}
 
 -- 16 ^ k as a shift by 4 k bits
 pub pow16 : (k : ℕ) → 16 ^ k ≡ 2 ^ (k * 4)

@@ -6,7 +6,7 @@ use lib.Dec.{eqb}
 use mathlib.Core.Path.{_≡_, refl, ap, _∙_}
 use mathlib.Core.Bool.{Bool, true, false, false≢true}
 use Rattle.rules.specs.Wheel.{Answer, refused, ok, handle, end, expired, rescheduled, number}
-use Rattle.wheel_rules.specs.declared.records.Clock.{Clock}
+use Rattle.wheel_rules.specs.declared.calls.Clock.{Clock}
 use Rattle.wheel_rules.specs.declared.calls.Timed.{Timed}
 use Rattle.wheel_rules.specs.declared.calls.Timed.the-variants.{Done, Refused as TimedRefused}
 use Rattle.wheel_rules.specs.declared.calls.Noted.{Noted}
@@ -17,7 +17,7 @@ use Rattle.wheel_rules.specs.declared.calls.Pulled.{Pulled}
 use Rattle.wheel_rules.specs.declared.calls.Pulled.the-variants.{Expired, Rescheduled as Placed, End, Refused as PulledRefused}
 use Rattle.wheel_rules.specs.declared.calls.Counted.{Counted}
 use Rattle.wheel_rules.specs.declared.calls.Counted.the-variants.{Armed as Count, Refused as CountedRefused}
-use Rattle.wheel_rules.specs.calls.Answers.{timedSays, notedSays, scheduledSays, pulledSays, countedSays}
+use Rattle.wheel_rules.specs.Promise.{timedSays, notedSays, scheduledSays, pulledSays, countedSays}
 use Rattle.story.specs.Tests.{Whether, Agree}
 
 -- the answer is the expected one, or cannot be

@@ -5,10 +5,9 @@ use mathlib.Core.Bool.{Bool, true}
 use mathlib.Core.List.{List}
 use lib.ListN.{length}
 use Rattle.rules.specs.Wheel.{Call, create, enable, Answer, ok}
-use Rattle.wheel_rules.specs.declared.records.Clock.{Clock}
-use Rattle.wheel_rules.specs.records.Records.{Nodes, Entries, Records, records}
-use Rattle.wheel_rules.specs.refusals.Lent.{lent}
-use Rattle.wheel_rules.specs.calls.Promise.{enabling, Promised, Begins}
+use Rattle.wheel_rules.specs.declared.calls.Clock.{Clock}
+use Rattle.wheel_rules.specs.Lent.{Nodes, Entries, Records, records, lent}
+use Rattle.wheel_rules.specs.Promise.{enabling, Promised, Begins}
 use Rattle.story.proofs.Timing.{with-clock}
 
 module _ (h t n p b e g s : List ℕ) (d : List Bool) (l m : List ℕ) (k : Clock) where

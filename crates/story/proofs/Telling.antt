@@ -2,14 +2,14 @@
 use Prim.Native.Nat.{ℕ}
 use mathlib.Core.Path.{_≡_, sym, subst, _∙_}
 use mathlib.Core.List.{List, [], _∷_, _++_}
-use Rattle.rules.specs.Geometry.{wheel01}
+use Rattle.rules.specs.Places.{wheel01}
 use Rattle.rules.specs.Wheel.{Call, create, Answer, ok}
 use Rattle.rules.specs.Runs.{Run, answer, after}
 use Rattle.rules.specs.Worked.{nothing}
 use Rattle.rules.proofs.Advances.{after-app}
-use Rattle.wheel_rules.specs.records.Records.{Records}
+use Rattle.wheel_rules.specs.Lent.{Records}
 use Rattle.wheel_rules.specs.history.Tells.{Tells}
-use Rattle.wheel_rules.specs.calls.Promise.{Promised}
+use Rattle.wheel_rules.specs.Promise.{Promised}
 use Rattle.wheel_rules.proofs.history.Steps.{create-is, step-is}
 use Rattle.story.specs.Story.{Reached}
 

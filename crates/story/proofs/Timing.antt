@@ -2,16 +2,15 @@
 use Prim.Native.Nat.{ℕ}
 use mathlib.Core.Path.{_≡_, sym, ap, subst}
 use Rattle.rules.specs.Wheel.{Call, Answer}
-use Rattle.wheel_rules.specs.declared.records.Clock.{Clock}
-use Rattle.wheel_rules.specs.records.Records.{Nodes, Entries, Records, records}
+use Rattle.wheel_rules.specs.declared.calls.Clock.{Clock}
+use Rattle.wheel_rules.specs.Lent.{Nodes, Entries, Records, records}
 use Rattle.wheel_rules.specs.declared.calls.Timed.{Timed}
 use Rattle.wheel_rules.specs.declared.calls.Timed.the-variants.{Done}
 use Rattle.wheel_rules.specs.declared.calls.Scheduled.{Scheduled}
 use Rattle.wheel_rules.specs.declared.calls.Scheduled.the-variants.{Armed}
 use Rattle.wheel_rules.specs.declared.calls.Pulled.{Pulled}
 use Rattle.wheel_rules.specs.declared.calls.Pulled.the-variants.{Expired, Rescheduled as Placed, End}
-use Rattle.wheel_rules.specs.calls.Answers.{timedClock, scheduledClock, pulledClock}
-use Rattle.wheel_rules.specs.calls.Promise.{Promised}
+use Rattle.wheel_rules.specs.Promise.{timedClock, scheduledClock, pulledClock, Promised}
 
 module _ (c k : Clock) where
   pub done : (a : Timed) → a ≡ Done k → k ≡ timedClock c a

@@ -1,7 +1,6 @@
 -- The records that a story holds, as the wheel's promises speak of them.
-use Rattle.wheel_rules.specs.declared.records.Clock.{Clock}
-use Rattle.wheel_rules.specs.records.Records.{Records}
-use Rattle.wheel_rules.specs.refusals.Lent.{lent}
+use Rattle.wheel_rules.specs.declared.calls.Clock.{Clock}
+use Rattle.wheel_rules.specs.Lent.{Records, lent}
 use Rattle.story.specs.declared.held.Held.{Held}
 
 -- with another clock; in the order in which every call takes them

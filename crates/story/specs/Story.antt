@@ -3,11 +3,11 @@ use Prim.Native.Nat.{_+_, _^_}
 use mathlib.Core.Bool.{true}
 use mathlib.Core.Option.{some}
 use mathlib.Core.List.{List, [], _∷_, _++_}
-use Rattle.rules.specs.Geometry.{wheel01}
+use Rattle.rules.specs.Places.{wheel01}
 use Rattle.rules.specs.Wheel.{Call, create, enable, setEntry, schedule, deschedule, start, pull, abandon}
 use Rattle.rules.specs.Runs.{after}
 use Rattle.rules.specs.Worked.{nothing}
-use Rattle.wheel_rules.specs.records.Records.{Records}
+use Rattle.wheel_rules.specs.Lent.{Records}
 use Rattle.wheel_rules.specs.history.Tells.{Tells}
 
 -- the records stand for the wheel that these calls of the rules lead to, and are sound

@@ -1,7 +1,7 @@
 // Whether an answer is the one that is expected: all of it but the clock.
 ghost use Rattle.rules.specs.Wheel.{ok, handle, end, expired, rescheduled, number};
+ghost use Rattle.wheel_rules.specs.Promise.{timedSays, notedSays, scheduledSays, pulledSays, countedSays};
 ghost use Rattle.rules.specs.Wheel as rules;
-ghost use Rattle.wheel_rules.specs.calls.Answers.{timedSays, notedSays, scheduledSays, pulledSays, countedSays};
 ghost use Rattle.story.specs.Tests.{Whether, Agree};
 use wheel_rules::calls::Counted;
 use wheel_rules::calls::Noted;

@@ -1,8 +1,7 @@
 // The wheel's public calls on held records, each with the wheel's own promise.
 ghost use mathlib.Core.Option.{some};
 ghost use Rattle.rules.specs.Wheel.{setEntry, schedule, deschedule, start, pull, abandon, armedCount};
-ghost use Rattle.wheel_rules.specs.calls.Answers.{timedClock, timedSays, notedSays, scheduledSays, pulledSays, countedSays};
-ghost use Rattle.wheel_rules.specs.calls.Promise.{Promised};
+ghost use Rattle.wheel_rules.specs.Promise.{timedClock, timedSays, notedSays, scheduledSays, pulledSays, countedSays, Promised};
 ghost use Rattle.story.specs.Held.{held, later};
 use crate::clocks::after_pull;
 use crate::clocks::after_schedule;

@@ -1,12 +1,12 @@
 // The clock that holds after a call: the one that its answer hands back, or the caller's own where it hands none.
 ghost use mathlib.Core.Path.{_≡_};
-ghost use Rattle.wheel_rules.specs.calls.Answers.{timedClock, scheduledClock, pulledClock};
+ghost use Rattle.wheel_rules.specs.Promise.{timedClock, scheduledClock, pulledClock};
 ghost use Rattle.story.specs.Held.{held, later};
 use crate::held::Held;
+use wheel_rules::calls::Clock;
 use wheel_rules::calls::Pulled;
 use wheel_rules::calls::Scheduled;
 use wheel_rules::calls::Timed;
-use wheel_rules::records::Clock;
 
 pub fn after_timed(clock: Clock, answer: Timed) -> Clock
     ensures { λ r. ⌜ r ≡ timedClock clock answer ⌝ }

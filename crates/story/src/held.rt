@@ -1,5 +1,5 @@
 // The records of one wheel of 168 node records and 2 entries, held by value.
-use wheel_rules::records::Clock;
+use wheel_rules::calls::Clock;
 
 pub struct Held {
     pub heads: [usize; 165],

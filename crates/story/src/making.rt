@@ -1,8 +1,7 @@
 // Create and enable on held records, each with the wheel's own promise.
 ghost use mathlib.Core.Bool.{true};
 ghost use Rattle.rules.specs.Wheel.{create, enable, ok};
-ghost use Rattle.wheel_rules.specs.calls.Answers.{timedSays};
-ghost use Rattle.wheel_rules.specs.calls.Promise.{Promised};
+ghost use Rattle.wheel_rules.specs.Promise.{timedSays, Promised};
 ghost use Rattle.story.specs.Held.{held};
 use crate::calls::Timing;
 use crate::clocks::after_timed;

@@ -1,13 +1,12 @@
 // Start and abandon: refusals in order, then the clock. They move no node. No `requires`. A refused call leaves every
 // record as found.
-ghost use Rattle.wheel_rules.specs.calls.Answers.{timedClock, timedSays};
 ghost use Rattle.rules.specs.Wheel.{start, abandon};
-ghost use Rattle.wheel_rules.specs.calls.Promise.{Promised};
-ghost use Rattle.wheel_rules.specs.refusals.Lending.{before, after};
+ghost use Rattle.wheel_rules.specs.Promise.{timedClock, timedSays, Promised};
+ghost use Rattle.wheel_rules.specs.Lent.{before, after};
 use wheel_refusals::closed_refusal;
 use wheel_refusals::open_refusal;
+use wheel_rules::calls::Clock;
 use wheel_rules::calls::Timed;
-use wheel_rules::records::Clock;
 use wheel_timers::moments;
 
 // Opens an advance to q: the reading becomes q, the old one is kept. It moves no node. Refuses (1, 4, 5).

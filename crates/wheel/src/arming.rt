@@ -1,11 +1,10 @@
 // Schedule: refusals in order, then the work. No `requires`. A refused call leaves every record as found.
-ghost use Rattle.wheel_rules.specs.calls.Answers.{scheduledClock, scheduledSays};
 ghost use Rattle.rules.specs.Wheel.{schedule};
-ghost use Rattle.wheel_rules.specs.calls.Promise.{Promised};
-ghost use Rattle.wheel_rules.specs.refusals.Lending.{before, after};
+ghost use Rattle.wheel_rules.specs.Promise.{scheduledClock, scheduledSays, Promised};
+ghost use Rattle.wheel_rules.specs.Lent.{before, after};
 use wheel_refusals::schedule_refusal;
+use wheel_rules::calls::Clock;
 use wheel_rules::calls::Scheduled;
-use wheel_rules::records::Clock;
 use wheel_timers::timers::arm;
 
 // Puts a new node for the entry e, whose generation is h, at the back of its bucket. Answers the handle, or refuses (1,

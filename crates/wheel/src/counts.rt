@@ -1,13 +1,13 @@
 // Armed count and next due: refusals in order, then the count. They change nothing. No `requires`.
-ghost use Rattle.wheel_rules.specs.calls.Answers.{TellsDue, countedSays, dueSays};
 ghost use Rattle.rules.specs.Wheel.{armedCount, nextDue};
-ghost use Rattle.wheel_rules.specs.calls.Promise.{Promised};
-ghost use Rattle.wheel_rules.specs.refusals.Lending.{before, after};
+ghost use Rattle.wheel_rules.specs.Promise.{countedSays, dueSays, Promised};
+ghost use Rattle.wheel_rules.specs.Lent.{before, after};
+ghost use Rattle.wheel_rules.specs.calls.Answers.{TellsDue};
 use wheel_refusals::closed_refusal;
 use wheel_refusals::standing_refusal;
+use wheel_rules::calls::Clock;
 use wheel_rules::calls::Counted;
 use wheel_rules::calls::Due;
-use wheel_rules::records::Clock;
 use wheel_timers::counts;
 
 // The deadline found, or none, as an answer.

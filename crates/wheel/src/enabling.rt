@@ -1,10 +1,9 @@
 // Enable: refusals in order, then the work. No `requires`. A refused call leaves every record as found.
-ghost use Rattle.wheel_rules.specs.calls.Answers.{timedClock, timedSays};
-ghost use Rattle.wheel_rules.specs.calls.Promise.{enabling, Promised};
-ghost use Rattle.wheel_rules.specs.refusals.Lending.{before, after};
+ghost use Rattle.wheel_rules.specs.Promise.{timedClock, timedSays, enabling, Promised};
+ghost use Rattle.wheel_rules.specs.Lent.{before, after};
 use wheel_refusals::enable_refusal;
+use wheel_rules::calls::Clock;
 use wheel_rules::calls::Timed;
-use wheel_rules::records::Clock;
 use wheel_timers::layout::lay_out;
 
 // Enables the wheel over the lent records: sentinels placed, other slots free in ascending order, no advance, each

@@ -1,13 +1,12 @@
 // The calls with a handle, reschedule and deschedule: refusals in order, then the work. No `requires`. A refused call
 // leaves every record as found.
-ghost use Rattle.wheel_rules.specs.calls.Answers.{rescheduledClock, timedClock, rescheduledSays, timedSays};
 ghost use Rattle.rules.specs.Wheel.{reschedule, deschedule};
-ghost use Rattle.wheel_rules.specs.calls.Promise.{Promised};
-ghost use Rattle.wheel_rules.specs.refusals.Lending.{before, after};
+ghost use Rattle.wheel_rules.specs.Promise.{rescheduledClock, timedClock, rescheduledSays, timedSays, Promised};
+ghost use Rattle.wheel_rules.specs.Lent.{before, after};
 use wheel_refusals::handle_refusal;
+use wheel_rules::calls::Clock;
 use wheel_rules::calls::Rescheduled;
 use wheel_rules::calls::Timed;
-use wheel_rules::records::Clock;
 use wheel_timers::timers::disarm;
 use wheel_timers::timers::rearm;
 

@@ -1,9 +1,9 @@
 // Create. No `requires`.
 ghost use Rattle.rules.specs.Wheel.{ok};
-ghost use Rattle.wheel_rules.specs.calls.Promise.{Begins};
+ghost use Rattle.wheel_rules.specs.Promise.{Begins};
 use deque::NONE;
+use wheel_rules::calls::Clock;
 use wheel_rules::calls::Created;
-use wheel_rules::records::Clock;
 
 // Begins a wheel with this first serial: reading 0, not enabled, no slot in any bucket. Nodes and entries stay as
 // found. Never refused.

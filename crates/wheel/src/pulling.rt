@@ -1,13 +1,13 @@
 // Pull: refusals in order, then the work. No `requires`. A refused call leaves every record as found.
-ghost use Rattle.wheel_rules.specs.calls.Answers.{pulledClock, TellsEvent, pulledSays};
 ghost use Rattle.rules.specs.Wheel.{pull};
-ghost use Rattle.wheel_rules.specs.calls.Promise.{Promised};
-ghost use Rattle.wheel_rules.specs.refusals.Lending.{before, after};
+ghost use Rattle.wheel_rules.specs.Promise.{pulledClock, pulledSays, Promised};
+ghost use Rattle.wheel_rules.specs.Lent.{before, after};
+ghost use Rattle.wheel_rules.specs.calls.Answers.{TellsEvent};
 use wheel_advance::pop;
 use wheel_advance::pull;
 use wheel_refusals::open_refusal;
+use wheel_rules::calls::Clock;
 use wheel_rules::calls::Pulled;
-use wheel_rules::records::Clock;
 
 // The event or End, and the clock then, as an answer.
 fn told(event: pop::Pulled, clock: Clock) -> Pulled

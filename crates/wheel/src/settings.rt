@@ -2,13 +2,12 @@
 ghost use mathlib.Core.Path.{_≡_};
 ghost use mathlib.Core.Bool.{cond};
 ghost use mathlib.Core.Option.{none, some};
-ghost use Rattle.wheel_rules.specs.calls.Answers.{notedSays};
 ghost use Rattle.rules.specs.Wheel.{setEntry};
-ghost use Rattle.wheel_rules.specs.calls.Promise.{Promised};
-ghost use Rattle.wheel_rules.specs.refusals.Lending.{before, after};
+ghost use Rattle.wheel_rules.specs.Promise.{notedSays, Promised};
+ghost use Rattle.wheel_rules.specs.Lent.{before, after};
 use wheel_refusals::entry_refusal;
+use wheel_rules::calls::Clock;
 use wheel_rules::calls::Noted;
-use wheel_rules::records::Clock;
 use wheel_timers::settings;
 
 // What is written for a deadline: 0 where there is none.

@@ -1,11 +1,10 @@
 // For proved code only, unchecked: what a pull answers, and the turn of a pull that pops one node.
-ghost use Rattle.rules.specs.Geometry.{wheel01};
-ghost use Rattle.wheel_rules.specs.records.Records.{nodes};
+ghost use Rattle.rules.specs.Places.{wheel01};
+ghost use Rattle.wheel_rules.specs.Lent.{nodes, nodesBefore, nodesAfter};
 ghost use Rattle.wheel_rules.specs.popping.Pop.{PopReady, Pops};
-ghost use Rattle.wheel_rules.specs.records.Lending.{nodesBefore, nodesAfter};
+use wheel_rules::calls::Clock;
 pub use wheel_rules::popping::Pulled;
 pub use wheel_rules::popping::Turn;
-use wheel_rules::records::Clock;
 use wheel_timers::place::find;
 use wheel_timers::timers::disarm;
 use wheel_timers::timers::rearm;

@@ -1,7 +1,7 @@
 // The position of an advance from p to q, by level and step, and the next one. Levels from the last on are the last. No
 // `requires`.
 ghost use mathlib.Core.Path.{_≡_};
-ghost use Rattle.rules.specs.Geometry.{wheel01};
+ghost use Rattle.rules.specs.Places.{wheel01};
 ghost use Rattle.wheel_rules.specs.popping.Position.{onward};
 pub use wheel_rules::popping::Position;
 use wheel_timers::place::levels::level_count;

@@ -1,13 +1,12 @@
 // For proved code only, unchecked: a pull. It does no more than reach its answer.
-ghost use Rattle.rules.specs.Geometry.{wheel01};
-ghost use Rattle.wheel_rules.specs.records.Records.{nodes};
+ghost use Rattle.rules.specs.Places.{wheel01};
+ghost use Rattle.wheel_rules.specs.Lent.{nodes, nodesBefore, nodesAfter};
 ghost use Rattle.wheel_rules.specs.popping.Pop.{TurnReady};
 ghost use Rattle.wheel_rules.specs.pull.Pull.{Pulls};
-ghost use Rattle.wheel_rules.specs.records.Lending.{nodesBefore, nodesAfter};
 use crate::skips::pass_over;
 use crate::turns::take_turn;
+use wheel_rules::calls::Clock;
 pub use wheel_rules::pull::Answered;
-use wheel_rules::records::Clock;
 
 // One event, or End, which closes the advance and keeps its reading.
 pub fn pull(

@@ -1,13 +1,13 @@
 // For proved code only, unchecked: the buckets that an advance passes over. Where a bucket holds its sentinel alone,
 // entering it changes no record, so that the advance stands in it at once. A caller shows that each bucket has a head
 // and its sentinel a record.
-ghost use Rattle.rules.specs.Geometry.{wheel01};
-ghost use Rattle.wheel_rules.specs.records.Clocks.{standing};
+ghost use Rattle.rules.specs.Places.{wheel01};
 ghost use Rattle.wheel_rules.specs.pull.Skips.{Lent, TellsAlone, PassReady, IdleReady, Passes};
+ghost use Rattle.wheel_rules.specs.records.Clocks.{standing};
 use crate::turns::waiting;
 use deque::read::following;
 use deque::read::front;
-use wheel_rules::records::Clock;
+use wheel_rules::calls::Clock;
 use wheel_timers::place::visits::bucket_at;
 use wheel_timers::place::visits::visited;
 

@@ -1,19 +1,18 @@
 // For proved code only, unchecked: the turns of a pull. Each does one thing: enter the next bucket, pop one node, or
 // end.
-ghost use Rattle.deque_rules.specs.Lists.{links};
-ghost use Rattle.rules.specs.Geometry.{wheel01};
-ghost use Rattle.wheel_rules.specs.records.Records.{nodes};
+ghost use Rattle.deque_rules.specs.Lending.{linksBefore, linksAfter};
+ghost use Rattle.deque_rules.specs.Links.{links};
+ghost use Rattle.rules.specs.Places.{wheel01};
+ghost use Rattle.wheel_rules.specs.Lent.{nodes, nodesBefore, nodesAfter};
 ghost use Rattle.wheel_rules.specs.popping.Pop.{TurnReady};
 ghost use Rattle.wheel_rules.specs.turns.Turns.{WaitReady, Waits, OnReady, GoesOn, Turned};
-ghost use Rattle.deque_rules.specs.Lending.{linksBefore, linksAfter};
-ghost use Rattle.wheel_rules.specs.records.Lending.{nodesBefore, nodesAfter};
 use crate::pop::pop;
 use crate::position::next_position;
 use deque::NONE;
 use deque::read::front;
+use wheel_rules::calls::Clock;
 use wheel_rules::popping::Pulled;
 use wheel_rules::popping::Turn;
-use wheel_rules::records::Clock;
 use wheel_timers::moments::end;
 use wheel_timers::place::visits::bucket_at;
 

@@ -2,9 +2,9 @@
 // before. They read the records (enable the lengths and the clock alone; `around_refusal` is given these as numbers)
 // and change nothing.
 // No `requires`.
-ghost use Rattle.wheel_rules.specs.refusals.Refuse.{IsLast, RefusesEnable, RefusesAround, RefusesCount, RefusesClosed, RefusesOpen, RefusesSet};
-ghost use Rattle.wheel_rules.specs.refusals.Refuse.{RefusesSchedule, RefusesHandle};
-ghost use Rattle.wheel_rules.specs.refusals.Lending.{before};
+ghost use Rattle.wheel_rules.specs.Lent.{before};
+ghost use Rattle.wheel_rules.specs.refusals.Refuse.{IsLast, RefusesEnable, RefusesAround, RefusesCount, RefusesClosed, RefusesOpen, RefusesSet, RefusesSchedule};
+ghost use Rattle.wheel_rules.specs.refusals.Refuse.{RefusesHandle};
 
 pub mod sound;
 
@@ -14,7 +14,7 @@ use crate::sound::lengths::entries_lent;
 use crate::sound::lengths::nodes_lent;
 use crate::sound::lengths::ranged;
 use deque::NONE;
-use wheel_rules::records::Clock;
+use wheel_rules::calls::Clock;
 
 // The buckets of the wheel.
 pub const BUCKETS: usize = 165;

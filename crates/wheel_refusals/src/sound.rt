@@ -3,9 +3,8 @@
 // The test assumes nothing of what the records hold, goes over the records a fixed number of times where serials are
 // near each other, and ends on any records.
 // No `requires`.
-ghost use Rattle.wheel_rules.specs.records.Records.{entries, records};
+ghost use Rattle.wheel_rules.specs.Lent.{entries, records, nodesBefore};
 ghost use Rattle.wheel_rules.specs.sound.Sound.{Verdict};
-ghost use Rattle.wheel_rules.specs.records.Lending.{nodesBefore};
 
 pub mod lengths; // whether the lent lengths are those at enabling
 pub mod position; // where an open advance stands
@@ -19,7 +18,7 @@ use crate::sound::slots::entries_exist;
 use crate::sound::slots::kinds;
 use crate::sound::slots::serials_below;
 use deque::sound::sound;
-use wheel_rules::records::Clock;
+use wheel_rules::calls::Clock;
 
 // Whether the records are those of a sound wheel with `total` buckets. Both generations, of a node (generation) and of
 // an entry (stamp), are asked for their lengths alone.

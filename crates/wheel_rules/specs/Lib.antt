@@ -1,4 +1,7 @@
 -- The wheel on records, from a place to a history of calls.
+pub mod Lent
+pub mod Demand3
+pub mod Promise
 pub mod place
 pub mod records
 pub mod timers

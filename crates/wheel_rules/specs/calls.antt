@@ -1,6 +1,4 @@
 -- The public calls: what each answers and writes, and its promise.
 pub mod Answers
 pub mod Work
-pub mod Frame
-pub mod Promise
 pub mod Calls

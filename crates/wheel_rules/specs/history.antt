@@ -1,4 +1,2 @@
 -- Histories of calls.
 pub mod Tells
-pub mod History
-pub mod Demand3

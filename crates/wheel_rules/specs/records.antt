@@ -5,4 +5,3 @@ pub mod Clocks
 pub mod Moments
 pub mod Counts
 pub mod Settings
-pub mod Lending

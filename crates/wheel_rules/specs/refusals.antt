@@ -1,4 +1,2 @@
 -- Which refusal applies.
-pub mod Lent
 pub mod Refuse
-pub mod Lending

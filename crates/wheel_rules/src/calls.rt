@@ -1,5 +1,23 @@
-// What the wheel's public calls answer.
-use crate::records::Clock;
+// The clock record, and what the wheel's public calls answer.
+
+// The clock record. While an advance is open, reading is q and previous is p; `step` counts the buckets entered on
+// `level` so far, and level 0 with step 0 stands before the first bucket.
+#[repr(C)]
+pub struct Clock {
+    pub enabled: bool,
+    pub reading: u64,
+    // the next serial
+    pub serial: u64,
+    pub open: bool,
+    pub previous: u64,
+    pub level: usize,
+    pub step: usize,
+    // the first free slot, or NONE
+    pub free: usize,
+    // the lengths at enabling
+    pub nodes: usize,
+    pub entries: usize,
+}
 
 // Create: the clock, and heads and tails with no slot in any bucket.
 #[repr(C)]

@@ -1,5 +1,5 @@
 // What a pull answers, what a turn of it comes to, and where an advance goes from a bucket.
-use crate::records::Clock;
+use crate::calls::Clock;
 
 // What a pull answers.
 pub enum Pulled {

@@ -1,6 +1,6 @@
 // What a pull answers on sound records, with the clock from then on.
+use crate::calls::Clock;
 use crate::popping::Pulled;
-use crate::records::Clock;
 
 // The answer, and the clock then.
 pub struct Answered {

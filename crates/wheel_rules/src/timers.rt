@@ -1,5 +1,5 @@
 // A timer just armed.
-use crate::records::Clock;
+use crate::calls::Clock;
 
 // The handle of the timer armed, slot and serial, and the clock then.
 pub struct Armed {

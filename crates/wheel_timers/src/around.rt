@@ -1,11 +1,11 @@
 // For proved code only, unchecked: all but the node records, as enabling lays the records out, whatever they held.
 ghost use mathlib.Core.Path.{_≡_};
 ghost use lib.ListN.{length};
-ghost use Rattle.wheel_rules.specs.records.Records.{entries};
+ghost use Rattle.wheel_rules.specs.Lent.{entries};
 ghost use Rattle.wheel_rules.specs.layout.Around.{SeatsEnds, AroundReady, LaysAround};
 use crate::layout::clear_entries;
 use crate::layout::enabled;
-use wheel_rules::records::Clock;
+use wheel_rules::calls::Clock;
 
 // Makes each bucket's own number its head and its tail.
 fn seat_ends(heads: &mut [usize], tails: &mut [usize])

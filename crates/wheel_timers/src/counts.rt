@@ -1,7 +1,7 @@
 // For proved code only, unchecked: the two calls that only read: armed count and next due.
 ghost use Prim.Native.Nat.{_≤_};
 ghost use lib.ListN.{length};
-ghost use Rattle.rules.specs.Geometry.{wheel01};
+ghost use Rattle.rules.specs.Places.{wheel01};
 ghost use Rattle.wheel_rules.specs.records.Counts.{IsOne, Counts, KeyReady, DueReady, FindsKey, Sooner, FindsDue};
 pub use wheel_rules::records::Due;
 

@@ -1,15 +1,14 @@
 // For proved code only, unchecked: the records as enabling lays them out, whatever they held.
 ghost use mathlib.Core.Path.{_≡_};
 ghost use lib.ListN.{length};
-ghost use Rattle.deque_rules.specs.Lists.{links};
-ghost use Rattle.rules.specs.Geometry.{wheel01};
-ghost use Rattle.wheel_rules.specs.records.Records.{nodes, entries};
-ghost use Rattle.wheel_rules.specs.layout.Layout.{enabledWith, SeatReady, Seats, Clears, ClearsEntries, LayReady, Lays};
 ghost use Rattle.deque_rules.specs.Lending.{linksBefore, linksAfter};
-ghost use Rattle.wheel_rules.specs.records.Lending.{nodesBefore, nodesAfter};
+ghost use Rattle.deque_rules.specs.Links.{links};
+ghost use Rattle.rules.specs.Places.{wheel01};
+ghost use Rattle.wheel_rules.specs.Lent.{nodes, entries, nodesBefore, nodesAfter};
+ghost use Rattle.wheel_rules.specs.layout.Layout.{enabledWith, SeatReady, Seats, Clears, ClearsEntries, LayReady, Lays};
 use crate::moments::end;
 use deque::change::push;
-use wheel_rules::records::Clock;
+use wheel_rules::calls::Clock;
 
 // Links each sentinel alone in its bucket; the slots after the sentinels are free, in ascending order.
 fn seat(

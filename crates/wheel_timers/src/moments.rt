@@ -1,7 +1,7 @@
 // For proved code only, unchecked: start, end and abandon. They change the clock alone.
-ghost use Rattle.rules.specs.Geometry.{wheel01};
+ghost use Rattle.rules.specs.Places.{wheel01};
 ghost use Rattle.wheel_rules.specs.records.Moments.{Starts, EndsAdvance, Abandons};
-use wheel_rules::records::Clock;
+use wheel_rules::calls::Clock;
 
 // Opens an advance to q. It stands before its first bucket.
 pub fn start(clock: Clock, q: u64) -> Clock

@@ -3,8 +3,9 @@
 // Each level is tried with its number written out, so that the compiler works out the numbers of levels.rt.
 ghost use mathlib.Core.Path.{_≡_};
 ghost use Prim.Native.Nat.{_-_};
+ghost use Rattle.wheel_rules.specs.Promise.{Placed};
 ghost use Rattle.wheel_rules.specs.place.Levels.{indexAt, placeAt};
-ghost use Rattle.wheel_rules.specs.place.Promises.{Found, InBucket, Placed};
+ghost use Rattle.wheel_rules.specs.place.Promises.{Found, InBucket};
 
 pub mod levels;
 pub mod visits;

@@ -1,6 +1,6 @@
 // For proved code only, unchecked: setting an entry.
-ghost use Rattle.rules.specs.Geometry.{wheel01};
-ghost use Rattle.wheel_rules.specs.records.Records.{entries};
+ghost use Rattle.rules.specs.Places.{wheel01};
+ghost use Rattle.wheel_rules.specs.Lent.{entries};
 ghost use Rattle.wheel_rules.specs.records.Settings.{EntryReady, Sets};
 
 // Sets the entry e: whether it has a deadline, which, and its generation.

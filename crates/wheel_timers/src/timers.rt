@@ -1,16 +1,15 @@
 // For proved code only, unchecked: arming, disarming and rearming a timer, on records known to be sound.
-ghost use Rattle.deque_rules.specs.Lists.{links};
-ghost use Rattle.rules.specs.Geometry.{wheel01};
-ghost use Rattle.wheel_rules.specs.records.Records.{nodes};
-ghost use Rattle.wheel_rules.specs.timers.Timers.{ArmReady, SlotReady, MoveReady, Arms, Disarms, Rearms};
 ghost use Rattle.deque_rules.specs.Lending.{linksBefore, linksAfter};
-ghost use Rattle.wheel_rules.specs.records.Lending.{nodesBefore, nodesAfter};
+ghost use Rattle.deque_rules.specs.Links.{links};
+ghost use Rattle.rules.specs.Places.{wheel01};
+ghost use Rattle.wheel_rules.specs.Lent.{nodes, nodesBefore, nodesAfter};
+ghost use Rattle.wheel_rules.specs.timers.Timers.{ArmReady, SlotReady, MoveReady, Arms, Disarms, Rearms};
 use crate::payload::write;
 use crate::place::bucket_of;
 use deque::change::move_back;
 use deque::change::push;
 use deque::change::remove;
-use wheel_rules::records::Clock;
+use wheel_rules::calls::Clock;
 pub use wheel_rules::timers::Armed;
 
 // Arms the first free slot for the entry e, with its generation h, at the back of the bucket of its deadline.

@@ -1,6 +1,6 @@
 // The clock as ten numbers, in the order of its line: ENABLED READING SERIAL OPEN PREVIOUS LEVEL STEP NODES ENTRIES
 // FREE.
-use wheel_rules::records::Clock;
+use wheel_rules::calls::Clock;
 
 // A flag as a number.
 pub fn number_of(on: bool) -> u64 {

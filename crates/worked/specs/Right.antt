@@ -5,16 +5,11 @@ use mathlib.Core.Bool.{Bool, true, false, _&&_}
 use mathlib.Core.List.{List, [], _∷_, map}
 use lib.ListN.{length, replicate}
 use lib.Dec.{T, eqb}
-use Rattle.numbers.specs.Powers.{isPowerTo, powerFor}
-use Rattle.sketch_rules.specs.Counters.{counter, word, total, raised, halved, odds}
-use Rattle.sketch_rules.specs.Tables.{halvedTo, oddsTo}
-use Rattle.sketch_rules.specs.Index.{product, folded, wordAt}
-use Rattle.sketch_rules.specs.Hashes.{counted, rose}
-use Rattle.sketch_rules.specs.Sound.{sound}
-use Rattle.sketch_rules.specs.Aging.{increasedTable, increasedSketch}
-use Rattle.sketch_rules.specs.Calls.{unusedSketch, ensureRefusal, ensuredTable, ensuredSketch, standing}
-use Rattle.sketch_rules.specs.Histories.{ensureCapacity, increaseHash, Held, run}
-use Rattle.rules.specs.Geometry.{tick}
+use Rattle.numbers.specs.Shared.{isPowerTo, powerFor}
+use Rattle.sketch_rules.specs.Sketch.{counter, word, sumTo as total, raised, halved, odds, halvedTo, oddsTo, product, folded, wordAt, counted, rose, sound}
+use Rattle.sketch_rules.specs.Sketch.{increasedTable, increasedSketch, unusedSketch, ensureRefusal, ensuredTable, ensuredSketch, standing, ensureCapacity}
+use Rattle.sketch_rules.specs.Sketch.{increaseHash, Holding as Held, run}
+use Rattle.rules.specs.Places.{tick}
 use Rattle.rules.specs.Worked.{isPlaced, firesFirst}
 use Rattle.worked.specs.Rows.{Row, placed, fires, sketched, rows}
 

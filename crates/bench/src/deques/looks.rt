@@ -1,8 +1,7 @@
 // The workloads that change no link: the steps of a cursor, and the checked lengths.
 ghost use Prim.Native.Nat.{_≤_};
 ghost use Rattle.bench.specs.Ready.{Ready};
-ghost use Rattle.deque_rules.specs.alone.State.{state};
-ghost use Rattle.deque_rules.specs.alone.Lending.{after};
+ghost use Rattle.deque_rules.specs.Deque.{state, after};
 use crate::deques::records::laid;
 use deque_alone::unchecked;
 use deque_rules::alone::Counted;

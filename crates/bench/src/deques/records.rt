@@ -1,7 +1,7 @@
 // The records of one deque in arrays, tested once before the workloads rely on them.
 ghost use Prim.Native.Nat.{_≤_};
 ghost use Rattle.bench.specs.Ready.{Tested, Laid};
-ghost use Rattle.deque_rules.specs.alone.Lending.{before};
+ghost use Rattle.deque_rules.specs.Deque.{before};
 use crate::deques::laying::first_free;
 use crate::deques::laying::first_node;
 use crate::deques::laying::laid_element;

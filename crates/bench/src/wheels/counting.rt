@@ -1,7 +1,7 @@
 // The workload `Count`: the armed timers are counted, checked each time, once they are armed.
 use crate::wheels::workloads::Workload;
+use wheel_rules::calls::Clock;
 use wheel_rules::calls::Counted;
-use wheel_rules::records::Clock;
 
 // How many counts there are: the calls of `Count`.
 pub fn counts_of(workload: Workload, calls: u64) -> u64 {

@@ -6,8 +6,8 @@ use crate::wheels::workloads::below;
 use crate::wheels::workloads::delay;
 use crate::wheels::workloads::stride;
 use deque::NONE;
+use wheel_rules::calls::Clock;
 use wheel_rules::popping::Pulled;
-use wheel_rules::records::Clock;
 
 // The places of the list. In `Cancel` it has the slot of each entry, or NONE; else the entries to arm.
 const PLACES: usize = 4168;

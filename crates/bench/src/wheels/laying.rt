@@ -2,7 +2,7 @@
 ghost use Prim.Native.Nat.{_<_, _≤_};
 ghost use Rattle.bench.specs.Kept.{Lies};
 use crate::wheels::BUCKETS;
-use wheel_rules::records::Clock;
+use wheel_rules::calls::Clock;
 use wheel_timers::layout::lay_out;
 
 // The clock and the arrays.

@@ -2,7 +2,7 @@
 ghost use Rattle.bench.specs.Turns.{Arming, IsArmed, Fit, Opens};
 ghost use Prim.Native.Nat.{_<_};
 use crate::wheels::BUCKETS;
-use wheel_rules::records::Clock;
+use wheel_rules::calls::Clock;
 use wheel_timers::moments::start;
 
 // The serial that is never given: there is none after it.

@@ -7,18 +7,15 @@ use mathlib.Core.Bool.{Bool, true, false, false≢true, not}
 use mathlib.Core.List.{List, [], _∷_}
 use lib.ListN.{length, replicate, getD}
 use borrow.Author.Tests.{not-true, not-false}
-use Rattle.deque_rules.specs.Chain.{none}
-use Rattle.deque_rules.specs.Lists.{Links, links}
+use Rattle.numbers.specs.Shared.{noSlot as none}
+use Rattle.deque_rules.specs.Links.{Links, links}
 use Rattle.deque_rules.specs.Layout.{Sizes, LaysOut}
-use Rattle.deque_rules.specs.alone.State.{State, state, Lent}
+use Rattle.deque_rules.specs.Deque.{State, state, Lent, values, make, pushBack, popFront, lookFront, lookBack, moveToBack, unlinkAndDrop, lengthOf}
+use Rattle.deque_rules.specs.Deque.{nextByCursor, resetCursor, DequePromised as Promised, withCursor}
 use Rattle.deque_rules.specs.alone.Sound.{IsLent}
-use Rattle.deque_rules.specs.alone.Answer.{values}
 use Rattle.deque_rules.specs.alone.Work.{Clears, LooksFront, LooksBack, Steps, Pushes, Moves, Drops, Pops}
-use Rattle.deque_rules.specs.alone.Calls.{make, pushBack, popFront, lookFront, lookBack, moveToBack, unlinkAndDrop, lengthOf, nextByCursor}
-use Rattle.deque_rules.specs.alone.Calls.{resetCursor, Promised}
 use Rattle.deque_rules.specs.declared.alone.Made.the-variants.{First, Refused as MadeRefused}
 use Rattle.deque_rules.proofs.alone.Meeting.{no, yes-by}
-use Rattle.deque_rules.specs.alone.Step.{withCursor}
 use Rattle.deque_rules.specs.alone.Refuse.{RefusesDeque, RefusesPush, RefusesNode}
 use Rattle.deque_rules.specs.declared.alone.Looked.{Looked}
 use Rattle.deque_rules.specs.declared.alone.Looked.the-variants.{Refused as LookedRefused}

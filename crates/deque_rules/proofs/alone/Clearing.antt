@@ -6,7 +6,7 @@ use mathlib.Core.Logic.{⊎-elim}
 use mathlib.Core.List.{List}
 use lib.ListN.{length, getD, set, length-set, replicate, length-replicate, getD-replicate}
 use lib.Seq.{getD-set-same, getD-set-other, ext-getD}
-use Rattle.deque_rules.specs.Chain.{none}
+use Rattle.numbers.specs.Shared.{noSlot as none}
 use Rattle.numbers.proofs.Cases.{same?}
 use Rattle.deque_rules.specs.alone.Work.{Clears}
 

@@ -5,12 +5,11 @@ use mathlib.Core.Path.{_≡_, refl, sym, ap, _∙_}
 use mathlib.Core.Logic.{⊎-elim}
 use Rattle.numbers.proofs.Cases.{same?}
 use Rattle.numbers.proofs.Rows.{Single, none-left, row}
-use Rattle.deque_rules.specs.alone.State.{State}
-use Rattle.deque_rules.specs.alone.Answer.{Told, refused, madeTold, pushedTold, poppedTold, lookedTold, droppedTold, countedTold, doneTold}
-use Rattle.deque_rules.specs.alone.Refuse.{answered, makeRows, dequeRows, pushRows, nodeRows}
-use Rattle.deque_rules.specs.alone.Meets.{Meets}
-use Rattle.deque_rules.specs.alone.Calls.{Call, make, pushBack, popFront, lookFront, lookBack, moveToBack, unlinkAndDrop, lengthOf, nextByCursor}
-use Rattle.deque_rules.specs.alone.Calls.{resetCursor, AnswerOf, told, Promise, Promised}
+use Rattle.deque_rules.specs.Deque.{State, Told, refused, madeTold, pushedTold, poppedTold, lookedTold, droppedTold, countedTold, doneTold, makeRows}
+use Rattle.deque_rules.specs.Deque.{dequeRows, pushRows, nodeRows, Meets, DequeCall as Call, make, pushBack, popFront, lookFront, lookBack}
+use Rattle.deque_rules.specs.Deque.{moveToBack, unlinkAndDrop, lengthOf, nextByCursor, resetCursor, AnswerOf, told, Promise}
+use Rattle.deque_rules.specs.Deque.{DequePromised as Promised}
+use Rattle.numbers.specs.Shared.{notRefused as answered}
 use Rattle.deque_rules.specs.declared.alone.Made.{Made}
 use Rattle.deque_rules.specs.declared.alone.Made.the-variants.{First, Refused as MadeRefused}
 use Rattle.deque_rules.specs.declared.alone.Pushed.{Pushed}

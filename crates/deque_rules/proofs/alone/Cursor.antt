@@ -9,16 +9,15 @@ use lib.ListN.{length, getD}
 use lib.Seq.{getD-set-same}
 use lib.Dec.{eqb}
 use borrow.Author.Tests.{eq-eqb, ne-eqb}
-use Rattle.deque_rules.specs.Chain.{none, In, first, last}
-use Rattle.deque_rules.specs.Lists.{Lists, deq}
+use Rattle.deque_rules.specs.Chain.{last}
+use Rattle.deque_rules.specs.Links.{first, Deques as Lists, deq}
+use Rattle.numbers.specs.Shared.{noSlot as none, In, pastEnd}
 use Rattle.deque_rules.proofs.Laws.{head-is, tail-is, next-is}
-use Rattle.deque_rules.specs.alone.State.{State, Shows, pastEnd}
-use Rattle.deque_rules.specs.alone.Step.{backOf, cursorOf, elementOf, movedOn, cursorNode, withCursor, stepped}
-use Rattle.deque_rules.specs.alone.Step.{stepOff, released, movedBack}
-use Rattle.deque_rules.specs.alone.Answer.{Told, nothing, values, lookedTold, countedTold, lookTold, nextTold}
-use Rattle.deque_rules.specs.alone.Refuse.{dequeRows}
-use Rattle.deque_rules.specs.alone.Meets.{Meets}
-use Rattle.deque_rules.specs.alone.Calls.{lookFront, lookBack, lengthOf, nextByCursor, Promised}
+use Rattle.deque_rules.specs.Deque.{State, backOf, elementOf, movedOn, cursorNode, withCursor, stepped, stepOff, released, movedBack, Told, nothing}
+use Rattle.deque_rules.specs.Deque.{values, lookedTold, countedTold, lookTold, nextTold, dequeRows, Meets, lookFront, lookBack, lengthOf}
+use Rattle.deque_rules.specs.Deque.{nextByCursor, DequePromised as Promised}
+use Rattle.deque_rules.specs.alone.State.{Shows}
+use Rattle.deque_rules.specs.alone.Step.{cursorOf}
 use Rattle.deque_rules.specs.alone.History.{moveOn}
 use Rattle.deque_rules.specs.declared.alone.Looked.{Looked}
 use Rattle.deque_rules.specs.declared.alone.Counted.{Counted}

@@ -6,14 +6,10 @@ use native.Mathlib.Omega.{arith}
 use mathlib.Core.Path.{_≡_, refl}
 use mathlib.Core.Logic.{inl, inr, ⊎-elim}
 use mathlib.Core.List.{List, [], _∷_}
-use Rattle.deque_rules.specs.Chain.{none}
-use Rattle.deque_rules.specs.Layout.{fresh}
-use Rattle.deque_rules.specs.Change.{linkBack, cutOut, removed}
-use Rattle.deque_rules.specs.Free.{handBack}
-use Rattle.deque_rules.specs.alone.State.{State, state, Lent}
-use Rattle.deque_rules.specs.alone.Sound.{Sound}
-use Rattle.deque_rules.specs.alone.Calls.{make, pushBack, popFront, Promised}
-use Rattle.deque_rules.specs.alone.History.{Event, event, Leads, done, then}
+use Rattle.numbers.specs.Shared.{noSlot as none}
+use Rattle.deque_rules.specs.Links.{fresh, linkBack, cutOut, removed, handBack}
+use Rattle.deque_rules.specs.Deque.{State, state, Lent, Sound, make, pushBack, popFront, DequePromised as Promised, Event, event, DequeLeads as Leads}
+use Rattle.deque_rules.specs.Deque.{done, then}
 use Rattle.deque_rules.specs.declared.alone.Made.the-variants.{First}
 use Rattle.deque_rules.specs.declared.alone.Pushed.the-variants.{At, Refused as PushedRefused}
 use Rattle.deque_rules.specs.declared.alone.Popped.the-variants.{Node, Refused as PoppedRefused}

@@ -3,11 +3,7 @@
 use Prim.Native.Nat.{ℕ}
 use mathlib.Core.Path.{_≡_}
 use mathlib.Core.List.{List, [], _∷_, _++_}
-use Rattle.deque_rules.specs.alone.State.{State}
-use Rattle.deque_rules.specs.alone.Sound.{Sound}
-use Rattle.deque_rules.specs.alone.Answer.{refused}
-use Rattle.deque_rules.specs.alone.Calls.{Call, make, AnswerOf, told}
-use Rattle.deque_rules.specs.alone.History.{Event, event, Leads, done, then}
+use Rattle.deque_rules.specs.Deque.{State, Sound, refused, DequeCall as Call, make, AnswerOf, told, Event, event, DequeLeads as Leads, done, then}
 use Rattle.deque_rules.specs.declared.alone.Made.the-variants.{First}
 use Rattle.deque_rules.proofs.alone.Kept.{make-sound, keeps, not-four}
 

@@ -7,14 +7,17 @@ use mathlib.Core.List.{List, [], _∷_}
 use lib.ListN.{length, getD, length-set, length-replicate, getD-replicate}
 use lib.Seq.{getD-set-same, getD-set-other}
 use borrow.Author.Tests.{eq-eqb, ne-eqb}
-use Rattle.deque_rules.specs.Chain.{none, In, Once, first, before, after, following, upFrom}
-use Rattle.deque_rules.specs.Lists.{Lists, deq, Rep, allFree}
-use Rattle.deque_rules.specs.Layout.{fresh}
+use Rattle.deque_rules.specs.Chain.{following}
+use Rattle.deque_rules.specs.Links.{first, Deques as Lists, deq, Rep, fresh}
+use Rattle.numbers.specs.Shared.{noSlot as none, In, Once, beforeIn as before, afterIn as after, upFrom, pastEnd}
+use Rattle.deque_rules.specs.Lists.{allFree}
 use Rattle.numbers.proofs.Cases.{same?}
 use Rattle.numbers.proofs.Members.{in-at, after-in, last-in, once-right, split}
 use Rattle.deque_rules.proofs.Laws.{first-in, deq-once, fresh-rep, head-is, tail-is, next-is}
-use Rattle.deque_rules.specs.alone.State.{State, deques, nodes, Lent, Shows, Stands, pastEnd}
-use Rattle.deque_rules.specs.alone.Step.{frontOf, backOf, cursorOf, movedOn, cursorNode, made, withCursor, stepped}
+use Rattle.deque_rules.specs.Deque.{State, dequeCount as deques, nodeCount as nodes, Lent, Stands, frontOf, backOf, movedOn, cursorNode, made}
+use Rattle.deque_rules.specs.Deque.{withCursor, stepped}
+use Rattle.deque_rules.specs.alone.State.{Shows}
+use Rattle.deque_rules.specs.alone.Step.{cursorOf}
 
 -- the lent lengths stay where the links stand for as many deques and nodes as before
 pub lent-kept : (a b : State) (v w : Lists) (k l : List ℕ) → Lent a → Rep (a .links) v k → Rep (b .links) w l → w .count ≡ v .count → w .slots ≡ v .slots →

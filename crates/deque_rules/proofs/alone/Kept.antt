@@ -3,18 +3,12 @@
 use Prim.Native.Nat.{ℕ, _<_}
 use mathlib.Core.Path.{_≡_, sym, subst}
 use mathlib.Core.Logic.{⊎-elim}
-use Rattle.deque_rules.specs.Lists.{Lists}
-use Rattle.deque_rules.specs.Listed.{listed}
+use Rattle.deque_rules.specs.Links.{Deques as Lists, listed}
 use Rattle.numbers.proofs.Cases.{same?}
-use Rattle.deque_rules.specs.alone.State.{State, Shows}
-use Rattle.deque_rules.specs.alone.Sound.{Sound}
-use Rattle.deque_rules.specs.alone.Step.{frontOf, backOf}
-use Rattle.deque_rules.specs.alone.Answer.{Told, refused}
-use Rattle.deque_rules.specs.alone.Refuse.{dequeRows}
-use Rattle.deque_rules.specs.alone.Meets.{Meets}
-use Rattle.deque_rules.specs.alone.Calls.{Call, make, pushBack, popFront, lookFront, lookBack, moveToBack, unlinkAndDrop, lengthOf, nextByCursor}
-use Rattle.deque_rules.specs.alone.Calls.{resetCursor, AnswerOf, told, Promised}
-use Rattle.deque_rules.specs.alone.History.{madeFree, pushedFree, poppedFree, droppedFree, freeThen}
+use Rattle.deque_rules.specs.Deque.{State, Sound, frontOf, backOf, Told, refused, dequeRows, Meets, DequeCall as Call, make, pushBack, popFront}
+use Rattle.deque_rules.specs.Deque.{lookFront, lookBack, moveToBack, unlinkAndDrop, lengthOf, nextByCursor, resetCursor, AnswerOf, told}
+use Rattle.deque_rules.specs.Deque.{DequePromised as Promised, madeFree, pushedFree, poppedFree, droppedFree, freeThen}
+use Rattle.deque_rules.specs.alone.State.{Shows}
 use Rattle.deque_rules.specs.declared.alone.Made.{Made}
 use Rattle.deque_rules.specs.declared.alone.Made.the-variants.{First, Refused as MadeRefused}
 use Rattle.deque_rules.specs.declared.alone.Pushed.{Pushed}

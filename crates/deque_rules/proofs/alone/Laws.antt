@@ -7,22 +7,18 @@ use mathlib.Core.Logic.{_⊎_, inl, ⊎-elim}
 use mathlib.Core.List.{List, [], _∷_}
 use lib.Seq.{getD-set-same}
 use borrow.Author.Tests.{eq-eqb, ne-eqb}
-use Rattle.deque_rules.specs.Chain.{none, In, first, rest, remove, upFrom}
-use Rattle.deque_rules.specs.Lists.{Lists, deq, withDeque, pushBack, takeOut, taken, freed, allFree}
+use Rattle.deque_rules.specs.Links.{first, Deques as Lists, deq}
+use Rattle.numbers.specs.Lists.{rest, remove}
+use Rattle.numbers.specs.Shared.{noSlot as none, In, upFrom, pastEnd}
+use Rattle.deque_rules.specs.Lists.{withDeque, pushBack, takeOut, taken, freed, allFree}
 use Rattle.numbers.proofs.Cases.{same?}
 use Rattle.numbers.proofs.Members.{in-same, remove-first}
 use Rattle.deque_rules.proofs.Laws.{some-first, in-home, slot-real, head-is}
-use Rattle.deque_rules.specs.alone.State.{State, deques, nodes, Lent, Shows, pastEnd}
-use Rattle.deque_rules.specs.alone.Sound.{Sound}
-use Rattle.deque_rules.specs.alone.Step.{nextOf, frontOf, elementOf, cursorNode}
-use Rattle.deque_rules.specs.alone.Step.{released}
-use Rattle.deque_rules.specs.alone.Answer.{Told, refused, nothing, values, lookTold, nextTold}
-use Rattle.deque_rules.specs.alone.Answer.{popTold}
-use Rattle.deque_rules.specs.alone.Refuse.{makeRows, dequeRows, pushRows, nodeRows}
+use Rattle.deque_rules.specs.Deque.{State, dequeCount as deques, nodeCount as nodes, Lent, Sound, nextOf, frontOf, elementOf, cursorNode, released}
+use Rattle.deque_rules.specs.Deque.{Told, refused, nothing, values, lookTold, nextTold, popTold, makeRows, dequeRows, pushRows, nodeRows, Meets, make}
+use Rattle.deque_rules.specs.Deque.{popFront, moveToBack, unlinkAndDrop, DequePromised as Promised, pushBack as pushCall}
+use Rattle.deque_rules.specs.alone.State.{Shows}
 use Rattle.deque_rules.specs.alone.Work.{toBack}
-use Rattle.deque_rules.specs.alone.Meets.{Meets}
-use Rattle.deque_rules.specs.alone.Calls.{make, popFront, moveToBack, unlinkAndDrop, Promised}
-use Rattle.deque_rules.specs.alone.Calls.{pushBack as pushCall}
 use Rattle.deque_rules.specs.declared.alone.Made.the-variants.{First}
 use Rattle.deque_rules.specs.declared.alone.Pushed.the-variants.{At}
 use Rattle.deque_rules.specs.declared.alone.Popped.the-variants.{Node as PoppedNode, Nothing as PoppedNothing}

@@ -8,12 +8,10 @@ use mathlib.Core.List.{List, [], _∷_}
 use lib.ListN.{length, getD, set}
 use lib.Dec.{eqb}
 use borrow.Author.Tests.{eq-eqb, ne-eqb}
-use Rattle.deque_rules.specs.Chain.{none, In}
-use Rattle.deque_rules.specs.Lists.{deq}
+use Rattle.numbers.specs.Shared.{noSlot as none, In, pastEnd}
+use Rattle.deque_rules.specs.Links.{deq}
 use Rattle.numbers.proofs.Cases.{same?}
-use Rattle.deque_rules.specs.alone.State.{State, state, pastEnd}
-use Rattle.deque_rules.specs.alone.Step.{movedOn, cursorNode, withCursor}
-use Rattle.deque_rules.specs.alone.Answer.{nothing, values, lookTold}
+use Rattle.deque_rules.specs.Deque.{State, state, movedOn, cursorNode, withCursor, nothing, values, lookTold}
 use Rattle.deque_rules.specs.alone.Ready.{DequeReady}
 use Rattle.deque_rules.specs.alone.Work.{LooksFront, LooksBack, Steps}
 use Rattle.deque_rules.specs.declared.alone.Looked.the-variants.{Node as LookedNode, Nothing as LookedNothing}

@@ -10,12 +10,12 @@ use borrow.Author.Tests.{not-true, not-false}
 use borrow.Author.Needs.{scaled-fits}
 use mir.Syntax.{w64}
 use mir.Val.{Fits}
-use Rattle.deque_rules.specs.Chain.{none}
-use Rattle.deque_rules.specs.Listed.{listed}
+use Rattle.numbers.specs.Shared.{noSlot as none}
+use Rattle.deque_rules.specs.Links.{listed}
 use Rattle.deque_rules.proofs.Laws.{first-in}
-use Rattle.deque_rules.specs.alone.State.{State, state, deques, nodes}
-use Rattle.deque_rules.specs.alone.Sound.{Sound, Judged}
-use Rattle.deque_rules.specs.alone.Refuse.{InDeque, RefusesDeque, RefusesPush, RefusesNode}
+use Rattle.deque_rules.specs.Deque.{State, state, dequeCount as deques, nodeCount as nodes, Sound, InDeque}
+use Rattle.deque_rules.specs.alone.Sound.{Judged}
+use Rattle.deque_rules.specs.alone.Refuse.{RefusesDeque, RefusesPush, RefusesNode}
 use Rattle.deque_rules.specs.alone.Ready.{DequeReady, PushReady, NodeReady}
 use Rattle.deque_rules.proofs.alone.Sounding.{sound-shows}
 

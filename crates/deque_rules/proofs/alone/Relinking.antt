@@ -7,17 +7,18 @@ use mathlib.Core.List.{List, [], _∷_, _++_}
 use lib.ListN.{length, getD, length-set, length-append}
 use lib.Seq.{getD-set-same, getD-set-other, set-set}
 use borrow.Author.Tests.{eq-eqb, ne-eqb}
-use Rattle.deque_rules.specs.Chain.{none, In, Once, lastOr, remove}
-use Rattle.deque_rules.specs.Lists.{Lists, homeOf, deq, Rep, withDeque, pushBack, takeOut, taken, freed}
-use Rattle.deque_rules.specs.Change.{removed, moveBack}
+use Rattle.numbers.specs.Lists.{lastOr, remove}
+use Rattle.numbers.specs.Shared.{noSlot as none, In, Once}
+use Rattle.deque_rules.specs.Links.{Deques as Lists, homeOf, deq, Rep, removed, moveBack}
+use Rattle.deque_rules.specs.Lists.{withDeque, pushBack, takeOut, taken, freed}
 use Rattle.numbers.proofs.Cases.{same?}
 use Rattle.numbers.proofs.Members.{in-at, back-old, kept, length-remove}
 use Rattle.deque_rules.proofs.Laws.{deq-once, push-rep, remove-rep, move-rep, tail-is, deq-at, deq-off, deq-same, in-home, push-in}
 use Rattle.numbers.proofs.Counting.{at-most}
-use Rattle.deque_rules.specs.alone.State.{State, Shows, Stands}
-use Rattle.deque_rules.specs.alone.Step.{nextOf, backOf, lengthOf, cursorOf, movedOn}
+use Rattle.deque_rules.specs.Deque.{State, Stands, nextOf, backOf, recordedLength as lengthOf, movedOn, stepOff, pushed, released, shifted, movedBack}
+use Rattle.deque_rules.specs.alone.State.{Shows}
+use Rattle.deque_rules.specs.alone.Step.{cursorOf}
 use Rattle.deque_rules.proofs.alone.Keeping.{lent-kept, in-cursors, on-stands}
-use Rattle.deque_rules.specs.alone.Step.{stepOff, pushed, released, shifted, movedBack}
 use Rattle.deque_rules.specs.alone.Work.{toBack}
 
 length-off : (c n : List ℕ) (d s : ℕ) → length (stepOff c n d s) ≡ length c

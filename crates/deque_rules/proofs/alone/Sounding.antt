@@ -5,15 +5,13 @@ use mathlib.Core.Path.{_≡_, refl, sym, ap, subst, _∙_}
 use mathlib.Core.Logic.{inl, inr, ⊎-elim}
 use mathlib.Core.List.{List, []}
 use lib.ListN.{length, getD}
-use Rattle.deque_rules.specs.Chain.{none, Chain, Path, first}
-use Rattle.deque_rules.specs.Lists.{Lists, homeOf, step, deq}
-use Rattle.deque_rules.specs.Listed.{listed}
-use Rattle.deque_rules.specs.Sound.{Whole}
+use Rattle.deque_rules.specs.Links.{Chain, Path, first, Deques as Lists, homeOf, slotAfter as step, deq, listed, Whole}
+use Rattle.numbers.specs.Shared.{noSlot as none}
 use Rattle.numbers.proofs.Cases.{same?}
 use Rattle.numbers.proofs.Members.{in-same}
 use Rattle.deque_rules.proofs.Laws.{each-len, each-at, deq-is, free-is, listed-is, in-home, home-free}
-use Rattle.deque_rules.specs.alone.State.{State, deques, nodes, Shows, Stands}
-use Rattle.deque_rules.specs.alone.Sound.{Sound, held, chain}
+use Rattle.deque_rules.specs.Deque.{State, dequeCount as deques, nodeCount as nodes, Stands, Sound, held, chain}
+use Rattle.deque_rules.specs.alone.State.{Shows}
 
 -- lists that the records stand for make them sound
 pub shows-sound : (a : State) (free : ℕ) (v : Lists) → Shows a free v → Sound a free

@@ -8,14 +8,14 @@ use mathlib.Core.List.{List, []}
 use lib.ListN.{length, getD}
 use lib.Dec.{eqb}
 use borrow.Author.Tests.{eq-eqb, eqb-true, not-true, not-false}
-use Rattle.deque_rules.specs.Chain.{none}
-use Rattle.deque_rules.specs.Lists.{links, homeOf, deq}
+use Rattle.numbers.specs.Shared.{noSlot as none, pastEnd}
+use Rattle.deque_rules.specs.Links.{links, homeOf, deq, Whole}
 use Rattle.deque_rules.specs.Layout.{Sizes}
-use Rattle.deque_rules.specs.Sound.{Whole, Walked, WalkedFree, SizesFree}
+use Rattle.deque_rules.specs.Sound.{Walked, WalkedFree, SizesFree}
 use Rattle.numbers.proofs.Cases.{same?}
 use Rattle.deque_rules.proofs.Laws.{in-home, Upto, begin, more, no-walk, no-walk-free, walk-counts, too-few, is-whole}
-use Rattle.deque_rules.specs.alone.State.{State, state, deques, nodes, LentDeques, LentNodes, Lent, pastEnd}
-use Rattle.deque_rules.specs.alone.Sound.{Sound, DequesOk, NodesOk, IsLent, Judged, StandsBy, StandsOk}
+use Rattle.deque_rules.specs.Deque.{State, state, dequeCount as deques, nodeCount as nodes, LentDeques, LentNodes, Lent, Sound}
+use Rattle.deque_rules.specs.alone.Sound.{DequesOk, NodesOk, IsLent, Judged, StandsBy, StandsOk}
 use Rattle.deque_rules.proofs.alone.Sounding.{shows-sound, sound-shows, shows-whole}
 
 -- ---- the lengths

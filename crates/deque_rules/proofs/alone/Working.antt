@@ -7,16 +7,15 @@ use lib.ListN.{length, getD, set}
 use borrow.Author.Tests.{eq-eqb, ne-eqb}
 use mir.Syntax.{w64}
 use mir.Val.{Fits}
-use Rattle.deque_rules.specs.Chain.{none}
-use Rattle.deque_rules.specs.Lists.{Links, Lists, links, homeOf}
+use Rattle.numbers.specs.Shared.{noSlot as none}
+use Rattle.deque_rules.specs.Links.{Links, Deques as Lists, links, homeOf}
 use Rattle.deque_rules.specs.Change.{Pushable, PushesBack, Held, Removes, Ahead, MovesBack}
-use Rattle.deque_rules.specs.alone.State.{State, state, Shows}
+use Rattle.deque_rules.specs.Deque.{State, state, movedOn, stepOff, pushed, released, movedBack}
+use Rattle.deque_rules.specs.alone.State.{Shows}
 use Rattle.deque_rules.specs.alone.Ready.{DequeReady, PushReady, NodeReady}
-use Rattle.deque_rules.specs.alone.Step.{movedOn}
 use Rattle.deque_rules.specs.declared.alone.Popped.the-variants.{Node as PoppedNode, Nothing as PoppedNothing}
 use Rattle.deque_rules.proofs.alone.Keeping.{front-in}
 use Rattle.deque_rules.proofs.alone.Looking.{head-none, real}
-use Rattle.deque_rules.specs.alone.Step.{stepOff, pushed, released, movedBack}
 use Rattle.deque_rules.specs.alone.Work.{Pushes, Drops, Moves, Pops}
 use Rattle.deque_rules.proofs.alone.Relinking.{length-small, length-some, pushed-shows, released-shows, moved-shows}
 

@@ -6,12 +6,10 @@ use mathlib.Core.Bool.{Bool}
 use mathlib.Core.List.{List}
 use lib.ListN.{getD}
 use Rattle.rules.specs.Wheel.{Call, Answer}
-use Rattle.wheel_rules.specs.declared.records.Clock.{Clock}
-use Rattle.wheel_rules.specs.records.Records.{Records}
-use Rattle.face_rules.specs.declared.nodes.Node.{Node}
-use Rattle.face_rules.specs.nodes.Shown.{shown}
-use Rattle.face_rules.specs.exports.Words.{wordsOf}
-use Rattle.face_rules.specs.exports.Exports.{Told}
+use Rattle.wheel_rules.specs.declared.calls.Clock.{Clock}
+use Rattle.wheel_rules.specs.Lent.{Records}
+use Rattle.face_rules.specs.declared.Node.{Node}
+use Rattle.face_rules.specs.Face.{recordsOf as shown, wordsOf, Told}
 use Rattle.face_rules.proofs.Determined.{Same, face-coincides}
 
 pub export-coincides : (R : Records) (hs ts hs′ ts′ : List ℕ) (ns ns′ : List Node) (d d′ : List Bool) (l m l′ m′ : List ℕ) (k k′ : Clock) (a b : List ℕ)

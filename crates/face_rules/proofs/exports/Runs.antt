@@ -4,11 +4,10 @@ use Prim.Native.Nat.{ℕ}
 use mathlib.Core.Path.{_≡_, refl}
 use mathlib.Core.List.{List, [], _∷_, map}
 use Rattle.rules.specs.Wheel.{Call, Answer, ok}
-use Rattle.wheel_rules.specs.records.Records.{Records}
-use Rattle.wheel_rules.specs.history.History.{Leads, done, then}
-use Rattle.face_rules.specs.exports.Words.{wordsOf}
-use Rattle.face_rules.specs.exports.History.{Exported}
-use Rattle.face_rules.specs.exports.History as exported
+use Rattle.wheel_rules.specs.Lent.{Records}
+use Rattle.wheel_rules.specs.Demand3.{Leads, done, then}
+use Rattle.face_rules.specs.Face.{wordsOf, Exported}
+use Rattle.face_rules.specs.Face as exported
 
 pub exported-leads : (R S : Records) (cs : List Call) (ws : List (List ℕ)) → Exported R cs ws S → (rs : List Answer) × Leads R cs rs S × (ws ≡ map wordsOf rs)
 exported-leads R S cs ws exported.done = ([], done, refl)

@@ -5,12 +5,11 @@ use mathlib.Core.List.{List}
 use Rattle.wheel_rules.specs.declared.calls.Noted.{Noted}
 use Rattle.wheel_rules.specs.declared.calls.Counted.{Counted}
 use Rattle.wheel_rules.specs.declared.calls.Due.{Due}
-use Rattle.wheel_rules.specs.calls.Answers.{notedSays, countedSays, dueSays}
+use Rattle.wheel_rules.specs.Promise.{notedSays, countedSays, dueSays}
 use Rattle.face_rules.specs.declared.Scheduled.{Scheduled}
 use Rattle.face_rules.specs.declared.Rescheduled.{Rescheduled}
 use Rattle.face_rules.specs.declared.Pulled.{Pulled}
-use Rattle.face_rules.specs.Answers.{scheduledSays, rescheduledSays, pulledSays}
-use Rattle.face_rules.specs.exports.Words.{wordsOf, Writes}
+use Rattle.face_rules.specs.Face.{scheduledSays, rescheduledSays, pulledSays, wordsOf, Writes}
 
 module _ {a : List ℕ} {k : ℕ} where
   pub noted-as : {x v : Noted} → x ≡ v → Writes (wordsOf (notedSays v)) a k → Writes (wordsOf (notedSays x)) a k

@@ -8,7 +8,7 @@ use mathlib.Core.Path.{_≡_, refl, _∙_, ap}
 use Prim.Native.Nat.{ℕ, zero, suc, _≤_}
 use native.Mathlib.Nat.{le-of-suc-le-suc, not-suc-le-zero}
 use mathlib.Core.List.{List, [], _∷_, map}
-use Rattle.deque_rules.specs.Chain.{upFrom}
+use Rattle.numbers.specs.Shared.{upFrom}
 use lib.ListN.{length, getD, set, take, length-set}
 
 abbrev pub fills : {X : Type 0} → (ℕ → X) → List X → ℕ → List X

@@ -9,13 +9,13 @@ use mathlib.Core.List.{List, map}
 use lib.ListN.{length, length-map, getD, List·getD-map, replicate, length-replicate, getD-replicate}
 use borrow.Author.Tests.{lt-ltb, le-ltb}
 use lib.Seq.{getD-set-same, getD-set-other, ext-getD}
-use Rattle.deque_rules.specs.Chain.{none}
-use Rattle.rules.specs.Geometry.{wheel01, buckets}
+use Rattle.numbers.specs.Shared.{noSlot as none}
+use Rattle.rules.specs.Places.{wheel01, buckets}
 use Rattle.numbers.proofs.Cases.{same?, not-both}
-use Rattle.wheel_rules.specs.records.Records.{Nodes}
+use Rattle.wheel_rules.specs.Lent.{Nodes}
 use Rattle.wheel_rules.specs.layout.Layout.{bareLinks, bareNodes}
 use Rattle.wheel_rules.proofs.layout.Bare.{bare-next-len, bare-next-at, bare-prev-len, bare-prev-at, bare-home-len, bare-home-at}
-use Rattle.face_rules.specs.declared.nodes.Node.{Node}
+use Rattle.face_rules.specs.declared.Node.{Node}
 use Rattle.face_rules.specs.nodes.Columns.{Columns, columns, columnsOf}
 use Rattle.face_rules.specs.nodes.Laid.{turnsOf, laidNode, laidNodes, Laid}
 use Rattle.face_rules.proofs.nodes.Fills.{fills, length-fills, fills-all}

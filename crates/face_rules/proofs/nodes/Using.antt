@@ -8,7 +8,7 @@ use native.Mathlib.Omega.{arith}
 use lib.Dec.{leb}
 use lib.ListN.{length, length-map, getD, take}
 use borrow.Author.Tests.{le-leb, lt-leb, leb-true, leb-false}
-use Rattle.face_rules.specs.declared.nodes.Node.{Node}
+use Rattle.face_rules.specs.declared.Node.{Node}
 use Rattle.face_rules.specs.nodes.Columns.{Columns, columns, usedOf, Holds, Loads, Stores}
 use Rattle.face_rules.specs.nodes.Blocks.{written, endOf}
 use Rattle.face_rules.proofs.nodes.Fills.{fills, fills-field}

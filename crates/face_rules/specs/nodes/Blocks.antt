@@ -1,11 +1,11 @@
--- What goes of a block of lent nodes, the places from one to before another, into a column: one field of each, at the
+-- inner: what goes of a block of lent nodes, the places from one to before another, into a column: one field of each, at the
 -- same places.
 use Prim.Native.Nat.{ℕ, _+_, _≤_}
 use mathlib.Core.Bool.{cond}
 use mathlib.Core.List.{List, _++_}
 use lib.Dec.{leb}
 use lib.ListN.{length, take, drop}
-use Rattle.face_rules.specs.declared.nodes.Node.{Node}
+use Rattle.face_rules.specs.declared.Node.{Node}
 
 -- the places from `from` to before `to` are places of the nodes and of the column
 pub record Reaches (ns : List Node) (xs : List ℕ) (from to : ℕ) : Type 0 where

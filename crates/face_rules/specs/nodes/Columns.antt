@@ -1,13 +1,13 @@
--- Six columns of numbers, which lent nodes are read into and stored back from, a field in each: "The node records are
+-- inner: six columns of numbers, which lent nodes are read into and stored back from, a field in each: "The node records are
 -- lent as one array of 166 to 4,096 records". Lent nodes that are more than fit go neither way.
 use Prim.Native.Nat.{ℕ, _≤_, _<_}
-use mathlib.Core.Path.{_≡_}
 use mathlib.Core.Bool.{cond}
 use mathlib.Core.List.{List}
+use mathlib.Core.Path.{_≡_}
 use lib.Dec.{leb}
 use lib.ListN.{length, take}
-use Rattle.face_rules.specs.declared.nodes.Node.{Node}
-use Rattle.face_rules.specs.nodes.Shown.{nexts, prevs, buckets, entryNumbers, generations, serials}
+use Rattle.face_rules.specs.Face.{nexts, prevs, buckets, entryNumbers, generations, serials}
+use Rattle.face_rules.specs.declared.Node.{Node}
 
 pub record Columns : Type 0 where
   pub next : List ℕ

@@ -1,13 +1,13 @@
--- The lent nodes as enabling lays them out: "sentinels placed, other slots free".
+-- inner: the lent nodes as enabling lays them out: "sentinels placed, other slots free".
 use Prim.Native.Nat.{ℕ, suc}
-use mathlib.Core.Path.{_≡_}
 use mathlib.Core.Bool.{Bool, true, false, cond}
 use mathlib.Core.List.{List, map}
+use mathlib.Core.Path.{_≡_}
 use lib.Dec.{ltb}
 use lib.ListN.{length}
-use Rattle.deque_rules.specs.Chain.{none, upFrom}
-use Rattle.rules.specs.Geometry.{wheel01, buckets}
-use Rattle.face_rules.specs.declared.nodes.Node.{Node}
+use Rattle.face_rules.specs.declared.Node.{Node}
+use Rattle.numbers.specs.Shared.{noSlot, upFrom}
+use Rattle.rules.specs.Places.{wheel01, buckets}
 
 -- how many of n nodes are written
 abbrev pub turnsOf : Bool → ℕ → ℕ
@@ -16,9 +16,9 @@ turnsOf on n = cond on n 0
 -- the slot i of n, over D buckets: a sentinel in the bucket i; or free, before the one above it, where there is one
 abbrev pub laidNode : ℕ → ℕ → ℕ → Node
 laidNode D n i = record {
-  next = cond (ltb i D) none (cond (ltb (suc i) n) (suc i) none);
-  prev = none;
-  bucket = cond (ltb i D) i none;
+  next = cond (ltb i D) noSlot (cond (ltb (suc i) n) (suc i) noSlot);
+  prev = noSlot;
+  bucket = cond (ltb i D) i noSlot;
   entry = 0;
   generation = 0;
   serial = 0;

@@ -45,7 +45,7 @@ use denote.Triple.Statement.{Triple}
 use denote.Triple.Table.{entered, cited}
 use denote.Triple.Walked.{says, needs, Stays, stay-slice, stay-none-slice, walkOf, goes-slice, goes-none-slice, Walks, ends-at, walked, walk-meets}
 use denote.Exit.{yes}
-use Rattle.face_rules.specs.declared.nodes.Node.{Node}
+use Rattle.face_rules.specs.declared.Node.{Node}
 use Rattle.face_rules.specs.nodes.Columns.{columns, usedOf, Holds}
 use Rattle.face_rules.specs.nodes.Blocks.{Reaches, written, endOf}
 use Rattle.nodes.proofs.Counts.{strides, yes-less, not-less}

@@ -47,7 +47,7 @@ use denote.Triple.Statement.{Triple}
 use denote.Triple.Table.{entered, cited}
 use denote.Triple.Walked.{says, needs, Stays, stay-slice, stay-none-slice, walkOf, goes-slice, goes-none-slice, Walks, ends-at, walked, walk-meets}
 use denote.Exit.{yes}
-use Rattle.face_rules.specs.declared.nodes.Node.{Node}
+use Rattle.face_rules.specs.declared.Node.{Node}
 use Rattle.face_rules.specs.nodes.Columns.{Columns, columns, usedOf, Holds}
 use Rattle.face_rules.proofs.nodes.Fills.{length-fills}
 use Rattle.nodes.proofs.Counts.{counts, yes-less, not-less, one-more}

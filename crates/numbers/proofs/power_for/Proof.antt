@@ -8,7 +8,7 @@ use native.Mathlib.Numerals.{add-one}
 use native.Mathlib.Nat.{pow-suc}
 use lib.Pow.{pow-mono}
 use borrow.Author.Needs.{needs}
-use Rattle.numbers.specs.Powers.{powerFor}
+use Rattle.numbers.specs.Shared.{powerFor}
 use Rattle.numbers.proofs.Powers.{power-for-is, power-for-top}
 use Rattle.numbers.proofs.power_for.Statement.{statement}
 use Rattle.numbers.proofs.power_for.Tie as tie

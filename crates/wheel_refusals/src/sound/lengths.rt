@@ -1,9 +1,6 @@
 // Whether the lent lengths are those at enabling, and these in their ranges. No `requires`.
-ghost use Rattle.wheel_rules.specs.sound.Decides.{Decides};
-ghost use Rattle.wheel_rules.specs.records.Records.{nodes, entries, records};
-ghost use Rattle.wheel_rules.specs.sound.Clauses.{Ranges, EndsLengths, NodesLengths, EntriesLengths, Lengths};
-ghost use Rattle.wheel_rules.specs.records.Lending.{nodesBefore};
-use wheel_rules::records::Clock;
+ghost use Rattle.wheel_rules.specs.Lent.{Decides, nodes, entries, records, Ranges, EndsLengths, NodesLengths, EntriesLengths, Lengths, nodesBefore};
+use wheel_rules::calls::Clock;
 
 // The most node records, and the most entries.
 const MOST: usize = 4096;

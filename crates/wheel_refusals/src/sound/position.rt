@@ -1,8 +1,7 @@
 // Where an open advance stands: before its first bucket or in one that it visits. No `requires`.
-ghost use Rattle.rules.specs.Geometry.{wheel01};
-ghost use Rattle.wheel_rules.specs.sound.Decides.{Decides};
-ghost use Rattle.wheel_rules.specs.sound.Clauses.{StandsAt, AdvanceStands};
-use wheel_rules::records::Clock;
+ghost use Rattle.rules.specs.Places.{wheel01};
+ghost use Rattle.wheel_rules.specs.Lent.{Decides, StandsAt, AdvanceStands};
+use wheel_rules::calls::Clock;
 use wheel_timers::place::visits::visited;
 
 const LAST: usize = 4;

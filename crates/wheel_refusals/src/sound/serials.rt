@@ -4,8 +4,7 @@
 // back goes over earlier slots only. Where serials are near each other a remainder has one slot, and this is one pass.
 ghost use Prim.Native.Nat.{_<_};
 ghost use mathlib.Core.Path.{_≡_};
-ghost use Rattle.wheel_rules.specs.sound.Decides.{Decides};
-ghost use Rattle.wheel_rules.specs.sound.Clauses.{SerialsDiffer};
+ghost use Rattle.wheel_rules.specs.Lent.{Decides, SerialsDiffer};
 ghost use Rattle.wheel_rules.specs.sound.Filing.{Walkable, Met, Fileable, Files, Sized};
 
 fn wide(x: u16) -> usize

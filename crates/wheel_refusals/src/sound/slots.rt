@@ -2,8 +2,8 @@
 // armed one its entry and its serial. One pass over the slots each.
 ghost use mathlib.Core.Path.{_≡_};
 ghost use lib.ListN.{length};
-ghost use Rattle.wheel_rules.specs.sound.Decides.{Decides};
-ghost use Rattle.wheel_rules.specs.sound.Clauses.{KindAt, Kinds, BoundAt, EntriesExist, SerialsBelow};
+ghost use Rattle.wheel_rules.specs.Lent.{Decides, KindAt, Kinds, EntriesExist, SerialsBelow};
+ghost use Rattle.wheel_rules.specs.sound.Clauses.{BoundAt};
 use deque::NONE;
 
 // Whether the slot x, whose bucket field is b, is a sentinel, armed or free.

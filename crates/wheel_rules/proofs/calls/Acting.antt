@@ -10,27 +10,22 @@ use borrow.Author.Tests.{lt-ltb}
 use borrow.Author.Needs.{scaled-fits}
 use mir.Syntax.{w64}
 use mir.Val.{Fits}
-use Rattle.deque_rules.specs.Lists.{Links, links, homeOf}
-use Rattle.deque_rules.specs.Chain.{none as noSlot}
+use Rattle.deque_rules.specs.Links.{Links, links, homeOf}
+use Rattle.numbers.specs.Shared.{noSlot, unless, notRefused as answered}
 use Rattle.deque_rules.proofs.Laws.{first-in}
-use Rattle.rules.specs.Geometry.{wheel01, buckets}
-use Rattle.rules.specs.Lists.{Node}
-use Rattle.rules.specs.Wheel.{Entry, Wheel}
-use Rattle.wheel_rules.specs.declared.records.Clock.{Clock}
-use Rattle.wheel_rules.specs.records.Records.{Nodes, Entries, Records, records, nodes, entries, join}
-use Rattle.wheel_rules.specs.records.Shows.{Shows}
+use Rattle.rules.specs.Places.{wheel01, buckets}
+use Rattle.rules.specs.Wheel.{Node, Entry, Wheel}
+use Rattle.wheel_rules.specs.declared.calls.Clock.{Clock}
+use Rattle.wheel_rules.specs.Lent.{Nodes, Entries, Records, records, nodes, entries, Shows, Armed, SoundRecords, wheelOf as shown, lent}
+use Rattle.wheel_rules.specs.records.Records.{join}
 use Rattle.wheel_rules.specs.timers.Timers.{Ready, ArmReady, SlotReady, MoveReady}
 use Rattle.wheel_rules.specs.records.Counts.{DueReady}
 use Rattle.wheel_rules.specs.records.Settings.{EntryReady}
 use Rattle.wheel_rules.specs.layout.Layout.{LayReady}
 use Rattle.wheel_rules.specs.popping.Pop.{TurnReady}
-use Rattle.wheel_rules.specs.sound.Clauses.{Armed}
-use Rattle.wheel_rules.specs.sound.Sound.{SoundRecords}
-use Rattle.wheel_rules.specs.sound.Shown.{shown}
 use Rattle.wheel_rules.proofs.sound.Showing.{sound-shows, shown-sound}
-use Rattle.wheel_rules.specs.refusals.Lent.{lent}
-use Rattle.wheel_rules.specs.refusals.Refuse.{unless, answered, roomy, Live, Lendable, RefusesEnable, RefusesCount, RefusesClosed, RefusesOpen}
-use Rattle.wheel_rules.specs.refusals.Refuse.{scheduleRows, RefusesSet, RefusesSchedule, RefusesHandle}
+use Rattle.wheel_rules.specs.refusals.Refuse.{roomy, Live, Lendable, RefusesEnable, RefusesCount, RefusesClosed, RefusesOpen, scheduleRows}
+use Rattle.wheel_rules.specs.refusals.Refuse.{RefusesSet, RefusesSchedule, RefusesHandle}
 use Rattle.wheel_rules.proofs.refusals.Rows.{past, standing-past, closed-past}
 use Rattle.wheel_rules.proofs.refusals.Refusing.{stamp-at, dated-at, deadline-at}
 

@@ -6,15 +6,16 @@ use mathlib.Core.Option.{none, some}
 use mathlib.Core.List.{List}
 use lib.ListN.{getD}
 use borrow.Author.Tests.{not-true, not-false}
-use Rattle.deque_rules.specs.Lists.{Links}
-use Rattle.rules.specs.Geometry.{wheel01}
-use Rattle.rules.specs.Wheel.{Call, create, setEntry, schedule, reschedule, deschedule, start, pull, abandon, armedCount, nextDue, Answer, refused, ok, handle}
-use Rattle.rules.specs.Wheel.{removed, number, due}
-use Rattle.wheel_rules.specs.declared.records.Clock.{Clock}
+use Rattle.deque_rules.specs.Links.{Links}
+use Rattle.rules.specs.Places.{wheel01}
+use Rattle.rules.specs.Wheel.{Call, create, setEntry, schedule, reschedule, deschedule, start, pull, abandon, armedCount, nextDue, Answer, refused, ok}
+use Rattle.rules.specs.Wheel.{handle, removed, number, due}
+use Rattle.wheel_rules.specs.declared.calls.Clock.{Clock}
 use Rattle.wheel_rules.specs.declared.timers.Armed.{Armed}
 use Rattle.wheel_rules.specs.declared.records.Due.{Due as Found}
 use Rattle.wheel_rules.specs.declared.records.Due.the-variants.{At as FoundAt, Nothing}
-use Rattle.wheel_rules.specs.records.Records.{Nodes, Entries, Records, records, entries, join}
+use Rattle.wheel_rules.specs.Lent.{Nodes, Entries, Records, records, entries, lent}
+use Rattle.wheel_rules.specs.records.Records.{join}
 use Rattle.wheel_rules.specs.timers.Timers.{Arms, Disarms, Rearms}
 use Rattle.wheel_rules.specs.records.Counts.{Counts, dueTold, FindsDue}
 use Rattle.wheel_rules.specs.records.Settings.{settled, Sets}
@@ -28,11 +29,11 @@ use Rattle.wheel_rules.specs.declared.calls.Pulled.{Pulled}
 use Rattle.wheel_rules.specs.declared.calls.Pulled.the-variants.{Expired, Rescheduled as Placed, End}
 use Rattle.wheel_rules.specs.declared.calls.Due.{Due}
 use Rattle.wheel_rules.specs.declared.calls.Due.the-variants.{At, Never}
-use Rattle.wheel_rules.specs.calls.Answers.{pulledSays, pulledClock, dueSays, TellsDue, TellsEvent}
-use Rattle.wheel_rules.specs.refusals.Lent.{lent}
-use Rattle.wheel_rules.specs.refusals.Refuse.{rowsOn, RefusesEnable, RefusesCount, RefusesClosed, RefusesOpen, RefusesSet, RefusesSchedule, RefusesHandle}
-use Rattle.wheel_rules.specs.calls.Work.{createdClock, emptyEnds, entrySet, descheduled, moved}
-use Rattle.wheel_rules.specs.calls.Promise.{enabling, Promised, over, Begins}
+use Rattle.wheel_rules.specs.Promise.{pulledSays, pulledClock, dueSays, createdClock, emptyEnds, enabling, Promised, over, Begins}
+use Rattle.wheel_rules.specs.calls.Answers.{TellsDue, TellsEvent}
+use Rattle.wheel_rules.specs.refusals.Refuse.{rowsOn, RefusesEnable, RefusesCount, RefusesClosed, RefusesOpen, RefusesSet, RefusesSchedule}
+use Rattle.wheel_rules.specs.refusals.Refuse.{RefusesHandle}
+use Rattle.wheel_rules.specs.calls.Work.{entrySet, descheduled, moved}
 use Rattle.wheel_rules.specs.calls.Calls.{written, says}
 use Rattle.wheel_rules.proofs.calls.Deciding.{LentTo}
 use Rattle.wheel_rules.proofs.calls.Promising.{promise}

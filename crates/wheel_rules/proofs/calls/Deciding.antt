@@ -10,25 +10,20 @@ use mathlib.Core.List.{List, [], _∷_}
 use lib.ListN.{length, getD}
 use lib.Dec.{eqb, leb, ltb}
 use borrow.Author.Tests.{eq-eqb, ne-eqb, eqb-true, lt-ltb, lt-leb, le-leb, ltb-true, leb-true}
-use Rattle.deque_rules.specs.Chain.{first, In}
-use Rattle.deque_rules.specs.Chain.{none as noSlot}
-use Rattle.deque_rules.specs.Lists.{homeOf}
-use Rattle.rules.specs.Geometry.{wheel01, buckets}
-use Rattle.rules.specs.Lists.{Node}
-use Rattle.rules.specs.Wheel.{Entry, Advance, closed, poised, within, Wheel, Call, create, enable, setEntry, schedule, reschedule, deschedule, start, pull, abandon}
-use Rattle.rules.specs.Wheel.{armedCount, nextDue}
-use Rattle.rules.specs.Refusals.{Row, Tests, rows, testsOf, pick, isOpen, isNone, isEmpty, isStale, inRange, refusal, refusalIf}
+use Rattle.deque_rules.specs.Links.{first, homeOf}
+use Rattle.numbers.specs.Shared.{In, noSlot, unless, notRefused as answered}
+use Rattle.rules.specs.Places.{wheel01, buckets}
+use Rattle.rules.specs.Wheel.{Node, Entry, Advance, closed, poised, within, Wheel, Call, create, enable, setEntry, schedule, reschedule, deschedule, start}
+use Rattle.rules.specs.Wheel.{pull, abandon, armedCount, nextDue}
+use Rattle.rules.specs.Calls.{Row, Tests, rows, testsOf, pick, isOpen, isNone, isEmpty, isStale, inRange, refusalIf}
+use Rattle.rules.specs.Runs.{refusal}
 use Rattle.numbers.proofs.Cases.{same?}
 use Rattle.rules.proofs.Passing.{fresh}
-use Rattle.wheel_rules.specs.declared.records.Clock.{Clock}
-use Rattle.wheel_rules.specs.records.Records.{Records}
-use Rattle.wheel_rules.specs.records.Shows.{nodeAt, ShowsAdvance, Shows}
-use Rattle.wheel_rules.specs.sound.Decides.{Decides}
-use Rattle.wheel_rules.specs.sound.Clauses.{Ranges}
-use Rattle.wheel_rules.specs.sound.Sound.{SoundRecords}
-use Rattle.wheel_rules.specs.sound.Shown.{shown}
-use Rattle.wheel_rules.specs.refusals.Refuse.{unless, answered, given, Live, Lendable, testsOn, rowsOn}
-use Rattle.wheel_rules.specs.calls.Promise.{allAre, fits, enabling, Looks}
+use Rattle.wheel_rules.specs.declared.calls.Clock.{Clock}
+use Rattle.wheel_rules.specs.Lent.{Records, nodeAt, ShowsAdvance, Shows, Decides, Ranges, SoundRecords, wheelOf as shown}
+use Rattle.numbers.specs.Rows.{given}
+use Rattle.wheel_rules.specs.refusals.Refuse.{Live, Lendable, testsOn, rowsOn}
+use Rattle.wheel_rules.specs.Promise.{allAre, fits, enabling, Looks}
 use Rattle.wheel_rules.specs.history.Tells.{Tells}
 use Rattle.wheel_rules.proofs.sound.Showing.{sound-shows, shown-sound}
 

@@ -5,30 +5,29 @@ use mathlib.Core.Path.{_≡_, refl, sym, ap, subst}
 use mathlib.Core.Bool.{Bool, true, false, cond}
 use mathlib.Core.Option.{Option, none, some}
 use lib.ListN.{getD}
-use Rattle.deque_rules.specs.Lists.{Links}
-use Rattle.deque_rules.specs.Change.{linkBack, Pushable}
+use Rattle.deque_rules.specs.Links.{Links, linkBack}
+use Rattle.deque_rules.specs.Change.{Pushable}
 use Rattle.deque_rules.proofs.Laws.{first-in, pushes}
-use Rattle.rules.specs.Geometry.{wheel01}
-use Rattle.rules.specs.Place.{bucketOf}
+use Rattle.rules.specs.Places.{wheel01, bucketOf}
 use Rattle.rules.specs.Wheel.{Wheel, setEntry, schedule, reschedule, deschedule, start, pull, abandon, armedCount, nextDue, Answer, ok, number, due}
 use Rattle.rules.specs.Wheel.{removed}
 use Rattle.rules.specs.Calls.{act, rearmed}
 use Rattle.rules.proofs.Placing.{bucketOf-in}
-use Rattle.wheel_rules.specs.declared.records.Clock.{Clock}
-use Rattle.wheel_rules.specs.records.Records.{Nodes, Entries, Records}
-use Rattle.wheel_rules.specs.records.Shows.{Shows}
+use Rattle.wheel_rules.specs.declared.calls.Clock.{Clock}
+use Rattle.wheel_rules.specs.Lent.{Nodes, Entries, Records, Shows}
 use Rattle.wheel_rules.specs.records.Clocks.{ended}
 use Rattle.wheel_rules.specs.records.Settings.{EntryReady}
 use Rattle.wheel_rules.specs.timers.Change.{written}
 use Rattle.wheel_rules.specs.timers.Timers.{SlotReady, MoveReady}
 use Rattle.wheel_rules.specs.layout.Layout.{LayReady}
 use Rattle.wheel_rules.specs.popping.Pop.{TurnReady}
-use Rattle.wheel_rules.specs.refusals.Refuse.{answered, unless, enableRows, setRows, scheduleRows, handleRows, closedRows, openRows, countRows}
-use Rattle.wheel_rules.specs.refusals.Refuse.{RefusesSet, RefusesHandle}
+use Rattle.numbers.specs.Shared.{notRefused as answered, unless}
+use Rattle.wheel_rules.specs.refusals.Refuse.{enableRows, setRows, scheduleRows, handleRows, closedRows, openRows, countRows, RefusesSet}
+use Rattle.wheel_rules.specs.refusals.Refuse.{RefusesHandle}
 use Rattle.wheel_rules.specs.calls.Work.{entrySet, deadlineAt, scheduled, handleOf, descheduled, moved, hasDeadline, rescheduled, rescheduleSays}
 use Rattle.wheel_rules.specs.calls.Work.{laidOut, entryOf, opened, left, pulled, pullSays, armedSays, nextSays}
 use Rattle.wheel_rules.specs.calls.Calls.{Acts}
-use Rattle.wheel_rules.specs.calls.Promise.{enabling}
+use Rattle.wheel_rules.specs.Promise.{enabling}
 use Rattle.wheel_rules.proofs.records.Setting.{sets-does}
 use Rattle.wheel_rules.proofs.records.Retiming.{start-does, end-does, abandon-does}
 use Rattle.wheel_rules.proofs.records.Counting.{count-same, due-same}

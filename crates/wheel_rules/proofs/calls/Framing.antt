@@ -8,17 +8,16 @@ use mathlib.Core.List.{List, []}
 use lib.ListN.{length, getD, getD-replicate}
 use lib.Dec.{ltb, leb}
 use borrow.Author.Tests.{ltb-true}
-use Rattle.deque_rules.specs.Chain.{none, In}
-use Rattle.deque_rules.specs.Lists.{homeOf, deq}
-use Rattle.deque_rules.specs.Listed.{listed}
+use Rattle.numbers.specs.Shared.{noSlot as none, In, unless, notRefused as answered}
+use Rattle.deque_rules.specs.Links.{homeOf, deq, listed}
 use Rattle.deque_rules.specs.Change.{turnTo}
 use Rattle.deque_rules.proofs.Laws.{first-in, head-is, whole-listed}
-use Rattle.rules.specs.Geometry.{wheel01, buckets}
-use Rattle.rules.specs.Visits.{bucketAt}
+use Rattle.rules.specs.Places.{wheel01, buckets, bucketAt}
 use Rattle.rules.proofs.Placing.{bucketOf-in}
 use Rattle.numbers.proofs.Cases.{below?}
-use Rattle.wheel_rules.specs.declared.records.Clock.{Clock}
-use Rattle.wheel_rules.specs.records.Records.{Nodes, Records, withLinks}
+use Rattle.wheel_rules.specs.declared.calls.Clock.{Clock}
+use Rattle.wheel_rules.specs.Lent.{Nodes, Records, SoundRecords}
+use Rattle.wheel_rules.specs.records.Records.{withLinks}
 use Rattle.wheel_rules.specs.records.Clocks.{standing, ended}
 use Rattle.wheel_rules.specs.timers.Change.{freedFrom, movedTo}
 use Rattle.wheel_rules.specs.declared.popping.Position.{Position}
@@ -27,10 +26,9 @@ use Rattle.wheel_rules.specs.declared.popping.Turn.{Turn}
 use Rattle.wheel_rules.specs.popping.Pop.{goes, stops, standsIn, waitingAt, nextPosition, popNodes, popTurn, left as turnsLeft}
 use Rattle.wheel_rules.specs.turns.Turns.{onLinks, onTurn, turnNodes, turnTurn}
 use Rattle.wheel_rules.specs.pull.Pull.{Step, turns}
-use Rattle.wheel_rules.specs.sound.Sound.{SoundRecords}
-use Rattle.wheel_rules.specs.refusals.Refuse.{unless, answered, roomy, Live, Lendable, enableRows, scheduleRows, handleRows, closedRows, openRows}
+use Rattle.wheel_rules.specs.refusals.Refuse.{roomy, Live, Lendable, enableRows, scheduleRows, handleRows, closedRows, openRows}
 use Rattle.wheel_rules.specs.calls.Work.{scheduled, descheduled, moved, rescheduled, entrySet, opened, left, pulled, laidOut, hasDeadline}
-use Rattle.wheel_rules.specs.calls.Frame.{DeadFields, DeadClock, Blank}
+use Rattle.wheel_rules.specs.Promise.{DeadFields, DeadClock, Blank}
 use Rattle.wheel_rules.proofs.layout.Bare.{bare-next-len, bare-prev-at}
 use Rattle.wheel_rules.proofs.popping.Positions.{bucketAt-in}
 use Rattle.wheel_rules.proofs.popping.Waiting.{wait-before, wait-none, wait-some}

@@ -7,15 +7,17 @@ use mathlib.Core.Logic.{⊎-elim}
 use mathlib.Core.List.{List, []}
 use lib.ListN.{length, getD, set, length-set}
 use lib.Seq.{getD-set-same, getD-set-other}
-use Rattle.deque_rules.specs.Chain.{none, first}
-use Rattle.deque_rules.specs.Lists.{Links, Lists, homeOf, Rep, pushBack, takeOut, turn, freed}
-use Rattle.deque_rules.specs.Change.{linkBack, removed, moveBack, turnTo}
-use Rattle.deque_rules.proofs.Laws.{remove-rep, move-rep, turn-rep, home-linked, home-removed, home-moved, home-turned}
-use Rattle.deque_rules.proofs.Laws.{idle-linked, idle-moved, idle-removed, idle-turned, prev-removed}
+use Rattle.deque_rules.specs.Links.{first, Links, Deques as Lists, homeOf, Rep, linkBack, removed, moveBack}
+use Rattle.numbers.specs.Shared.{noSlot as none}
+use Rattle.deque_rules.specs.Lists.{pushBack, takeOut, turn, freed}
+use Rattle.deque_rules.specs.Change.{turnTo}
+use Rattle.deque_rules.proofs.Laws.{remove-rep, move-rep, turn-rep, home-linked, home-removed, home-moved, home-turned, idle-linked, idle-moved}
+use Rattle.deque_rules.proofs.Laws.{idle-removed, idle-turned, prev-removed}
 use Rattle.numbers.proofs.Cases.{same?}
-use Rattle.wheel_rules.specs.records.Records.{Nodes, withLinks}
+use Rattle.wheel_rules.specs.Lent.{Nodes}
+use Rattle.wheel_rules.specs.records.Records.{withLinks}
 use Rattle.wheel_rules.specs.timers.Change.{written, armedIn, freedFrom, movedTo}
-use Rattle.wheel_rules.specs.calls.Frame.{payloadAt, blank, DeadFields}
+use Rattle.wheel_rules.specs.Promise.{payloadAt, blank, DeadFields}
 
 -- ---- a payload written
 module _ (a : Links) (x e h n : ℕ) (N : Nodes) where

@@ -3,12 +3,12 @@ use Prim.Native.Nat.{ℕ}
 use mathlib.Core.Path.{_≡_, refl, sym, ap, _∙_}
 use mathlib.Core.Bool.{Bool, true, false, cond}
 use mathlib.Core.Option.{none, some}
-use Rattle.rules.specs.Geometry.{wheel01}
+use Rattle.rules.specs.Places.{wheel01}
 use Rattle.rules.specs.Wheel.{Wheel, Call, Answer}
 use Rattle.rules.specs.Calls.{act}
 use Rattle.rules.specs.Sound.{Sound}
-use Rattle.wheel_rules.specs.records.Records.{Records}
-use Rattle.wheel_rules.specs.records.Shows.{Shows, Stands}
+use Rattle.wheel_rules.specs.Lent.{Records, Shows}
+use Rattle.wheel_rules.specs.records.Shows.{Stands}
 use Rattle.wheel_rules.specs.calls.Calls.{Acts}
 
 -- records that show an enabled wheel stand for it

@@ -8,30 +8,30 @@ use mathlib.Core.Bool.{Bool, true, false, cond, not, false≢true}
 use mathlib.Core.Option.{Option, none, some}
 use mathlib.Core.List.{List, [], _∷_}
 use lib.ListN.{length}
-use Rattle.rules.specs.Geometry.{wheel01, buckets}
+use Rattle.rules.specs.Places.{wheel01, buckets}
 use Rattle.rules.specs.Wheel.{Wheel, Call, create, enable, setEntry, schedule, reschedule, deschedule, start, pull, abandon, armedCount, nextDue, Answer}
 use Rattle.rules.specs.Wheel.{refused}
-use Rattle.rules.specs.Refusals.{Row, rows, isNone, refusalIf}
-use Rattle.rules.specs.Calls.{armed, rearmed, act, judged, step, stepIf}
+use Rattle.rules.specs.Calls.{Row, rows, isNone, refusalIf, armed, rearmed, act, judged, stepIf}
+use Rattle.rules.specs.Runs.{step}
 use Rattle.rules.specs.Sound.{SoundIfEnabled}
 use Rattle.numbers.proofs.Cases.{same?}
 use Rattle.numbers.proofs.Rows.{Single, none-left, row}
 use Rattle.rules.proofs.SoundCalls.{sound-step}
-use Rattle.wheel_rules.specs.records.Records.{Entries, Records, records}
-use Rattle.wheel_rules.specs.records.Shows.{Shows, Stands}
-use Rattle.wheel_rules.specs.sound.Decides.{Decides}
-use Rattle.wheel_rules.specs.sound.Sound.{SoundRecords, InRange}
-use Rattle.wheel_rules.specs.sound.Shown.{shown}
-use Rattle.wheel_rules.specs.refusals.Refuse.{unless, answered, given, Lendable, testsOn, rowsOn}
+use Rattle.wheel_rules.specs.Lent.{Entries, Records, records, Shows, Decides, SoundRecords, wheelOf as shown}
+use Rattle.wheel_rules.specs.records.Shows.{Stands}
+use Rattle.wheel_rules.specs.sound.Sound.{InRange}
+use Rattle.numbers.specs.Rows.{given}
+use Rattle.numbers.specs.Shared.{unless, notRefused as answered}
+use Rattle.wheel_rules.specs.refusals.Refuse.{Lendable, testsOn, rowsOn}
 use Rattle.wheel_rules.specs.calls.Work.{hasDeadline, moved, descheduled}
-use Rattle.wheel_rules.specs.calls.Promise.{enabling, Looks, orZero, entriesWith, Shown, Kept, Cleared, Leaves, Promised}
+use Rattle.wheel_rules.specs.Promise.{enabling, Looks, orZero, entriesWith, Shown, Kept, Cleared, Leaves, Promised}
 use Rattle.wheel_rules.specs.calls.Calls.{written, says, Acts, Meets}
 use Rattle.wheel_rules.specs.history.Tells.{Tells}
 use Rattle.wheel_rules.proofs.refusals.Rows.{past, standing-past, closed-past}
 use Rattle.wheel_rules.proofs.sound.Shown.{shows-sound}
 use Rattle.wheel_rules.proofs.calls.Deciding.{LentTo, number-is, later, rest, tells-shown, numbered, given-number, lent-to}
-use Rattle.wheel_rules.proofs.calls.Doing.{enable-acts, schedule-acts, reschedule-acts, deschedule-acts, set-acts, start-acts, abandon-acts, pull-acts}
-use Rattle.wheel_rules.proofs.calls.Doing.{count-acts, due-acts}
+use Rattle.wheel_rules.proofs.calls.Doing.{enable-acts, schedule-acts, reschedule-acts, deschedule-acts, set-acts, start-acts, abandon-acts}
+use Rattle.wheel_rules.proofs.calls.Doing.{pull-acts, count-acts, due-acts}
 use Rattle.wheel_rules.proofs.calls.Framing.{Framed, schedule-framed, deschedule-framed, reschedule-framed, set-framed, start-framed, abandon-framed}
 use Rattle.wheel_rules.proofs.calls.Framing.{pull-framed, same-framed, enable-blank}
 use Rattle.wheel_rules.proofs.calls.Same.{frame-determines, blank-determines}

@@ -7,11 +7,9 @@ use mathlib.Core.List.{List}
 use lib.ListN.{length, getD}
 use lib.Dec.{ltb, leb}
 use borrow.Author.Tests.{ltb-true}
-use Rattle.rules.specs.Geometry.{wheel01}
-use Rattle.rules.specs.Place.{placeOf}
-use Rattle.rules.specs.Visits.{visitedAt}
-use Rattle.wheel_rules.specs.declared.records.Clock.{Clock}
-use Rattle.wheel_rules.specs.records.Records.{Nodes, Records}
+use Rattle.rules.specs.Places.{wheel01, placeOf, visitedAt}
+use Rattle.wheel_rules.specs.declared.calls.Clock.{Clock}
+use Rattle.wheel_rules.specs.Lent.{Nodes, Records, SoundRecords}
 use Rattle.wheel_rules.specs.records.Clocks.{setFree, counted, started, ended, abandoned, standing}
 use Rattle.wheel_rules.specs.declared.popping.Turn.{Turn}
 use Rattle.wheel_rules.specs.declared.popping.Pulled.the-variants.{Expired, Rescheduled, End}
@@ -19,7 +17,7 @@ use Rattle.wheel_rules.specs.popping.Position.{at, over, onward}
 use Rattle.wheel_rules.specs.popping.Pop.{goes, stops, waitingAt, nextPosition, popTurn, left}
 use Rattle.wheel_rules.specs.turns.Turns.{onTurn, turnNodes, turnTurn}
 use Rattle.wheel_rules.specs.pull.Pull.{Step, turns, pullStep}
-use Rattle.wheel_rules.specs.sound.Sound.{SoundRecords, InRange}
+use Rattle.wheel_rules.specs.sound.Sound.{InRange}
 use Rattle.wheel_rules.specs.refusals.Refuse.{Lendable}
 use Rattle.wheel_rules.specs.calls.Work.{laidOut, moved, descheduled}
 

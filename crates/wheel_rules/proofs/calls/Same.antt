@@ -8,19 +8,16 @@ use mathlib.Core.List.{List, []}
 use lib.ListN.{length, getD}
 use lib.Seq.{ext-getD}
 use borrow.Author.Tests.{lt-ltb}
-use Rattle.deque_rules.specs.Chain.{none, first}
-use Rattle.deque_rules.specs.Lists.{Links, Lists, homeOf, Rep}
+use Rattle.deque_rules.specs.Links.{first, Links, Deques as Lists, homeOf, Rep}
+use Rattle.numbers.specs.Shared.{noSlot as none}
 use Rattle.deque_rules.proofs.Laws.{Alike, links-alike}
-use Rattle.rules.specs.Geometry.{Geometry, buckets}
-use Rattle.rules.specs.Visits.{visitedAt, ahead}
-use Rattle.rules.specs.Lists.{Node}
-use Rattle.rules.specs.Wheel.{Advance, closed, poised, within, Wheel}
+use Rattle.rules.specs.Places.{Geometry, buckets, visitedAt, ahead}
+use Rattle.rules.specs.Wheel.{Node, Advance, closed, poised, within, Wheel}
 use Rattle.rules.proofs.Places.{ahead-once}
 use Rattle.numbers.proofs.Cases.{below?, same?}
-use Rattle.wheel_rules.specs.declared.records.Clock.{Clock}
-use Rattle.wheel_rules.specs.records.Records.{Nodes, Records}
-use Rattle.wheel_rules.specs.records.Shows.{nodeAt, ShowsAdvance, Shows}
-use Rattle.wheel_rules.specs.calls.Frame.{Payload, payloadAt, prevAt, DeadFields, DeadClock, Blank}
+use Rattle.wheel_rules.specs.declared.calls.Clock.{Clock}
+use Rattle.wheel_rules.specs.Lent.{Nodes, Records, nodeAt, ShowsAdvance, Shows}
+use Rattle.wheel_rules.specs.Promise.{Payload, payloadAt, prevAt, DeadFields, DeadClock, Blank}
 
 -- node records with D buckets agree in what a wheel does not show of them
 pub record AgreeDead (D : ℕ) (N N′ : Nodes) : Type 0 where

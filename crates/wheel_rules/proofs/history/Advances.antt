@@ -4,21 +4,18 @@ use mathlib.Core.Path.{_≡_, refl, sym, ap, subst, _∙_}
 use mathlib.Core.Logic.{⊎-elim}
 use mathlib.Core.Bool.{true, false, false≢true}
 use mathlib.Core.List.{List, [], _∷_}
-use Rattle.rules.specs.Geometry.{wheel01}
+use Rattle.rules.specs.Places.{wheel01}
 use Rattle.rules.specs.Wheel.{Advance, closed, poised, within, Wheel, Call, create, start, Answer, ok}
-use Rattle.rules.specs.Refusals.{isOpen}
-use Rattle.rules.specs.Calls.{origin, step}
-use Rattle.rules.specs.Runs.{Run, next}
+use Rattle.rules.specs.Calls.{isOpen, origin}
+use Rattle.rules.specs.Runs.{step, Run, next}
 use Rattle.rules.specs.Demand3.{StaysOpen as RunOpen, Advancing as RunAdvancing}
 use Rattle.rules.proofs.Advances.{start-taken, stays-first}
 use Rattle.rules.proofs.Enabled.{stays-enabled}
-use Rattle.wheel_rules.specs.declared.records.Clock.{Clock}
-use Rattle.wheel_rules.specs.records.Records.{Records}
-use Rattle.wheel_rules.specs.records.Shows.{ShowsAdvance}
-use Rattle.wheel_rules.specs.calls.Promise.{Promised}
+use Rattle.wheel_rules.specs.declared.calls.Clock.{Clock}
+use Rattle.wheel_rules.specs.Lent.{Records, ShowsAdvance}
+use Rattle.wheel_rules.specs.Promise.{Promised}
 use Rattle.wheel_rules.specs.history.Tells.{Tells}
-use Rattle.wheel_rules.specs.history.History.{Leads, done, then}
-use Rattle.wheel_rules.specs.history.Demand3.{StaysOpen, Advancing}
+use Rattle.wheel_rules.specs.Demand3.{Leads, done, then, StaysOpen, Advancing}
 use Rattle.wheel_rules.proofs.calls.Deciding.{open-is}
 use Rattle.wheel_rules.proofs.history.Steps.{step-is}
 

@@ -3,16 +3,14 @@ use Prim.Native.Nat.{ℕ, _≤_}
 use native.Mathlib.Omega.{arith}
 use mathlib.Core.Path.{_≡_, refl, sym, ap, subst, _∙_}
 use mathlib.Core.List.{List, _∷_, _++_}
-use Rattle.rules.specs.Geometry.{wheel01}
-use Rattle.rules.specs.Wheel.{Call, start, pull, abandon, Answer, ok, end}
-use Rattle.rules.specs.Timers.{handed, Later}
+use Rattle.rules.specs.Places.{wheel01}
+use Rattle.rules.specs.Wheel.{Call, start, pull, abandon, Answer, ok, end, handed, Later}
 use Rattle.rules.specs.Runs.{Run, answer, answers, after}
 use Rattle.rules.specs.Demand3.{Advancing as RunAdvancing, Among as RunAmong, NoneBefore as RunNone, AbandonedOneHad as RunHad}
-use Rattle.wheel_rules.specs.records.Records.{Records}
-use Rattle.wheel_rules.specs.calls.Promise.{Promised}
+use Rattle.wheel_rules.specs.Lent.{Records}
+use Rattle.wheel_rules.specs.Promise.{Promised}
 use Rattle.wheel_rules.specs.history.Tells.{Tells}
-use Rattle.wheel_rules.specs.history.History.{Leads, then}
-use Rattle.wheel_rules.specs.history.Demand3.{Among, NoneBefore, AbandonedOneHad}
+use Rattle.wheel_rules.specs.Demand3.{Leads, then, Among, NoneBefore, AbandonedOneHad}
 use Rattle.wheel_rules.proofs.history.Steps.{step-is}
 use Rattle.wheel_rules.proofs.history.Runs.{run-is}
 use Rattle.wheel_rules.proofs.history.Splitting.{Parts, parts}

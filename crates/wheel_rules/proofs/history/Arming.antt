@@ -7,19 +7,16 @@ use mathlib.Core.Option.{some}
 use lib.ListN.{getD}
 use lib.Dec.{ltb}
 use borrow.Author.Tests.{ltb-true}
-use Rattle.rules.specs.Geometry.{wheel01}
-use Rattle.rules.specs.Lists.{Node}
-use Rattle.rules.specs.Wheel.{Entry, Wheel, Call, schedule, reschedule, Answer, ok, handle}
-use Rattle.rules.specs.Timers.{IsRefused}
-use Rattle.rules.specs.Refusals.{rows, testsOf, isOpen, refusal}
-use Rattle.rules.specs.Calls.{act, judged, step}
+use Rattle.rules.specs.Places.{wheel01}
+use Rattle.rules.specs.Wheel.{Node, Entry, Wheel, Call, schedule, reschedule, Answer, ok, handle, IsRefused}
+use Rattle.rules.specs.Calls.{rows, testsOf, isOpen, act, judged}
+use Rattle.rules.specs.Runs.{refusal, step}
 use Rattle.rules.specs.Demand3.{Arms as RunArms}
 use Rattle.rules.proofs.Passing.{rest, pass, ready, fresh, handles}
-use Rattle.wheel_rules.specs.records.Records.{Records}
-use Rattle.wheel_rules.specs.records.Shows.{entryAt}
-use Rattle.wheel_rules.specs.calls.Promise.{Promised}
+use Rattle.wheel_rules.specs.Lent.{Records, entryAt}
+use Rattle.wheel_rules.specs.Promise.{Promised}
 use Rattle.wheel_rules.specs.history.Tells.{Tells}
-use Rattle.wheel_rules.specs.history.Demand3.{Arms}
+use Rattle.wheel_rules.specs.Demand3.{Arms}
 use Rattle.wheel_rules.proofs.history.Steps.{step-is}
 use Rattle.wheel_rules.proofs.history.Standing.{armed-node}
 

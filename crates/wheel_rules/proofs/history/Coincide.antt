@@ -4,8 +4,8 @@ use native.Mathlib.Omega.{arith}
 use mathlib.Core.Path.{_≡_, refl, ap}
 use mathlib.Core.List.{List}
 use Rattle.rules.specs.Wheel.{Call, create, Answer}
-use Rattle.wheel_rules.specs.declared.records.Clock.{Clock}
-use Rattle.wheel_rules.specs.records.Records.{Nodes, Entries, Records, records}
+use Rattle.wheel_rules.specs.declared.calls.Clock.{Clock}
+use Rattle.wheel_rules.specs.Lent.{Nodes, Entries, Records, records}
 use Rattle.wheel_rules.specs.declared.calls.Timed.{Timed}
 use Rattle.wheel_rules.specs.declared.calls.Timed.the-variants.{Done, Refused as TimedRefused}
 use Rattle.wheel_rules.specs.declared.calls.Noted.{Noted}
@@ -20,9 +20,8 @@ use Rattle.wheel_rules.specs.declared.calls.Counted.{Counted}
 use Rattle.wheel_rules.specs.declared.calls.Counted.the-variants.{Armed as Count, Refused as CountedRefused}
 use Rattle.wheel_rules.specs.declared.calls.Due.{Due}
 use Rattle.wheel_rules.specs.declared.calls.Due.the-variants.{At, Never, Refused as DueRefused}
-use Rattle.wheel_rules.specs.calls.Answers.{timedSays, notedSays, scheduledSays, rescheduledSays, pulledSays, countedSays, dueSays, timedClock}
-use Rattle.wheel_rules.specs.calls.Answers.{scheduledClock, rescheduledClock, pulledClock}
-use Rattle.wheel_rules.specs.calls.Promise.{Promised, over, Begins}
+use Rattle.wheel_rules.specs.Promise.{timedSays, notedSays, scheduledSays, rescheduledSays, pulledSays, countedSays, dueSays, timedClock}
+use Rattle.wheel_rules.specs.Promise.{scheduledClock, rescheduledClock, pulledClock, Promised, over, Begins}
 use Rattle.wheel_rules.proofs.calls.Promising.{coincide}
 
 -- ---- what is said, and the clock, determine the answer

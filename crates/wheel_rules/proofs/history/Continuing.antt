@@ -5,19 +5,17 @@ use mathlib.Core.Path.{_≡_, refl, subst}
 use mathlib.Core.Logic.{⊎-elim}
 use mathlib.Core.Bool.{true}
 use mathlib.Core.List.{List, [], _∷_}
-use Rattle.rules.specs.Geometry.{wheel01}
+use Rattle.rules.specs.Places.{wheel01}
 use Rattle.rules.specs.Wheel.{Wheel, Call, create, enable, setEntry, schedule, reschedule, deschedule, start, pull, abandon, armedCount, nextDue, Answer}
 use Rattle.rules.specs.Wheel.{refused}
-use Rattle.rules.specs.Refusals.{refusalIf}
+use Rattle.rules.specs.Calls.{refusalIf}
 use Rattle.numbers.proofs.Cases.{same?}
-use Rattle.wheel_rules.specs.records.Records.{Records}
-use Rattle.wheel_rules.specs.sound.Sound.{SoundRecords}
-use Rattle.wheel_rules.specs.sound.Shown.{shown}
+use Rattle.wheel_rules.specs.Lent.{Records, SoundRecords, wheelOf as shown}
 use Rattle.wheel_rules.specs.refusals.Refuse.{rowsOn}
-use Rattle.wheel_rules.specs.calls.Promise.{Looks, Promised}
+use Rattle.wheel_rules.specs.Promise.{Looks, Promised}
 use Rattle.wheel_rules.specs.calls.Calls.{written, says}
 use Rattle.wheel_rules.specs.history.Tells.{Tells}
-use Rattle.wheel_rules.specs.history.History.{Leads, done, then}
+use Rattle.wheel_rules.specs.Demand3.{Leads, done, then}
 use Rattle.wheel_rules.proofs.calls.Deciding.{LentTo, given-number}
 use Rattle.wheel_rules.proofs.calls.Promising.{promise}
 use Rattle.wheel_rules.proofs.history.Steps.{step-is}

@@ -6,11 +6,10 @@ use mathlib.Core.Path.{_≡_, refl, sym, ap, subst, _∙_}
 use mathlib.Core.Logic.{_⊎_, inl, inr, ⊎-elim}
 use mathlib.Core.Bool.{true}
 use mathlib.Core.List.{List, [], _∷_, _++_}
-use Rattle.rules.specs.Geometry.{wheel01}
-use Rattle.rules.specs.Wheel.{Advance, closed, poised, within, Wheel, Call, create, start, pull, Answer, ok, end, expired}
-use Rattle.rules.specs.Timers.{LeftAlone, handsOut, handed, Timely, Later}
-use Rattle.rules.specs.Refusals.{isOpen}
-use Rattle.rules.specs.Calls.{origin}
+use Rattle.rules.specs.Places.{wheel01}
+use Rattle.rules.specs.Wheel.{Advance, closed, poised, within, Wheel, Call, create, start, pull, Answer, ok, end, expired, LeftAlone, handsOut, handed}
+use Rattle.rules.specs.Wheel.{Timely, Later}
+use Rattle.rules.specs.Calls.{isOpen, origin}
 use Rattle.rules.specs.Runs.{Run, answer, next, answers, after}
 use Rattle.rules.specs.Demand3.{Unchanged, Advancing as RunAdvancing, Full as RunFull, Demand3 as RunDemand3}
 use Rattle.rules.specs.Worked.{nothing}
@@ -19,11 +18,10 @@ use Rattle.rules.proofs.Arming.{arms-waiting}
 use Rattle.rules.proofs.Demand3.{demand3}
 use Rattle.rules.proofs.Seen.{left-alone}
 use Rattle.rules.proofs.Enabled.{unchanged-enabled}
-use Rattle.wheel_rules.specs.records.Records.{Records}
-use Rattle.wheel_rules.specs.calls.Promise.{Promised}
+use Rattle.wheel_rules.specs.Lent.{Records}
+use Rattle.wheel_rules.specs.Promise.{Promised}
 use Rattle.wheel_rules.specs.history.Tells.{Tells}
-use Rattle.wheel_rules.specs.history.History.{Leads, done, then}
-use Rattle.wheel_rules.specs.history.Demand3.{Arms, InOneBucket, Advancing, Full, NoneBefore, AbandonedOneHad, Demand3}
+use Rattle.wheel_rules.specs.Demand3.{Leads, done, then, Arms, InOneBucket, Advancing, Full, NoneBefore, AbandonedOneHad, Demand3}
 use Rattle.wheel_rules.proofs.history.Steps.{step-is}
 use Rattle.wheel_rules.proofs.history.Runs.{run-is, history}
 use Rattle.wheel_rules.proofs.history.Splitting.{leads-on, alone-on}

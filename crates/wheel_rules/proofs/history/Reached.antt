@@ -8,21 +8,19 @@ use mathlib.Core.Bool.{true, false}
 use mathlib.Core.Option.{some}
 use mathlib.Core.List.{List, [], _∷_}
 use lib.ListN.{replicate}
-use Rattle.rules.specs.Geometry.{wheel01, tick}
-use Rattle.rules.specs.Wheel.{Entry, Call, create, enable, setEntry, schedule, start, pull, Answer, ok, handle, end}
-use Rattle.rules.specs.Timers.{LeftAlone, handsOut, handed, Timely, Later}
+use Rattle.rules.specs.Places.{wheel01, tick}
+use Rattle.rules.specs.Wheel.{Entry, Call, create, enable, setEntry, schedule, start, pull, Answer, ok, handle, end, LeftAlone, handsOut, handed, Timely}
+use Rattle.rules.specs.Wheel.{Later}
 use Rattle.rules.specs.Runs.{Run, next, answers, after}
 use Rattle.rules.specs.Demand3.{Advancing as RunAdvancing, Full as RunFull, NoneBefore as RunNone}
 use Rattle.rules.specs.Worked.{nothing}
 use Rattle.rules.proofs.Premises.{armed-10, run-10, full-10, hands-out-10}
-use Rattle.rules.proofs.Reached.{none-10, abandoned-10, full-abandoned, none-abandoned, hands-out-none, early, armed-early, advancing-early, hands-out-early}
-use Rattle.rules.proofs.Reached.{armed-back, run-back, full-back, none-back, hands-out-back}
-use Rattle.wheel_rules.specs.records.Records.{Records, nodes, entries, records}
-use Rattle.wheel_rules.specs.calls.Work.{createdClock, created}
-use Rattle.wheel_rules.specs.calls.Promise.{enabling, Promised}
+use Rattle.rules.proofs.Reached.{none-10, abandoned-10, full-abandoned, none-abandoned, hands-out-none, early, armed-early, advancing-early}
+use Rattle.rules.proofs.Reached.{hands-out-early, armed-back, run-back, full-back, none-back, hands-out-back}
+use Rattle.wheel_rules.specs.Lent.{Records, nodes, entries, records}
+use Rattle.wheel_rules.specs.Promise.{createdClock, created, enabling, Promised}
 use Rattle.wheel_rules.specs.history.Tells.{Tells}
-use Rattle.wheel_rules.specs.history.History.{Leads, then}
-use Rattle.wheel_rules.specs.history.Demand3.{Arms, Advancing, Full, NoneBefore, AbandonedOneHad}
+use Rattle.wheel_rules.specs.Demand3.{Leads, then, Arms, Advancing, Full, NoneBefore, AbandonedOneHad}
 use Rattle.wheel_rules.proofs.history.Steps.{create-is, step-is}
 use Rattle.wheel_rules.proofs.history.Runs.{run-is, history}
 use Rattle.wheel_rules.proofs.history.Advances.{records-advancing}

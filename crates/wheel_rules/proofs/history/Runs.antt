@@ -5,14 +5,13 @@ use native.Mathlib.Omega.{arith}
 use mathlib.Core.Path.{_≡_, refl, sym, _∙_}
 use mathlib.Core.Bool.{true}
 use mathlib.Core.List.{List, [], _∷_}
-use Rattle.rules.specs.Geometry.{wheel01}
+use Rattle.rules.specs.Places.{wheel01}
 use Rattle.rules.specs.Wheel.{Wheel, Call, create, Answer, refused, ok}
 use Rattle.rules.specs.Runs.{Run, next, answers, after}
 use Rattle.rules.specs.Worked.{nothing}
-use Rattle.wheel_rules.specs.records.Records.{Records}
-use Rattle.wheel_rules.specs.sound.Sound.{SoundRecords}
+use Rattle.wheel_rules.specs.Lent.{Records, SoundRecords}
 use Rattle.wheel_rules.specs.history.Tells.{Tells}
-use Rattle.wheel_rules.specs.history.History.{Leads, done, then, NeverFour}
+use Rattle.wheel_rules.specs.Demand3.{Leads, done, then, NeverFour}
 use Rattle.wheel_rules.proofs.history.Steps.{create-is, step-is, never-four}
 
 -- calls on records that tell a wheel: their answers are the rules' answers, and the records then tell the rules' wheel

@@ -2,11 +2,10 @@
 use Prim.Native.Nat.{ℕ}
 use mathlib.Core.Path.{_≡_, refl, ap}
 use mathlib.Core.List.{List, [], _∷_, _++_}
-use Rattle.rules.specs.Wheel.{Call, start, Answer}
-use Rattle.rules.specs.Timers.{LeftAlone}
-use Rattle.wheel_rules.specs.records.Records.{Records}
-use Rattle.wheel_rules.specs.calls.Promise.{Promised}
-use Rattle.wheel_rules.specs.history.History.{Leads, done, then}
+use Rattle.rules.specs.Wheel.{Call, start, Answer, LeftAlone}
+use Rattle.wheel_rules.specs.Lent.{Records}
+use Rattle.wheel_rules.specs.Promise.{Promised}
+use Rattle.wheel_rules.specs.Demand3.{Leads, done, then}
 
 -- ---- put together
 pub leads-on : {R S T : Records} {cs ds : List Call} {rs ts : List Answer} → Leads R cs rs S → Leads S ds ts T → Leads R (cs ++ ds) (rs ++ ts) T

@@ -5,17 +5,16 @@ use mathlib.Core.Path.{_≡_, sym, ap, subst, _∙_}
 use mathlib.Core.Bool.{true}
 use mathlib.Core.List.{_∷_}
 use borrow.Author.Tests.{ltb-true}
-use Rattle.deque_rules.specs.Lists.{homeOf}
-use Rattle.rules.specs.Geometry.{wheel01, buckets}
-use Rattle.rules.specs.Lists.{Bucket, Node, whole, hit, count, times}
-use Rattle.rules.specs.Wheel.{Wheel}
+use Rattle.deque_rules.specs.Links.{homeOf}
+use Rattle.rules.specs.Places.{wheel01, buckets}
+use Rattle.rules.specs.Lists.{times}
+use Rattle.rules.specs.Wheel.{Bucket, Node, whole, hit, count, Wheel}
 use Rattle.rules.specs.Sound.{Sound}
 use Rattle.rules.specs.Demand3.{InOneBucket as InOne}
 use Rattle.deque_rules.proofs.Laws.{deq-is}
 use Rattle.rules.proofs.Counting.{hit-not, count-app}
-use Rattle.wheel_rules.specs.records.Records.{Records}
-use Rattle.wheel_rules.specs.records.Shows.{nodeAt, Shows}
-use Rattle.wheel_rules.specs.history.Demand3.{chainOf, InOneBucket}
+use Rattle.wheel_rules.specs.Lent.{Records, nodeAt, Shows}
+use Rattle.wheel_rules.specs.Demand3.{chainOf, InOneBucket}
 
 -- a slot that is not the sentinel z stands as often in the list with the sentinel as in the bucket
 count-whole : (x z : ℕ) (B : Bucket) → (x ≡ z → ⊥) → count x (whole z B) ≡ times x B

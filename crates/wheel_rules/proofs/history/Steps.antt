@@ -5,23 +5,22 @@ use mathlib.Core.Path.{_≡_, refl, sym, ap, subst, _∙_}
 use mathlib.Core.Logic.{⊎-elim}
 use mathlib.Core.Bool.{Bool, true, false, cond, false≢true}
 use mathlib.Core.List.{List, [], _∷_}
-use Rattle.rules.specs.Geometry.{wheel01}
+use Rattle.rules.specs.Places.{wheel01}
 use Rattle.rules.specs.Wheel.{Wheel, Call, create, enable, setEntry, schedule, reschedule, deschedule, start, pull, abandon, armedCount, nextDue, Answer}
 use Rattle.rules.specs.Wheel.{refused, ok, removed}
-use Rattle.rules.specs.Refusals.{Row, rows, testsOf, pick, refusal}
-use Rattle.rules.specs.Calls.{act, judged, step}
+use Rattle.rules.specs.Calls.{Row, rows, testsOf, pick, act, judged}
+use Rattle.rules.specs.Runs.{refusal, step}
 use Rattle.rules.specs.Sound.{SoundIfEnabled}
 use Rattle.numbers.proofs.Cases.{same?}
 use Rattle.rules.proofs.SoundCalls.{sound-step}
-use Rattle.wheel_rules.specs.records.Records.{Records}
+use Rattle.wheel_rules.specs.Lent.{Records, SoundRecords}
 use Rattle.wheel_rules.specs.records.Shows.{Stands}
-use Rattle.wheel_rules.specs.sound.Sound.{SoundRecords}
 use Rattle.wheel_rules.specs.declared.popping.Pulled.{Pulled}
 use Rattle.wheel_rules.specs.declared.popping.Pulled.the-variants.{Expired, Rescheduled, End}
 use Rattle.wheel_rules.specs.popping.Pop.{told}
 use Rattle.wheel_rules.specs.refusals.Refuse.{rowsOn}
 use Rattle.wheel_rules.specs.calls.Work.{hasDeadline, pulling}
-use Rattle.wheel_rules.specs.calls.Promise.{Leaves, Promised}
+use Rattle.wheel_rules.specs.Promise.{Leaves, Promised}
 use Rattle.wheel_rules.specs.calls.Calls.{says}
 use Rattle.wheel_rules.specs.history.Tells.{Tells}
 use Rattle.wheel_rules.proofs.calls.Deciding.{LentTo, number-is, lent-to}

@@ -13,20 +13,20 @@ use lib.ListN.{length, getD, set, length-set, length-replicate, getD-replicate}
 use lib.Seq.{getD-set-same, getD-set-other, ext-getD}
 use lib.Dec.{ltb}
 use borrow.Author.Tests.{lt-ltb, le-ltb}
-use Rattle.deque_rules.specs.Chain.{none, Path, first, upFrom}
-use Rattle.deque_rules.specs.Lists.{Links, Rep, allFree}
-use Rattle.deque_rules.specs.Layout.{fresh}
-use Rattle.deque_rules.proofs.Laws.{push-rep, fresh-rep, home-linked, heads-long, next-long, tails-linked, prev-linked, heads-alone, next-alone, fresh-heads}
-use Rattle.deque_rules.proofs.Laws.{fresh-tails, fresh-prev, fresh-home, fresh-next-len, fresh-chained}
+use Rattle.deque_rules.specs.Links.{Path, first, Links, Rep, fresh}
+use Rattle.numbers.specs.Shared.{noSlot as none, upFrom}
+use Rattle.deque_rules.specs.Lists.{allFree}
+use Rattle.deque_rules.proofs.Laws.{push-rep, fresh-rep, home-linked, heads-long, next-long, tails-linked, prev-linked, heads-alone, next-alone}
+use Rattle.deque_rules.proofs.Laws.{fresh-heads, fresh-tails, fresh-prev, fresh-home, fresh-next-len, fresh-chained}
 use Rattle.numbers.proofs.Counting.{length-up}
-use Rattle.rules.specs.Geometry.{wheel01, buckets}
+use Rattle.rules.specs.Places.{wheel01, buckets}
 use Rattle.rules.specs.Wheel.{enable}
 use Rattle.rules.specs.Calls.{act}
 use Rattle.numbers.proofs.Cases.{below?, same?}
-use Rattle.wheel_rules.specs.declared.records.Clock.{Clock}
-use Rattle.wheel_rules.specs.records.Records.{Nodes, Entries, records}
-use Rattle.wheel_rules.specs.records.Shows.{Shows}
-use Rattle.wheel_rules.specs.layout.Layout.{seated, bareLinks, bareNodes, bareEntries, enabledWith, seatedLists, LayReady, Lays}
+use Rattle.wheel_rules.specs.declared.calls.Clock.{Clock}
+use Rattle.wheel_rules.specs.Lent.{Nodes, Entries, records, Shows}
+use Rattle.wheel_rules.specs.Promise.{bareEntries}
+use Rattle.wheel_rules.specs.layout.Layout.{seated, bareLinks, bareNodes, enabledWith, seatedLists, LayReady, Lays}
 use Rattle.wheel_rules.proofs.layout.Seating.{counts, slots, first-is, bare-shows}
 
 -- ---- numbers upwards

@@ -5,17 +5,18 @@ use native.Mathlib.Numerals.{add-one}
 use mathlib.Core.Bool.{true}
 use mathlib.Core.Path.{_≡_, refl, subst}
 use lib.ListN.{length, replicate}
-use Rattle.deque_rules.specs.Chain.{first, upFrom}
-use Rattle.deque_rules.specs.Lists.{Links}
-use Rattle.deque_rules.specs.Layout.{fresh, LaysOut}
+use Rattle.deque_rules.specs.Links.{first, Links, fresh}
+use Rattle.numbers.specs.Shared.{upFrom}
+use Rattle.deque_rules.specs.Layout.{LaysOut}
 use Rattle.deque_rules.proofs.Laws.{pushes, lays}
-use Rattle.rules.specs.Geometry.{wheel01}
+use Rattle.rules.specs.Places.{wheel01}
 use Rattle.rules.specs.Wheel.{Wheel, enable}
 use Rattle.rules.specs.Calls.{act}
-use Rattle.wheel_rules.specs.declared.records.Clock.{Clock}
-use Rattle.wheel_rules.specs.records.Records.{Nodes, Entries, records, join}
-use Rattle.wheel_rules.specs.records.Shows.{Shows}
-use Rattle.wheel_rules.specs.layout.Layout.{bareNodes, bareEntries, enabledWith, SeatReady, Seats, LayReady, Lays}
+use Rattle.wheel_rules.specs.declared.calls.Clock.{Clock}
+use Rattle.wheel_rules.specs.Lent.{Nodes, Entries, records, Shows}
+use Rattle.wheel_rules.specs.records.Records.{join}
+use Rattle.wheel_rules.specs.Promise.{bareEntries}
+use Rattle.wheel_rules.specs.layout.Layout.{bareNodes, enabledWith, SeatReady, Seats, LayReady, Lays}
 use Rattle.wheel_rules.proofs.layout.Seating.{Seating, seating-begins, seating-asks, seating-again, seating-ends, laid}
 
 -- ---- the sentinels, one after another

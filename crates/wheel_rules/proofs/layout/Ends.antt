@@ -8,8 +8,8 @@ use mathlib.Core.List.{List}
 use lib.ListN.{length, getD, set, length-set}
 use lib.Seq.{getD-set-same, getD-set-other}
 use Rattle.numbers.proofs.Cases.{same?}
-use Rattle.wheel_rules.specs.declared.records.Clock.{Clock}
-use Rattle.wheel_rules.specs.records.Records.{entries}
+use Rattle.wheel_rules.specs.declared.calls.Clock.{Clock}
+use Rattle.wheel_rules.specs.Lent.{entries}
 use Rattle.wheel_rules.specs.layout.Layout.{ClearsEntries, enabledWith}
 use Rattle.wheel_rules.specs.layout.Around.{SeatsEnds, LaysAround}
 use Rattle.wheel_rules.proofs.layout.Bare.{numbered, bare-heads, bare-tails}

@@ -10,23 +10,23 @@ use lib.ListN.{length, length-set, replicate, length-replicate, getD-replicate}
 use lib.Seq.{getD-set-same, getD-set-other}
 use lib.Dec.{ltb}
 use borrow.Author.Tests.{le-ltb}
-use Rattle.deque_rules.specs.Chain.{In, first, rest, upFrom}
-use Rattle.deque_rules.specs.Chain.{none as nowhere}
-use Rattle.deque_rules.specs.Lists.{Links, links, Rep, homeOf, deq, allFree, pushBack}
-use Rattle.deque_rules.specs.Lists.{Lists as Held, taken}
-use Rattle.deque_rules.specs.Change.{linkBack, Pushable, PushesBack}
+use Rattle.deque_rules.specs.Links.{first, Links, links, Rep, homeOf, deq, Deques as Held, linkBack}
+use Rattle.numbers.specs.Lists.{rest}
+use Rattle.numbers.specs.Shared.{In, upFrom, noSlot as nowhere}
+use Rattle.deque_rules.specs.Lists.{allFree, pushBack, taken}
+use Rattle.deque_rules.specs.Change.{Pushable, PushesBack}
 use Rattle.deque_rules.specs.Layout.{LaysOut}
-use Rattle.rules.specs.Geometry.{Geometry, wheel01, buckets}
-use Rattle.rules.specs.Lists.{upwards}
-use Rattle.rules.specs.Wheel.{Wheel, enable}
+use Rattle.rules.specs.Places.{Geometry, wheel01, buckets}
+use Rattle.rules.specs.Wheel.{upwards, Wheel, enable}
 use Rattle.rules.specs.Calls.{act}
 use Rattle.numbers.proofs.Cases.{same?, not-both}
-use Rattle.wheel_rules.specs.declared.records.Clock.{Clock}
-use Rattle.wheel_rules.specs.records.Records.{Nodes, nodes, entries, records, join}
-use Rattle.wheel_rules.specs.records.Shows.{Shows}
+use Rattle.wheel_rules.specs.declared.calls.Clock.{Clock}
+use Rattle.wheel_rules.specs.Lent.{Nodes, nodes, entries, records, Shows}
+use Rattle.wheel_rules.specs.records.Records.{join}
 use Rattle.wheel_rules.specs.records.Clocks.{setFree, setLengths}
 use Rattle.wheel_rules.specs.records.Moments.{EndsAdvance}
-use Rattle.wheel_rules.specs.layout.Layout.{seated, bareEntries, enabledWith, seatedLists, SeatReady, Seats, Clears, ClearsEntries, LayReady, Lays}
+use Rattle.wheel_rules.specs.Promise.{bareEntries}
+use Rattle.wheel_rules.specs.layout.Layout.{seated, enabledWith, seatedLists, SeatReady, Seats, Clears, ClearsEntries, LayReady, Lays}
 
 -- ---- the lists
 module _ (D n : ℕ) where

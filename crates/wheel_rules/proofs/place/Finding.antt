@@ -2,7 +2,7 @@
 use Prim.Native.Nat.{ℕ, zero, suc, _+_, _-_, _*_, _^_, _≤_, _<_, min}
 use native.Mathlib.Omega.{arith}
 use mathlib.Core.Path.{_≡_, refl, sym, ap, _∙_}
-use Rattle.rules.specs.Geometry.{wheel01, dense, spaced, firstOf}
+use Rattle.rules.specs.Places.{wheel01, dense, spaced, firstOf}
 use Rattle.rules.proofs.Placing.{lowest-is}
 use Rattle.wheel_rules.specs.declared.place.Place.{Place}
 use Rattle.wheel_rules.specs.place.Levels.{shift01, indexAt, placeAt}

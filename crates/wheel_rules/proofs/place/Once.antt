@@ -2,7 +2,8 @@
 use Prim.Native.Nat.{ℕ}
 use mathlib.Core.Path.{_≡_, sym, ap, _∙_}
 use Rattle.wheel_rules.specs.declared.place.Place.{Place}
-use Rattle.wheel_rules.specs.place.Promises.{Found, InBucket, Placed}
+use Rattle.wheel_rules.specs.Promise.{Placed}
+use Rattle.wheel_rules.specs.place.Promises.{Found, InBucket}
 
 -- the host's function
 pub placed-once : {reading deadline a b : ℕ} → Placed reading deadline a → Placed reading deadline b → a ≡ b

@@ -6,7 +6,7 @@ use native.Mathlib.Omega.{arith}
 use mathlib.Core.Path.{_≡_, refl, sym, ap, _∙_}
 use lib.Pow.{pow-pos}
 use lib.Bits.{bitAnd, and-mask}
-use Rattle.rules.specs.Geometry.{tick}
+use Rattle.rules.specs.Places.{tick}
 use Rattle.wheel_rules.specs.place.Levels.{shift01, size01, first01, indexAt}
 
 -- what f is at a level

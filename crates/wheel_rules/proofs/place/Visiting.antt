@@ -6,8 +6,7 @@ use mathlib.Core.Path.{_≡_, sym, ap, _∙_}
 use lib.Pow.{pow-pos}
 use lib.Bits.{bitAnd, and-mask}
 use borrow.Author.Tests.{lt-ltb, le-ltb}
-use Rattle.rules.specs.Geometry.{wheel01, tick}
-use Rattle.rules.specs.Visits.{visitedAt, bucketAt}
+use Rattle.rules.specs.Places.{wheel01, tick, visitedAt, bucketAt}
 use Rattle.wheel_rules.specs.place.Levels.{shift01, size01, first01}
 
 -- s and n are the level's shift and count

@@ -7,23 +7,20 @@ use mathlib.Core.Option.{Option, none, some}
 use mathlib.Core.List.{List}
 use lib.ListN.{length, getD, set, length-set}
 use borrow.Author.Tests.{ltb-true, le-leb, lt-leb}
-use Rattle.deque_rules.specs.Lists.{Links, homeOf}
+use Rattle.deque_rules.specs.Links.{Links, homeOf}
 use Rattle.deque_rules.proofs.Laws.{home-removed}
-use Rattle.rules.specs.Geometry.{Geometry, wheel01, buckets}
-use Rattle.rules.specs.Place.{bucketOf, placeOf}
-use Rattle.rules.specs.Lists.{Node, Lists, placedIn, unlink, link, release, pop}
-use Rattle.rules.specs.Wheel.{Entry, Advance, within, Wheel, Answer, expired, rescheduled}
-use Rattle.rules.specs.Pull.{Pulled, pulled}
-use Rattle.rules.specs.Calls.{withLists, rearmed}
+use Rattle.rules.specs.Places.{Geometry, wheel01, buckets, bucketOf, placeOf}
+use Rattle.rules.specs.Wheel.{Node, Lists, placedIn, unlink, link, release, pop, Entry, Advance, within, Wheel, Answer, expired, rescheduled}
+use Rattle.rules.specs.Calls.{AfterPull as Pulled, pulled, withLists, rearmed}
 use Rattle.rules.specs.Sound.{Sound}
 use Rattle.numbers.proofs.Cases.{not-both}
 use Rattle.wheel_rules.specs.declared.place.Place.{Place}
 use Rattle.wheel_rules.specs.place.Promises.{Found}
-use Rattle.wheel_rules.specs.declared.records.Clock.{Clock}
-use Rattle.wheel_rules.specs.records.Records.{Nodes, Entries, entries, records, withLinks}
-use Rattle.wheel_rules.specs.records.Shows.{nodeAt, Shows}
+use Rattle.wheel_rules.specs.declared.calls.Clock.{Clock}
+use Rattle.wheel_rules.specs.Lent.{Nodes, Entries, entries, records, nodeAt, Shows}
+use Rattle.wheel_rules.specs.records.Records.{withLinks}
 use Rattle.wheel_rules.specs.records.Counts.{armedAmong}
-use Rattle.deque_rules.specs.Chain.{none as nowhere}
+use Rattle.numbers.specs.Shared.{noSlot as nowhere}
 use Rattle.wheel_rules.proofs.popping.Fewer.{fewer}
 use Rattle.wheel_rules.specs.timers.Timers.{SlotReady, MoveReady, Disarms, Rearms}
 use Rattle.wheel_rules.specs.declared.popping.Pulled.the-variants.{Expired, Rescheduled}

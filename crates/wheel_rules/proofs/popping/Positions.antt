@@ -11,8 +11,7 @@ use mathlib.Core.List.{List, [], _∷_}
 use lib.ListN.{length}
 use lib.Pow.{pow-pos}
 use borrow.Author.Tests.{lt-ltb, le-ltb}
-use Rattle.rules.specs.Geometry.{Geometry, wheel01, tick, shiftOf, sizeOf, dense, firstOf, total, buckets}
-use Rattle.rules.specs.Visits.{visitedAt, bucketAt, ahead}
+use Rattle.rules.specs.Places.{Geometry, wheel01, tick, shiftOf, sizeOf, dense, firstOf, total, buckets, visitedAt, bucketAt, ahead}
 use Rattle.numbers.proofs.Cases.{below?, not-both}
 use Rattle.rules.proofs.Positions.{ahead-more, ahead-over, ahead-end, ahead-still}
 use Rattle.wheel_rules.specs.place.Levels.{size01}

@@ -7,12 +7,11 @@ use mathlib.Core.Bool.{true}
 use mathlib.Core.Option.{none, some}
 use mathlib.Core.List.{List, [], _∷_}
 use borrow.Author.Tests.{le-leb, lt-leb, ne-eqb, eq-eqb}
-use Rattle.rules.specs.Geometry.{Geometry}
-use Rattle.rules.specs.Place.{bucketOf, placeOf}
-use Rattle.rules.specs.Lists.{Bucket, Lists, placedIn, update, without, count, times, taken, unlink, link, release, shortened, pop}
-use Rattle.rules.specs.Wheel.{Entry, within, Wheel, Answer, expired, rescheduled}
-use Rattle.rules.specs.Pull.{emptied, Pulled, stopped, swept, pulled}
-use Rattle.rules.specs.Calls.{withLists, withClock}
+use Rattle.rules.specs.Places.{Geometry, bucketOf, placeOf}
+use Rattle.rules.specs.Lists.{times}
+use Rattle.rules.specs.Wheel.{Bucket, Lists, placedIn, update, without, count, taken, unlink, link, release, shortened, pop, Entry, within, Wheel, Answer}
+use Rattle.rules.specs.Wheel.{expired, rescheduled}
+use Rattle.rules.specs.Calls.{emptied, AfterPull as Pulled, stopped, swept, pulled, withLists, withClock}
 use Rattle.rules.specs.Sound.{SoundLists}
 use Rattle.numbers.proofs.Cases.{same?}
 use Rattle.rules.proofs.Counting.{hit-is, hit-most, hit-same}

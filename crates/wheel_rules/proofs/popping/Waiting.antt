@@ -7,21 +7,19 @@ use mathlib.Core.Bool.{true}
 use mathlib.Core.List.{List, [], _∷_, _++_}
 use lib.ListN.{length, getD}
 use borrow.Author.Tests.{eq-eqb, ne-eqb}
-use Rattle.deque_rules.specs.Chain.{first}
-use Rattle.deque_rules.specs.Chain.{none as nowhere}
+use Rattle.deque_rules.specs.Links.{first}
+use Rattle.numbers.specs.Shared.{noSlot as nowhere}
 use Rattle.deque_rules.proofs.Laws.{head-is}
-use Rattle.rules.specs.Geometry.{Geometry, buckets}
-use Rattle.rules.specs.Visits.{visits, bucketAt, ahead}
-use Rattle.rules.specs.Lists.{whole, count, times}
-use Rattle.rules.specs.Wheel.{Advance, closed, poised, within, Wheel}
-use Rattle.rules.specs.Pull.{swept, pulled}
+use Rattle.rules.specs.Places.{Geometry, buckets, visits, bucketAt, ahead}
+use Rattle.rules.specs.Lists.{times}
+use Rattle.rules.specs.Wheel.{whole, count, Advance, closed, poised, within, Wheel}
+use Rattle.rules.specs.Calls.{swept, pulled}
 use Rattle.rules.specs.Sound.{Sound}
 use Rattle.numbers.proofs.Cases.{below?, same?, not-both}
 use Rattle.rules.proofs.Counting.{hit-is}
 use Rattle.rules.proofs.Positions.{ahead-start}
-use Rattle.wheel_rules.specs.declared.records.Clock.{Clock}
-use Rattle.wheel_rules.specs.records.Records.{Nodes, Entries, records}
-use Rattle.wheel_rules.specs.records.Shows.{ShowsAdvance, Shows}
+use Rattle.wheel_rules.specs.declared.calls.Clock.{Clock}
+use Rattle.wheel_rules.specs.Lent.{Nodes, Entries, records, ShowsAdvance, Shows}
 use Rattle.wheel_rules.specs.popping.Pop.{standsIn, waitingAt}
 use Rattle.wheel_rules.proofs.popping.Positions.{bucketAt-in}
 use Rattle.wheel_rules.proofs.popping.Turning.{turn-done}

@@ -4,13 +4,12 @@ use native.Mathlib.Omega.{arith}
 use mathlib.Core.Path.{_≡_, refl, subst}
 use mathlib.Core.Bool.{Bool, true, false}
 use mathlib.Core.List.{List}
-use Rattle.rules.specs.Geometry.{wheel01}
+use Rattle.rules.specs.Places.{wheel01}
 use Rattle.rules.specs.Wheel.{Wheel, pull}
 use Rattle.rules.specs.Calls.{act}
 use Rattle.rules.specs.Sound.{Sound}
-use Rattle.wheel_rules.specs.declared.records.Clock.{Clock}
-use Rattle.wheel_rules.specs.records.Records.{Nodes, entries, records}
-use Rattle.wheel_rules.specs.records.Shows.{Shows}
+use Rattle.wheel_rules.specs.declared.calls.Clock.{Clock}
+use Rattle.wheel_rules.specs.Lent.{Nodes, entries, records, Shows}
 use Rattle.wheel_rules.specs.declared.popping.Pulled.{Pulled}
 use Rattle.wheel_rules.specs.declared.popping.Turn.{Turn}
 use Rattle.wheel_rules.specs.popping.Pop.{told, left, TurnReady}

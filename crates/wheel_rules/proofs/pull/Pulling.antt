@@ -5,13 +5,12 @@ use mathlib.Core.Path.{_≡_, refl, sym, ap, subst, _∙_}
 use mathlib.Core.Bool.{Bool, true, false, cond}
 use mathlib.Core.List.{List}
 use lib.ListN.{length}
-use Rattle.rules.specs.Geometry.{wheel01}
+use Rattle.rules.specs.Places.{wheel01}
 use Rattle.rules.specs.Wheel.{Wheel, Answer, pull}
 use Rattle.rules.specs.Calls.{act}
 use Rattle.rules.specs.Sound.{Sound}
-use Rattle.wheel_rules.specs.declared.records.Clock.{Clock}
-use Rattle.wheel_rules.specs.records.Records.{Nodes, entries, records}
-use Rattle.wheel_rules.specs.records.Shows.{Shows}
+use Rattle.wheel_rules.specs.declared.calls.Clock.{Clock}
+use Rattle.wheel_rules.specs.Lent.{Nodes, entries, records, Shows}
 use Rattle.wheel_rules.specs.declared.popping.Turn.{Turn}
 use Rattle.wheel_rules.specs.popping.Pop.{told, left, TurnReady}
 use Rattle.wheel_rules.specs.turns.Turns.{Turned}

@@ -7,14 +7,13 @@ use mathlib.Core.List.{List}
 use lib.ListN.{length, getD}
 use lib.Dec.{eqb, leb}
 use borrow.Author.Tests.{eqb-true, leb-true, eq-eqb, ne-eqb}
-use Rattle.deque_rules.specs.Lists.{Links}
+use Rattle.deque_rules.specs.Links.{Links}
 use Rattle.deque_rules.specs.Read.{Front, Follows}
 use Rattle.deque_rules.proofs.Laws.{turn-stays}
-use Rattle.rules.specs.Geometry.{Geometry, wheel01, buckets}
-use Rattle.rules.specs.Visits.{visitedAt, bucketAt}
+use Rattle.rules.specs.Places.{Geometry, wheel01, buckets, visitedAt, bucketAt}
 use Rattle.numbers.proofs.Cases.{not-both}
-use Rattle.wheel_rules.specs.declared.records.Clock.{Clock}
-use Rattle.wheel_rules.specs.records.Records.{Nodes}
+use Rattle.wheel_rules.specs.declared.calls.Clock.{Clock}
+use Rattle.wheel_rules.specs.Lent.{Nodes}
 use Rattle.wheel_rules.specs.records.Clocks.{standing}
 use Rattle.wheel_rules.specs.declared.popping.Position.{Position}
 use Rattle.wheel_rules.specs.declared.popping.Turn.{Turn}

@@ -10,17 +10,15 @@ use mathlib.Core.List.{List}
 use lib.ListN.{length, getD}
 use lib.Dec.{ltb}
 use borrow.Author.Tests.{lt-ltb, le-ltb, le-leb, lt-leb}
-use Rattle.rules.specs.Geometry.{Geometry, wheel01, buckets}
-use Rattle.rules.specs.Lists.{Node}
-use Rattle.rules.specs.Wheel.{Wheel, Entry, number, due}
+use Rattle.rules.specs.Places.{Geometry, wheel01, buckets}
+use Rattle.rules.specs.Wheel.{Node, Wheel, Entry, number, due}
 use Rattle.rules.specs.Calls.{armedBelow, sooner, keyOf, leastKey}
 use Rattle.rules.specs.Sound.{Sound}
 use Rattle.numbers.proofs.Cases.{below?}
-use Rattle.wheel_rules.specs.declared.records.Clock.{Clock}
+use Rattle.wheel_rules.specs.declared.calls.Clock.{Clock}
 use Rattle.wheel_rules.specs.declared.records.Due.{Due}
 use Rattle.wheel_rules.specs.declared.records.Due.the-variants.{At, Nothing}
-use Rattle.wheel_rules.specs.records.Records.{Nodes, nodes, Entries, entries, records}
-use Rattle.wheel_rules.specs.records.Shows.{nodeAt, entryAt, Shows}
+use Rattle.wheel_rules.specs.Lent.{Nodes, nodes, Entries, entries, records, nodeAt, entryAt, Shows}
 use Rattle.wheel_rules.specs.records.Counts.{armedAmong, IsOne, Counts, dueTold, keyAt, leastAmong, KeyReady, DueReady, FindsKey, Sooner, FindsDue}
 
 -- ---- armed count: the loop

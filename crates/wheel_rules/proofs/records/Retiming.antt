@@ -2,14 +2,12 @@
 use Prim.Native.Nat.{ℕ}
 use mathlib.Core.Path.{_≡_, refl, sym, ap, _∙_}
 use mathlib.Core.Bool.{Bool, true, false}
-use Rattle.rules.specs.Geometry.{Geometry}
-use Rattle.rules.specs.Visits.{visits}
+use Rattle.rules.specs.Places.{Geometry, visits}
 use Rattle.rules.specs.Wheel.{Advance, closed, poised, within, Wheel}
 use Rattle.rules.specs.Calls.{withClock, origin}
 use Rattle.numbers.proofs.Cases.{not-both}
-use Rattle.wheel_rules.specs.declared.records.Clock.{Clock}
-use Rattle.wheel_rules.specs.records.Records.{Nodes, Entries, records}
-use Rattle.wheel_rules.specs.records.Shows.{ShowsAdvance, Shows}
+use Rattle.wheel_rules.specs.declared.calls.Clock.{Clock}
+use Rattle.wheel_rules.specs.Lent.{Nodes, Entries, records, ShowsAdvance, Shows}
 use Rattle.wheel_rules.specs.records.Clocks.{setReading, setAdvance, started, ended}
 use Rattle.wheel_rules.specs.records.Moments.{Starts, EndsAdvance, Abandons}
 

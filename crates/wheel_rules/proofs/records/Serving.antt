@@ -5,13 +5,12 @@ use mathlib.Core.Path.{_≡_, _∙_}
 use mathlib.Core.Bool.{true}
 use lib.ListN.{length}
 use borrow.Author.Tests.{lt-ltb}
-use Rattle.deque_rules.specs.Lists.{homeOf}
-use Rattle.rules.specs.Geometry.{Geometry, buckets}
+use Rattle.deque_rules.specs.Links.{homeOf}
+use Rattle.rules.specs.Places.{Geometry, buckets}
 use Rattle.rules.specs.Wheel.{Wheel}
 use Rattle.rules.specs.Sound.{Sound}
-use Rattle.wheel_rules.specs.declared.records.Clock.{Clock}
-use Rattle.wheel_rules.specs.records.Records.{Nodes, Entries, records}
-use Rattle.wheel_rules.specs.records.Shows.{Shows}
+use Rattle.wheel_rules.specs.declared.calls.Clock.{Clock}
+use Rattle.wheel_rules.specs.Lent.{Nodes, Entries, records, Shows}
 use Rattle.wheel_rules.specs.records.Settings.{EntryReady}
 
 module _ (g : Geometry) (N : Nodes) (E : Entries) (c : Clock) (w : Wheel) (s : Shows g (records N E c) w) where

@@ -8,12 +8,10 @@ use mathlib.Core.List.{List}
 use lib.ListN.{set, length-set}
 use lib.Seq.{getD-set-same, getD-set-other}
 use borrow.Author.Tests.{eq-eqb, ne-eqb}
-use Rattle.rules.specs.Geometry.{Geometry}
-use Rattle.rules.specs.Lists.{update}
-use Rattle.rules.specs.Wheel.{Entry}
+use Rattle.rules.specs.Places.{Geometry}
+use Rattle.rules.specs.Wheel.{update, Entry}
 use Rattle.numbers.proofs.Cases.{same?}
-use Rattle.wheel_rules.specs.records.Records.{Entries, entries}
-use Rattle.wheel_rules.specs.records.Shows.{entryAt}
+use Rattle.wheel_rules.specs.Lent.{Entries, entries, entryAt}
 use Rattle.wheel_rules.specs.records.Settings.{EntryReady, Sets}
 
 says : {t t′ : Bool} {d d′ h h′ : ℕ} → t ≡ t′ → d ≡ d′ → h ≡ h′

@@ -9,18 +9,20 @@ use lib.ListN.{length, getD, set, length-set}
 use lib.Seq.{getD-set-same, getD-set-other}
 use lib.Dec.{eqb, ltb}
 use borrow.Author.Tests.{eq-eqb, ne-eqb, lt-ltb, le-ltb}
-use Rattle.deque_rules.specs.Chain.{In, rest, remove, before, after}
-use Rattle.deque_rules.specs.Chain.{none as nowhere, turned as turnedList}
-use Rattle.deque_rules.specs.Lists.{Links, homeOf, deq, Rep, withDeque, pushBack, takeOut, turn, taken as takenFree, freed as freedSlot}
-use Rattle.deque_rules.specs.Lists.{Lists as Held}
+use Rattle.numbers.specs.Lists.{rest, remove}
+use Rattle.numbers.specs.Shared.{In, beforeIn as before, afterIn as after, noSlot as nowhere}
+use Rattle.deque_rules.specs.Chain.{turned as turnedList}
+use Rattle.deque_rules.specs.Links.{Links, homeOf, deq, Rep, Deques as Held}
+use Rattle.deque_rules.specs.Lists.{withDeque, pushBack, takeOut, turn, taken as takenFree, freed as freedSlot}
 use Rattle.numbers.proofs.Members.{split-at}
-use Rattle.rules.specs.Lists.{Bucket, Node, Lists, whole, newNode, placedIn, freed, update, without, count, times, pushed, link, taken, unlink, release, claim}
-use Rattle.rules.specs.Lists.{turned, enter}
+use Rattle.rules.specs.Lists.{times}
+use Rattle.rules.specs.Wheel.{Bucket, Node, Lists, whole, newNode, placedIn, freed, update, without, count, atBack as pushed, link, taken, unlink, release}
+use Rattle.rules.specs.Wheel.{claim, turned, enter}
 use Rattle.rules.specs.Sound.{SoundLists}
 use Rattle.numbers.proofs.Cases.{same?, below?, not-both}
 use Rattle.rules.proofs.Counting.{hit-is, hit-most, update-is, update-not}
-use Rattle.wheel_rules.specs.records.Records.{Nodes, join}
-use Rattle.wheel_rules.specs.records.Shows.{nodeAt}
+use Rattle.wheel_rules.specs.Lent.{Nodes, nodeAt}
+use Rattle.wheel_rules.specs.records.Records.{join}
 
 -- ---- one bucket
 whole-pushed : (z x : ℕ) (B : Bucket) → whole z B ++ (x ∷ []) ≡ whole z (pushed x B)

@@ -5,16 +5,12 @@ use mathlib.Core.Path.{_≡_, _∙_}
 use mathlib.Core.Bool.{true}
 use lib.ListN.{length}
 use borrow.Author.Tests.{lt-ltb}
-use Rattle.deque_rules.specs.Chain.{first}
-use Rattle.deque_rules.specs.Lists.{homeOf}
-use Rattle.deque_rules.specs.Lists.{Lists as Held}
-use Rattle.rules.specs.Geometry.{Geometry, buckets}
-use Rattle.rules.specs.Lists.{Lists}
-use Rattle.rules.specs.Wheel.{Advance, closed, poised, within, Wheel}
+use Rattle.deque_rules.specs.Links.{first, homeOf, Deques as Held}
+use Rattle.rules.specs.Places.{Geometry, buckets}
+use Rattle.rules.specs.Wheel.{Lists, Advance, closed, poised, within, Wheel}
 use Rattle.rules.specs.Calls.{withLists, withNext}
-use Rattle.wheel_rules.specs.declared.records.Clock.{Clock}
-use Rattle.wheel_rules.specs.records.Records.{Nodes, Entries, Records, records}
-use Rattle.wheel_rules.specs.records.Shows.{ShowsAdvance, Shows}
+use Rattle.wheel_rules.specs.declared.calls.Clock.{Clock}
+use Rattle.wheel_rules.specs.Lent.{Nodes, Entries, Records, records, ShowsAdvance, Shows}
 use Rattle.wheel_rules.specs.records.Clocks.{setFree, setSerial}
 use Rattle.wheel_rules.proofs.records.Showing.{Tied}
 

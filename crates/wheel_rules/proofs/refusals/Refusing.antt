@@ -11,17 +11,13 @@ use borrow.Author.Tests.{not-true, not-false, eqb-true, eqb-false}
 use borrow.Author.Needs.{scaled-fits}
 use mir.Syntax.{w64}
 use mir.Val.{Fits}
-use Rattle.deque_rules.specs.Chain.{none}
-use Rattle.rules.specs.Geometry.{wheel01}
+use Rattle.numbers.specs.Shared.{noSlot as none, unless, notRefused as answered}
+use Rattle.rules.specs.Places.{wheel01}
 use Rattle.numbers.proofs.Cases.{same?}
-use Rattle.wheel_rules.specs.declared.records.Clock.{Clock}
-use Rattle.wheel_rules.specs.records.Records.{Records}
-use Rattle.wheel_rules.specs.sound.Decides.{Decides}
-use Rattle.wheel_rules.specs.sound.Clauses.{Ranges, EndsLengths, NodesLengths, EntriesLengths}
-use Rattle.wheel_rules.specs.sound.Sound.{SoundWith, SoundRecords}
-use Rattle.wheel_rules.specs.refusals.Lent.{lent}
-use Rattle.wheel_rules.specs.refusals.Refuse.{unless, answered, roomy, making, Live, Lendable, LendableAround, IsLast, RefusesEnable, RefusesAround}
-use Rattle.wheel_rules.specs.refusals.Refuse.{RefusesCount, RefusesClosed, RefusesOpen, RefusesSet, RefusesSchedule, RefusesHandle}
+use Rattle.wheel_rules.specs.declared.calls.Clock.{Clock}
+use Rattle.wheel_rules.specs.Lent.{Records, Decides, Ranges, EndsLengths, NodesLengths, EntriesLengths, SoundWith, SoundRecords, lent}
+use Rattle.wheel_rules.specs.refusals.Refuse.{roomy, making, Live, Lendable, LendableAround, IsLast, RefusesEnable, RefusesAround, RefusesCount}
+use Rattle.wheel_rules.specs.refusals.Refuse.{RefusesClosed, RefusesOpen, RefusesSet, RefusesSchedule, RefusesHandle}
 use Rattle.wheel_rules.proofs.refusals.Rows.{past, standing-stops, closed-stops, entered-stops, standing-past, closed-past}
 
 -- ---- standing: 1, 4

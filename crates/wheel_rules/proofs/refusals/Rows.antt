@@ -4,10 +4,10 @@ use native.Mathlib.Omega.{arith}
 use mathlib.Core.Path.{_≡_}
 use mathlib.Core.Logic.{_⊎_, inl, inr, ⊎-elim}
 use mathlib.Core.Bool.{true, false}
-use Rattle.rules.specs.Geometry.{wheel01}
-use Rattle.wheel_rules.specs.records.Records.{Records}
-use Rattle.wheel_rules.specs.sound.Sound.{SoundRecords}
-use Rattle.wheel_rules.specs.refusals.Refuse.{unless, answered, standing, closed, entered}
+use Rattle.rules.specs.Places.{wheel01}
+use Rattle.wheel_rules.specs.Lent.{Records, SoundRecords}
+use Rattle.numbers.specs.Shared.{unless, notRefused as answered}
+use Rattle.wheel_rules.specs.refusals.Refuse.{standing, closed, entered}
 
 -- ---- one row
 -- a number that is not the row's: its condition holds, and the rows after it decide

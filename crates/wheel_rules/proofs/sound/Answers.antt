@@ -2,7 +2,7 @@
 use mathlib.Core.Path.{_≡_, refl, sym, _∙_}
 use mathlib.Core.Bool.{Bool, true, false, not, false≢true}
 use borrow.Author.Tests.{not-true, not-false}
-use Rattle.wheel_rules.specs.sound.Decides.{Decides}
+use Rattle.wheel_rules.specs.Lent.{Decides}
 
 pub yes : {P : Type 0} → P → Decides P true
 yes p = record { sound = λ e. p; complete = λ q. refl }

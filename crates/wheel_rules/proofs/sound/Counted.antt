@@ -4,8 +4,8 @@ use native.Mathlib.Omega.{arith}
 use mathlib.Core.Path.{_≡_, refl, subst}
 use mathlib.Core.Logic.{inl, inr, ⊎-elim}
 use mathlib.Core.List.{List, [], _∷_, _++_}
-use Rattle.deque_rules.specs.Chain.{In, Once}
-use Rattle.rules.specs.Lists.{hit, count}
+use Rattle.numbers.specs.Shared.{In, Once}
+use Rattle.rules.specs.Wheel.{hit, count}
 use Rattle.numbers.proofs.Cases.{same?}
 use Rattle.rules.proofs.Counting.{hit-is, hit-not, count-app}
 

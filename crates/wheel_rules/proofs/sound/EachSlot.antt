@@ -9,9 +9,9 @@ use lib.ListN.{length, getD}
 use lib.Dec.{ltb, eqb}
 use borrow.Author.Count.{below-more}
 use borrow.Author.Tests.{ltb-true, lt-ltb, eqb-true, eq-eqb}
-use Rattle.deque_rules.specs.Chain.{none}
-use Rattle.wheel_rules.specs.sound.Decides.{Decides}
-use Rattle.wheel_rules.specs.sound.Clauses.{KindAt, Kinds, BoundAt, Armed, EntriesExist, SerialsBelow}
+use Rattle.numbers.specs.Shared.{noSlot as none}
+use Rattle.wheel_rules.specs.Lent.{Decides, KindAt, Kinds, Armed, EntriesExist, SerialsBelow}
+use Rattle.wheel_rules.specs.sound.Clauses.{BoundAt}
 use Rattle.wheel_rules.proofs.sound.Answers.{yes, no, failed, passed}
 
 -- ---- one slot

@@ -10,8 +10,7 @@ use lib.ListN.{length, getD, set, replicate, length-set, length-replicate}
 use lib.Seq.{getD-set-same, getD-set-other}
 use borrow.Author.Tests.{not-true, not-false}
 use Rattle.numbers.proofs.Cases.{same?, below?}
-use Rattle.wheel_rules.specs.sound.Decides.{Decides}
-use Rattle.wheel_rules.specs.sound.Clauses.{Armed, SerialsDiffer}
+use Rattle.wheel_rules.specs.Lent.{Decides, Armed, SerialsDiffer}
 use Rattle.wheel_rules.specs.sound.Filing.{Leads, here, back, Walkable, Met, Filed, Fileable, Files}
 use Rattle.wheel_rules.proofs.sound.Answers.{yes, no}
 

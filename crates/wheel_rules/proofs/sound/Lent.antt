@@ -4,8 +4,7 @@ use native.Mathlib.Omega.{arith}
 use mathlib.Core.Path.{_≡_}
 use lib.Dec.{leb, eqb}
 use borrow.Author.Tests.{leb-true, le-leb, eqb-true, eq-eqb}
-use Rattle.wheel_rules.specs.sound.Decides.{Decides}
-use Rattle.wheel_rules.specs.sound.Clauses.{Ranges, EndsLengths, NodesLengths, EntriesLengths}
+use Rattle.wheel_rules.specs.Lent.{Decides, Ranges, EndsLengths, NodesLengths, EntriesLengths}
 
 -- the last test of each, where those before it have passed
 pub ranged-by : (t n e : ℕ) → t < n → n ≤ 4096 → (e ≡ 0 → ⊥) → Decides (Ranges t n e) (leb e 4096)

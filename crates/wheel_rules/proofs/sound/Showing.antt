@@ -7,24 +7,19 @@ use mathlib.Core.Bool.{Bool, true, false, cond, false≢true}
 use mathlib.Core.List.{List, [], _∷_, _++_}
 use lib.ListN.{length, List·getD-eq-default}
 use borrow.Author.Tests.{lt-ltb, le-ltb, ltb-true}
-use Rattle.deque_rules.specs.Chain.{none, In, Once, before, after}
-use Rattle.deque_rules.specs.Lists.{Links, Lists, Rep, deq, homeOf}
-use Rattle.deque_rules.specs.Listed.{listed}
+use Rattle.numbers.specs.Shared.{noSlot as none, In, Once, beforeIn as before, afterIn as after}
+use Rattle.deque_rules.specs.Links.{Links, Deques as Lists, Rep, deq, homeOf, listed}
 use Rattle.numbers.proofs.Members.{split}
 use Rattle.deque_rules.proofs.Laws.{deq-once, whole-listed, in-home, home-in, free-once, free-home, home-free}
-use Rattle.rules.specs.Geometry.{Geometry, buckets}
-use Rattle.rules.specs.Visits.{SoundPosition}
-use Rattle.rules.specs.Lists.{Node, hit, count, times}
-use Rattle.rules.specs.Wheel.{Advance, closed, poised, within}
+use Rattle.rules.specs.Places.{Geometry, buckets, SoundPosition}
+use Rattle.rules.specs.Lists.{times}
+use Rattle.rules.specs.Wheel.{Node, hit, count, Advance, closed, poised, within}
 use Rattle.rules.specs.Sound.{spare, SoundLists, SoundAdvance, Sound}
 use Rattle.numbers.proofs.Cases.{same?, below?}
 use Rattle.rules.proofs.Counting.{hit-is, hit-not}
-use Rattle.wheel_rules.specs.declared.records.Clock.{Clock}
-use Rattle.wheel_rules.specs.records.Records.{Nodes, Records}
-use Rattle.wheel_rules.specs.records.Shows.{nodeAt, ShowsAdvance, Shows}
-use Rattle.wheel_rules.specs.sound.Clauses.{Armed, AdvanceStands}
-use Rattle.wheel_rules.specs.sound.Sound.{SoundRecords}
-use Rattle.wheel_rules.specs.sound.Shown.{parted, nodeOf, within-at, advanceOf, shown}
+use Rattle.wheel_rules.specs.declared.calls.Clock.{Clock}
+use Rattle.wheel_rules.specs.Lent.{Nodes, Records, nodeAt, ShowsAdvance, Shows, Armed, AdvanceStands, SoundRecords, parted, nodeOf, within-at}
+use Rattle.wheel_rules.specs.Lent.{advanceOf, wheelOf as shown}
 use Rattle.wheel_rules.proofs.sound.Counted.{count-none, count-once, count-in, count-parted}
 
 -- ---- the advance

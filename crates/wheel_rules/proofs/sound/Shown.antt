@@ -8,20 +8,16 @@ use mathlib.Core.Bool.{true, false≢true}
 use mathlib.Core.List.{List, [], _∷_}
 use lib.ListN.{length, getD}
 use borrow.Author.Tests.{lt-ltb}
-use Rattle.deque_rules.specs.Chain.{none}
+use Rattle.numbers.specs.Shared.{noSlot as none}
 use Rattle.numbers.proofs.Members.{in-same, app-right}
 use Rattle.deque_rules.proofs.Laws.{home-in}
-use Rattle.rules.specs.Geometry.{Geometry, buckets}
-use Rattle.rules.specs.Visits.{visitedAt, SoundPosition}
-use Rattle.rules.specs.Lists.{Node}
-use Rattle.rules.specs.Wheel.{Advance, closed, poised, within, Wheel}
+use Rattle.rules.specs.Places.{Geometry, buckets, visitedAt, SoundPosition}
+use Rattle.rules.specs.Wheel.{Node, Advance, closed, poised, within, Wheel}
 use Rattle.rules.specs.Sound.{Sound}
 use Rattle.numbers.proofs.Cases.{same?}
-use Rattle.wheel_rules.specs.declared.records.Clock.{Clock}
-use Rattle.wheel_rules.specs.records.Records.{Records}
-use Rattle.wheel_rules.specs.records.Shows.{nodeAt, ShowsAdvance, Shows}
-use Rattle.wheel_rules.specs.sound.Clauses.{Armed}
-use Rattle.wheel_rules.specs.sound.Sound.{SoundRecords, InRange}
+use Rattle.wheel_rules.specs.declared.calls.Clock.{Clock}
+use Rattle.wheel_rules.specs.Lent.{Records, nodeAt, ShowsAdvance, Shows, Armed, SoundRecords}
+use Rattle.wheel_rules.specs.sound.Sound.{InRange}
 
 -- the position that a clock shows is sound
 pub position-shown : (g : Geometry) (c : Clock) (A : Advance) → ShowsAdvance g c A → c .open ≡ true → SoundPosition g (c .previous) (c .reading) (c .level)

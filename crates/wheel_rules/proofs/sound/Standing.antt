@@ -6,11 +6,9 @@ use mathlib.Core.Logic.{inl, inr, ⊎-elim}
 use mathlib.Core.Bool.{Bool, true, false, not, false≢true}
 use lib.Dec.{leb, eqb}
 use borrow.Author.Tests.{leb-true, le-leb, eqb-true, eq-eqb, not-true, not-false}
-use Rattle.rules.specs.Geometry.{wheel01}
-use Rattle.rules.specs.Visits.{visitedAt}
-use Rattle.wheel_rules.specs.declared.records.Clock.{Clock}
-use Rattle.wheel_rules.specs.sound.Decides.{Decides}
-use Rattle.wheel_rules.specs.sound.Clauses.{StandsAt, AdvanceStands}
+use Rattle.rules.specs.Places.{wheel01, visitedAt}
+use Rattle.wheel_rules.specs.declared.calls.Clock.{Clock}
+use Rattle.wheel_rules.specs.Lent.{Decides, StandsAt, AdvanceStands}
 use Rattle.wheel_rules.proofs.sound.Answers.{yes, no}
 
 -- ---- the answers

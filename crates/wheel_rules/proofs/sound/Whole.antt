@@ -6,16 +6,14 @@ use mathlib.Core.Bool.{Bool, true, false, not, false≢true}
 use mathlib.Core.List.{List}
 use lib.ListN.{length}
 use borrow.Author.Tests.{not-true, not-false}
-use Rattle.deque_rules.specs.Lists.{links}
+use Rattle.deque_rules.specs.Links.{links}
 use Rattle.deque_rules.specs.Sound as linked
-use Rattle.rules.specs.Geometry.{wheel01}
-use Rattle.wheel_rules.specs.declared.records.Clock.{Clock}
-use Rattle.wheel_rules.specs.records.Records.{nodes, entries, records}
-use Rattle.wheel_rules.specs.sound.Decides.{Decides}
-use Rattle.wheel_rules.specs.sound.Clauses.{Ranges, EndsLengths, NodesLengths, EntriesLengths, Lengths, Kinds, EntriesExist, SerialsBelow, SerialsDiffer}
-use Rattle.wheel_rules.specs.sound.Clauses.{AdvanceStands}
+use Rattle.rules.specs.Places.{wheel01}
+use Rattle.wheel_rules.specs.declared.calls.Clock.{Clock}
+use Rattle.wheel_rules.specs.Lent.{nodes, entries, records, Decides, Ranges, EndsLengths, NodesLengths, EntriesLengths, Lengths, Kinds}
+use Rattle.wheel_rules.specs.Lent.{EntriesExist, SerialsBelow, SerialsDiffer, AdvanceStands, SoundWith}
 use Rattle.wheel_rules.specs.sound.Filing.{Sized}
-use Rattle.wheel_rules.specs.sound.Sound.{SoundWith, Verdict}
+use Rattle.wheel_rules.specs.sound.Sound.{Verdict}
 use Rattle.wheel_rules.proofs.sound.Answers.{no, failed, passed}
 
 module _ (h t n p b e g s : List ℕ) (d : List Bool) (l eg : List ℕ) (c : Clock) (total : ℕ) where

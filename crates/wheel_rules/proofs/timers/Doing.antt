@@ -1,14 +1,12 @@
 -- Disarming and rearming: their contracts, of what they write alone.
 use Prim.Native.Nat.{ℕ}
 use mathlib.Core.Path.{refl}
-use Rattle.deque_rules.specs.Lists.{Links}
-use Rattle.deque_rules.specs.Change.{removed, moveBack}
+use Rattle.deque_rules.specs.Links.{Links, removed, moveBack}
 use Rattle.deque_rules.proofs.Laws.{removes, moves}
-use Rattle.rules.specs.Geometry.{wheel01}
-use Rattle.rules.specs.Place.{bucketOf}
+use Rattle.rules.specs.Places.{wheel01, bucketOf}
 use Rattle.wheel_rules.specs.place.Promises.{InBucket}
-use Rattle.wheel_rules.specs.declared.records.Clock.{Clock}
-use Rattle.wheel_rules.specs.records.Records.{Nodes}
+use Rattle.wheel_rules.specs.declared.calls.Clock.{Clock}
+use Rattle.wheel_rules.specs.Lent.{Nodes}
 use Rattle.wheel_rules.specs.records.Clocks.{setFree}
 use Rattle.wheel_rules.specs.timers.Change.{written, freedFrom}
 use Rattle.wheel_rules.specs.timers.Timers.{SlotReady, MoveReady, Disarms, Rearms}

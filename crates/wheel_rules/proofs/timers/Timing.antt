@@ -5,23 +5,21 @@ use mathlib.Core.Path.{_≡_, refl, sym, ap, subst, _∙_}
 use mathlib.Core.Option.{Option, some}
 use mathlib.Core.List.{List, [], _∷_}
 use lib.ListN.{length}
-use Rattle.deque_rules.specs.Chain.{rest}
-use Rattle.deque_rules.specs.Lists.{Links, links, homeOf}
-use Rattle.deque_rules.specs.Lists.{Lists as Held, pushBack, takeOut, taken as takenFree, freed as freedSlot}
-use Rattle.deque_rules.specs.Change.{linkBack, moveBack, Pushable, PushesBack, Held as HeldSlot, Removes, Movable, MovesBack}
+use Rattle.numbers.specs.Lists.{rest}
+use Rattle.deque_rules.specs.Links.{Links, links, homeOf, Deques as Held, linkBack, moveBack}
+use Rattle.deque_rules.specs.Lists.{pushBack, takeOut, taken as takenFree, freed as freedSlot}
+use Rattle.deque_rules.specs.Change.{Pushable, PushesBack, Held as HeldSlot, Removes, Movable, MovesBack}
 use Rattle.deque_rules.proofs.Laws.{home-linked, home-removed, home-moved}
-use Rattle.rules.specs.Geometry.{wheel01, buckets}
-use Rattle.rules.specs.Place.{bucketOf}
-use Rattle.rules.specs.Lists.{newNode, placedIn, link, unlink, release, claim}
-use Rattle.rules.specs.Wheel.{Wheel, Answer, schedule, reschedule, deschedule, handle, ok}
+use Rattle.rules.specs.Places.{wheel01, buckets, bucketOf}
+use Rattle.rules.specs.Wheel.{newNode, placedIn, link, unlink, release, claim, Wheel, Answer, schedule, reschedule, deschedule, handle, ok}
 use Rattle.rules.specs.Calls.{armed, rearmed, withLists, withNext, act}
 use Rattle.rules.specs.Sound.{Sound}
 use Rattle.rules.proofs.Placing.{bucketOf-in}
 use Rattle.rules.proofs.SoundLists.{first-free}
 use Rattle.wheel_rules.specs.place.Promises.{InBucket}
-use Rattle.wheel_rules.specs.declared.records.Clock.{Clock}
-use Rattle.wheel_rules.specs.records.Records.{Nodes, nodes, Entries, records, join}
-use Rattle.wheel_rules.specs.records.Shows.{Shows}
+use Rattle.wheel_rules.specs.declared.calls.Clock.{Clock}
+use Rattle.wheel_rules.specs.Lent.{Nodes, nodes, Entries, records, Shows}
+use Rattle.wheel_rules.specs.records.Records.{join}
 use Rattle.wheel_rules.specs.records.Clocks.{setFree, counted}
 use Rattle.wheel_rules.specs.timers.Change.{armedIn, Writes}
 use Rattle.wheel_rules.specs.timers.Timers.{ArmReady, SlotReady, MoveReady, Arms, Disarms, Rearms}

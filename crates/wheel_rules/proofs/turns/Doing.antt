@@ -5,15 +5,14 @@ use mathlib.Core.Logic.{⊎-elim}
 use mathlib.Core.Bool.{Bool, true, false}
 use mathlib.Core.List.{List}
 use lib.ListN.{length, getD}
-use Rattle.deque_rules.specs.Lists.{Links}
+use Rattle.deque_rules.specs.Links.{Links}
 use Rattle.deque_rules.specs.Change.{turnTo}
 use Rattle.deque_rules.proofs.Laws.{turns}
-use Rattle.rules.specs.Geometry.{wheel01}
-use Rattle.rules.specs.Place.{bucketOf, placeOf}
-use Rattle.rules.specs.Visits.{bucketAt}
+use Rattle.rules.specs.Places.{wheel01, bucketOf, placeOf, bucketAt}
 use Rattle.numbers.proofs.Cases.{below?}
-use Rattle.wheel_rules.specs.declared.records.Clock.{Clock}
-use Rattle.wheel_rules.specs.records.Records.{Nodes, withLinks}
+use Rattle.wheel_rules.specs.declared.calls.Clock.{Clock}
+use Rattle.wheel_rules.specs.Lent.{Nodes}
+use Rattle.wheel_rules.specs.records.Records.{withLinks}
 use Rattle.wheel_rules.specs.records.Clocks.{setFree, ended}
 use Rattle.wheel_rules.specs.timers.Change.{freedFrom}
 use Rattle.wheel_rules.specs.timers.Timers.{Disarms}

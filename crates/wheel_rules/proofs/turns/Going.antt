@@ -6,24 +6,21 @@ use mathlib.Core.Logic.{inl}
 use mathlib.Core.Bool.{true, false}
 use mathlib.Core.List.{List, [], _∷_}
 use lib.ListN.{length}
-use Rattle.deque_rules.specs.Chain.{In}
-use Rattle.deque_rules.specs.Lists.{Links, deq}
+use Rattle.numbers.specs.Shared.{In}
+use Rattle.deque_rules.specs.Links.{Links, deq}
 use Rattle.deque_rules.specs.Lists.{turn as turnLists}
 use Rattle.deque_rules.specs.Change.{turnTo, HeldBy, Turns}
 use Rattle.numbers.proofs.Members.{app-right, in-same}
 use Rattle.deque_rules.proofs.Laws.{home-turned}
-use Rattle.rules.specs.Geometry.{wheel01, buckets}
-use Rattle.rules.specs.Visits.{visitedAt, bucketAt, ahead}
-use Rattle.rules.specs.Lists.{enter}
-use Rattle.rules.specs.Wheel.{closed, within, Wheel, Answer, end}
-use Rattle.rules.specs.Pull.{swept, pulled}
-use Rattle.rules.specs.Calls.{withLists, withClock}
+use Rattle.rules.specs.Places.{wheel01, buckets, visitedAt, bucketAt, ahead}
+use Rattle.rules.specs.Wheel.{enter, closed, within, Wheel, Answer, end}
+use Rattle.rules.specs.Calls.{swept, pulled, withLists, withClock}
 use Rattle.rules.specs.Sound.{Sound}
 use Rattle.numbers.proofs.Cases.{not-both}
 use Rattle.rules.proofs.SoundLists.{sound-enter}
-use Rattle.wheel_rules.specs.declared.records.Clock.{Clock}
-use Rattle.wheel_rules.specs.records.Records.{Entries, records, join}
-use Rattle.wheel_rules.specs.records.Shows.{Shows}
+use Rattle.wheel_rules.specs.declared.calls.Clock.{Clock}
+use Rattle.wheel_rules.specs.Lent.{Entries, records, Shows}
+use Rattle.wheel_rules.specs.records.Records.{join}
 use Rattle.wheel_rules.specs.records.Clocks.{standing}
 use Rattle.wheel_rules.specs.records.Counts.{armedAmong}
 use Rattle.wheel_rules.specs.records.Moments.{EndsAdvance}

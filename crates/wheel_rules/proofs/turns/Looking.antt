@@ -3,10 +3,10 @@ use Prim.Native.Nat.{ℕ}
 use mathlib.Core.Path.{_≡_, sym, ap, _∙_}
 use mathlib.Core.List.{List}
 use lib.ListN.{getD}
-use Rattle.deque_rules.specs.Chain.{none as nowhere}
+use Rattle.numbers.specs.Shared.{noSlot as nowhere}
 use Rattle.deque_rules.specs.Read.{Front}
-use Rattle.rules.specs.Geometry.{wheel01}
-use Rattle.wheel_rules.specs.declared.records.Clock.{Clock}
+use Rattle.rules.specs.Places.{wheel01}
+use Rattle.wheel_rules.specs.declared.calls.Clock.{Clock}
 use Rattle.wheel_rules.specs.popping.Pop.{standsIn}
 use Rattle.wheel_rules.proofs.popping.Waiting.{wait-before, wait-none, wait-some}
 use Rattle.wheel_rules.specs.turns.Turns.{Waits}

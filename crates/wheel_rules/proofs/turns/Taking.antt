@@ -7,10 +7,11 @@ use mathlib.Core.List.{List}
 use lib.ListN.{length}
 use lib.Dec.{ltb}
 use borrow.Author.Tests.{lt-ltb, le-ltb}
-use Rattle.deque_rules.specs.Lists.{Links, links}
-use Rattle.rules.specs.Geometry.{wheel01}
-use Rattle.wheel_rules.specs.declared.records.Clock.{Clock}
-use Rattle.wheel_rules.specs.records.Records.{Nodes, nodes, entries, join}
+use Rattle.deque_rules.specs.Links.{Links, links}
+use Rattle.rules.specs.Places.{wheel01}
+use Rattle.wheel_rules.specs.declared.calls.Clock.{Clock}
+use Rattle.wheel_rules.specs.Lent.{Nodes, nodes, entries}
+use Rattle.wheel_rules.specs.records.Records.{join}
 use Rattle.wheel_rules.specs.declared.popping.Turn.{Turn}
 use Rattle.wheel_rules.specs.popping.Pop.{waitingAt, popNodes, popTurn, TurnReady, PopReady, Pops}
 use Rattle.wheel_rules.specs.turns.Turns.{WaitReady, OnReady, Waits, GoesOn, Turned}

@@ -1,20 +1,19 @@
 -- inner: what each call writes and answers, as equations on the records (specs/calls/Work.antt). The code is proved to
 -- meet them; that they and the promise (specs/calls/Promise.antt) say the same is proved in proofs/calls/Promising.antt.
 use Prim.Native.Nat.{ℕ}
-use mathlib.Core.Path.{_≡_}
 use mathlib.Core.Bool.{not}
-use Rattle.rules.specs.Geometry.{wheel01}
+use mathlib.Core.Path.{_≡_}
+use Rattle.rules.specs.Calls.{isNone, act}
+use Rattle.rules.specs.Places.{wheel01}
+use Rattle.rules.specs.Sound.{SoundIfEnabled}
 use Rattle.rules.specs.Wheel.{Wheel, Call, create, enable, setEntry, schedule, reschedule, deschedule, start, pull, abandon, armedCount, nextDue, Answer}
 use Rattle.rules.specs.Wheel.{refused, ok}
-use Rattle.rules.specs.Refusals.{isNone}
-use Rattle.rules.specs.Calls.{act}
-use Rattle.rules.specs.Sound.{SoundIfEnabled}
-use Rattle.wheel_rules.specs.records.Records.{Records}
+use Rattle.wheel_rules.specs.Promise.{created, orZero}
+use Rattle.wheel_rules.specs.Lent.{Records}
+use Rattle.wheel_rules.specs.calls.Work.{laidOut, entrySet, scheduled, handleOf, descheduled, rescheduled, rescheduleSays, opened, pulled, pullSays}
+use Rattle.wheel_rules.specs.calls.Work.{left, armedSays, nextSays}
 use Rattle.wheel_rules.specs.records.Shows.{Stands}
 use Rattle.wheel_rules.specs.refusals.Refuse.{rowsOn}
-use Rattle.wheel_rules.specs.calls.Work.{created, laidOut, entrySet, scheduled, handleOf, descheduled, rescheduled, rescheduleSays}
-use Rattle.wheel_rules.specs.calls.Work.{opened, pulled, pullSays, left, armedSays, nextSays}
-use Rattle.wheel_rules.specs.calls.Promise.{orZero}
 
 -- every record after a call that is not refused
 abbrev pub written : Call → Records → Records

@@ -1,50 +1,19 @@
--- What each call writes and answers where it is not refused, on the records as they are.
+-- inner: what each call writes and answers where it is not refused, on the records as they are.
 use Prim.Native.Nat.{ℕ}
 use mathlib.Core.Bool.{Bool, false, cond}
-use mathlib.Core.List.{List}
-use lib.ListN.{length, getD, replicate}
-use Rattle.deque_rules.specs.Chain.{none as noSlot}
-use Rattle.deque_rules.specs.Lists.{links}
-use Rattle.rules.specs.Geometry.{wheel01, buckets}
-use Rattle.rules.specs.Place.{bucketOf}
+use lib.ListN.{length, getD}
+use Rattle.deque_rules.specs.Links.{links}
+use Rattle.rules.specs.Places.{wheel01, bucketOf}
 use Rattle.rules.specs.Wheel.{Answer, ok, handle, removed, number, due}
-use Rattle.wheel_rules.specs.declared.records.Clock.{Clock}
-use Rattle.wheel_rules.specs.records.Records.{Records, nodes, records}
-use Rattle.wheel_rules.specs.records.Clocks.{setFree, counted, started, abandoned}
-use Rattle.wheel_rules.specs.timers.Change.{armedIn, freedFrom, movedTo}
-use Rattle.wheel_rules.specs.records.Counts.{armedAmong, leastAmong}
-use Rattle.wheel_rules.specs.records.Settings.{settled}
+use Rattle.wheel_rules.specs.Promise.{bareEntries}
+use Rattle.wheel_rules.specs.Lent.{Records, nodes, records}
+use Rattle.wheel_rules.specs.layout.Layout.{bareNodes, enabledWith}
 use Rattle.wheel_rules.specs.popping.Pop.{told}
 use Rattle.wheel_rules.specs.pull.Pull.{Step, pullStep}
-use Rattle.wheel_rules.specs.layout.Layout.{bareNodes, bareEntries, enabledWith}
-
--- ---- create
--- "Create(first serial): reading 0, not enabled." No advance, no recorded lengths, no first free slot
-abbrev pub createdClock : ℕ → Clock
-createdClock first = record {
-  enabled = false;
-  reading = 0;
-  serial = first;
-  «open» = false;
-  previous = 0;
-  level = 0;
-  step = 0;
-  free = noSlot;
-  nodes = 0;
-  entries = 0;
-}
-
--- "The 165 bucket heads and tails start out empty as one block each"
-abbrev pub emptyEnds : List ℕ
-emptyEnds = replicate (buckets wheel01) noSlot
-
--- the records that create begins a wheel over: nodes and entries stay as found
-abbrev pub created : Records → ℕ → Records
-created R first =
-    records
-    (nodes emptyEnds emptyEnds (R .nodes .links .next) (R .nodes .links .prev) (R .nodes .links .home) (R .nodes .entry) (R .nodes .generation)
-    (R .nodes .serial))
-    (R .entries) (createdClock first)
+use Rattle.wheel_rules.specs.records.Clocks.{setFree, counted, started, abandoned}
+use Rattle.wheel_rules.specs.records.Counts.{armedAmong, leastAmong}
+use Rattle.wheel_rules.specs.records.Settings.{settled}
+use Rattle.wheel_rules.specs.timers.Change.{armedIn, freedFrom, movedTo}
 
 -- "Enable: sentinels placed, other slots free, no open advance, each entry set to no deadline, generation 0." Reading
 -- and next serial stay

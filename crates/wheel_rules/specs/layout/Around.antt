@@ -1,12 +1,13 @@
--- All but the node records, as enabling lays the records out: heads and tails, the entries and the clock.
+-- inner: all but the node records, as enabling lays the records out: heads and tails, the entries and the clock.
 use Prim.Native.Nat.{ℕ}
-use mathlib.Core.Path.{_≡_}
 use mathlib.Core.List.{List}
+use mathlib.Core.Path.{_≡_}
 use lib.ListN.{length}
-use Rattle.deque_rules.specs.Chain.{upFrom}
-use Rattle.wheel_rules.specs.declared.records.Clock.{Clock}
-use Rattle.wheel_rules.specs.records.Records.{Entries}
-use Rattle.wheel_rules.specs.layout.Layout.{bareLinks, bareEntries, enabledWith}
+use Rattle.numbers.specs.Shared.{upFrom}
+use Rattle.wheel_rules.specs.Promise.{bareEntries}
+use Rattle.wheel_rules.specs.Lent.{Entries}
+use Rattle.wheel_rules.specs.declared.calls.Clock.{Clock}
+use Rattle.wheel_rules.specs.layout.Layout.{bareLinks, enabledWith}
 
 -- each bucket's head and tail is its own number: the sentinel is alone in it
 pub record SeatsEnds (h₀ h t : List ℕ) : Type 0 where

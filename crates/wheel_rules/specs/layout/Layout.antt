@@ -1,20 +1,20 @@
--- The records as enabling lays them out.
+-- inner: the records as enabling lays them out.
 use Prim.Native.Nat.{ℕ, zero, suc, _<_}
-use mathlib.Core.Path.{_≡_}
 use mathlib.Core.Bool.{Bool, true, false}
 use mathlib.Core.List.{List, []}
+use mathlib.Core.Path.{_≡_}
 use lib.ListN.{length, replicate}
-use Rattle.deque_rules.specs.Lists.{Links, Rep, allFree, pushBack}
-use Rattle.deque_rules.specs.Lists.{Lists as Held, taken as takenFree}
-use Rattle.deque_rules.specs.Change.{linkBack}
-use Rattle.deque_rules.specs.Layout.{fresh, Sizes}
-use Rattle.rules.specs.Geometry.{Geometry, buckets}
-use Rattle.rules.specs.Wheel.{Wheel, enable}
+use Rattle.deque_rules.specs.Layout.{Sizes}
+use Rattle.deque_rules.specs.Links.{Links, Rep, Deques as Held, linkBack, fresh}
+use Rattle.deque_rules.specs.Lists.{allFree, pushBack, taken as takenFree}
 use Rattle.rules.specs.Calls.{act}
-use Rattle.wheel_rules.specs.declared.records.Clock.{Clock}
-use Rattle.wheel_rules.specs.records.Records.{Nodes, Entries, entries, records, join}
-use Rattle.wheel_rules.specs.records.Shows.{Shows}
+use Rattle.rules.specs.Places.{Geometry, buckets}
+use Rattle.rules.specs.Wheel.{Wheel, enable}
+use Rattle.wheel_rules.specs.Promise.{bareEntries}
+use Rattle.wheel_rules.specs.Lent.{Nodes, Entries, records, Shows}
+use Rattle.wheel_rules.specs.declared.calls.Clock.{Clock}
 use Rattle.wheel_rules.specs.records.Clocks.{setFree, setLengths, ended}
+use Rattle.wheel_rules.specs.records.Records.{join}
 
 -- ---- on the records
 -- the sentinels below k are linked, each alone in its bucket
@@ -29,10 +29,6 @@ bareLinks D n = seated D (fresh D n)
 -- "sentinels placed, other slots free": all payload 0
 abbrev pub bareNodes : ℕ → ℕ → Nodes
 bareNodes D n = join (bareLinks D n) (replicate n 0) (replicate n 0) (replicate n 0)
-
--- "each entry set to no deadline, generation 0"
-abbrev pub bareEntries : ℕ → Entries
-bareEntries k = entries (replicate k false) (replicate k 0) (replicate k 0)
 
 -- enabled, "no open advance", the lengths recorded, and the first free slot; reading and next serial stay
 abbrev pub enabledWith : ℕ → ℕ → ℕ → Clock → Clock

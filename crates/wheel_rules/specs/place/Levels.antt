@@ -1,6 +1,6 @@
--- The levels of 01's wheel by their numbers, and the place of a time at a level.
+-- inner: the levels of 01's wheel by their numbers, and the place of a time at a level.
 use Prim.Native.Nat.{ℕ, _+_, _*_, _%_, _^_, min}
-use Rattle.rules.specs.Geometry.{wheel01, tick, shiftOf, sizeOf, dense, firstOf}
+use Rattle.rules.specs.Places.{wheel01, tick, shiftOf, sizeOf, dense, firstOf}
 use Rattle.wheel_rules.specs.declared.place.Place.{Place}
 
 -- "Tick is 2^"

@@ -1,8 +1,7 @@
--- What the placement functions promise, by the rules.
+-- inner: what the placement functions promise, by the rules.
 use Prim.Native.Nat.{ℕ}
 use mathlib.Core.Path.{_≡_}
-use Rattle.rules.specs.Geometry.{wheel01}
-use Rattle.rules.specs.Place.{bucketOf, placeOf}
+use Rattle.rules.specs.Places.{wheel01, bucketOf, placeOf}
 use Rattle.wheel_rules.specs.declared.place.Place.{Place}
 
 -- find: both numbers of the place
@@ -13,7 +12,3 @@ pub record Found (reading deadline : ℕ) (r : Place) : Type 0 where
 -- bucket_of: the bucket's number
 pub record InBucket (reading deadline r : ℕ) : Type 0 where
   pub is : r ≡ bucketOf wheel01 reading deadline
-
--- wheel_place: "takes a reading and a deadline and answers level x 64 + index"
-pub record Placed (reading deadline r : ℕ) : Type 0 where
-  pub is : r ≡ placeOf wheel01 reading deadline

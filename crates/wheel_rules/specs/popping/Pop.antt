@@ -1,30 +1,27 @@
--- A pull's turn that pops a node, on the records, and what all turns share: their form, the node that waits, the next
+-- inner: a pull's turn that pops a node, on the records, and what all turns share: their form, the node that waits, the next
 -- position, the turns that are left. 01, "Calls", the paragraph on the advance.
 use Prim.Native.Nat.{ℕ, suc, _+_, _-_, _<_}
-use mathlib.Core.Path.{_≡_}
 use mathlib.Core.Bool.{Bool, true, false, cond}
 use mathlib.Core.List.{List}
-use lib.ListN.{length, getD}
+use mathlib.Core.Path.{_≡_}
 use lib.Dec.{eqb, leb}
-use Rattle.deque_rules.specs.Chain.{none}
-use Rattle.rules.specs.Geometry.{Geometry, buckets}
-use Rattle.rules.specs.Place.{bucketOf, placeOf}
-use Rattle.rules.specs.Visits.{bucketAt, ahead}
-use Rattle.rules.specs.Wheel.{Wheel, Answer, end, expired, rescheduled, pull}
+use lib.ListN.{length, getD}
+use Rattle.numbers.specs.Shared.{noSlot}
 use Rattle.rules.specs.Calls.{act}
+use Rattle.rules.specs.Places.{Geometry, buckets, bucketOf, placeOf, bucketAt, ahead}
 use Rattle.rules.specs.Sound.{Sound}
-use Rattle.wheel_rules.specs.declared.records.Clock.{Clock}
-use Rattle.wheel_rules.specs.records.Records.{Nodes, entries, Records, records}
-use Rattle.wheel_rules.specs.records.Shows.{Shows}
-use Rattle.wheel_rules.specs.records.Clocks.{setFree}
-use Rattle.wheel_rules.specs.timers.Change.{freedFrom, movedTo}
-use Rattle.wheel_rules.specs.records.Counts.{armedAmong}
-use Rattle.wheel_rules.specs.timers.Timers.{Ready}
+use Rattle.rules.specs.Wheel.{Wheel, Answer, end, expired, rescheduled, pull}
+use Rattle.wheel_rules.specs.Lent.{Nodes, entries, Records, records, Shows}
 use Rattle.wheel_rules.specs.declared.popping.Position.{Position}
 use Rattle.wheel_rules.specs.declared.popping.Pulled.{Pulled}
 use Rattle.wheel_rules.specs.declared.popping.Pulled.the-variants.{Expired, Rescheduled, End}
 use Rattle.wheel_rules.specs.declared.popping.Turn.{Turn}
+use Rattle.wheel_rules.specs.declared.calls.Clock.{Clock}
 use Rattle.wheel_rules.specs.popping.Position.{onward}
+use Rattle.wheel_rules.specs.records.Clocks.{setFree}
+use Rattle.wheel_rules.specs.records.Counts.{armedAmong}
+use Rattle.wheel_rules.specs.timers.Change.{freedFrom, movedTo}
+use Rattle.wheel_rules.specs.timers.Timers.{Ready}
 
 -- what a pull's answer says: "End"; "Expired(entry, serial, deadline)"; "Rescheduled(entry, serial, new place)"
 abbrev pub told : Pulled → Answer
@@ -46,8 +43,8 @@ standsIn g c = bucketAt g (c .previous) (c .level) (c .step - 1)
 -- the first node before its sentinel, or none; before the first bucket none
 abbrev pub waitingAt : Geometry → List ℕ → Clock → ℕ
 waitingAt g heads c =
-    cond (eqb (c .step) 0) none
-    (cond (eqb (getD heads (standsIn g c) 0) (standsIn g c)) none (getD heads (standsIn g c) 0))
+    cond (eqb (c .step) 0) noSlot
+    (cond (eqb (getD heads (standsIn g c) 0) (standsIn g c)) noSlot (getD heads (standsIn g c) 0))
 
 -- where the visit goes on
 abbrev pub nextPosition : Geometry → Clock → Position

@@ -1,10 +1,9 @@
--- The position of an advance, by level and step, and the next one.
+-- inner: the position of an advance, by level and step, and the next one.
 use Prim.Native.Nat.{ℕ, _+_}
 use mathlib.Core.Bool.{true, false, cond}
-use lib.ListN.{length}
 use lib.Dec.{ltb}
-use Rattle.rules.specs.Geometry.{Geometry}
-use Rattle.rules.specs.Visits.{visitedAt}
+use lib.ListN.{length}
+use Rattle.rules.specs.Places.{Geometry, visitedAt}
 use Rattle.wheel_rules.specs.declared.popping.Position.{Position}
 
 -- in the j-th bucket of the level l

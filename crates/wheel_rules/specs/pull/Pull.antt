@@ -1,17 +1,16 @@
--- A pull on the records: turns, one after another, to its answer.
+-- inner: a pull on the records: turns, one after another, to its answer.
 use Prim.Native.Nat.{ℕ, zero, suc}
-use mathlib.Core.Path.{_≡_}
 use mathlib.Core.Bool.{Bool, false, cond}
 use mathlib.Core.List.{List}
-use Rattle.rules.specs.Geometry.{Geometry}
-use Rattle.rules.specs.Wheel.{Wheel, pull}
+use mathlib.Core.Path.{_≡_}
 use Rattle.rules.specs.Calls.{act}
+use Rattle.rules.specs.Places.{Geometry}
 use Rattle.rules.specs.Sound.{Sound}
-use Rattle.wheel_rules.specs.declared.records.Clock.{Clock}
-use Rattle.wheel_rules.specs.records.Records.{Nodes, entries, records}
-use Rattle.wheel_rules.specs.records.Shows.{Shows}
+use Rattle.rules.specs.Wheel.{Wheel, pull}
+use Rattle.wheel_rules.specs.Lent.{Nodes, entries, records, Shows}
 use Rattle.wheel_rules.specs.declared.popping.Pulled.{Pulled}
 use Rattle.wheel_rules.specs.declared.popping.Turn.{Turn}
+use Rattle.wheel_rules.specs.declared.calls.Clock.{Clock}
 use Rattle.wheel_rules.specs.popping.Pop.{told, goes, left}
 use Rattle.wheel_rules.specs.turns.Turns.{turnNodes, turnTurn}
 

@@ -1,16 +1,15 @@
--- The buckets that an advance passes over: those of its level that hold their sentinel alone.
+-- inner: the buckets that an advance passes over: those of its level that hold their sentinel alone.
 use Prim.Native.Nat.{ℕ, _+_, _≤_, _<_}
-use mathlib.Core.Path.{_≡_}
 use mathlib.Core.Bool.{Bool, true, false, cond}
 use mathlib.Core.List.{List}
-use lib.ListN.{length, getD}
+use mathlib.Core.Path.{_≡_}
 use lib.Dec.{eqb, leb}
-use Rattle.deque_rules.specs.Chain.{none}
-use Rattle.rules.specs.Geometry.{Geometry, buckets}
-use Rattle.rules.specs.Visits.{visitedAt, bucketAt}
-use Rattle.wheel_rules.specs.declared.records.Clock.{Clock}
-use Rattle.wheel_rules.specs.records.Clocks.{standing}
+use lib.ListN.{length, getD}
+use Rattle.numbers.specs.Shared.{noSlot}
+use Rattle.rules.specs.Places.{Geometry, buckets, visitedAt, bucketAt}
+use Rattle.wheel_rules.specs.declared.calls.Clock.{Clock}
 use Rattle.wheel_rules.specs.popping.Pop.{waitingAt}
+use Rattle.wheel_rules.specs.records.Clocks.{standing}
 
 -- the sentinel of the bucket b is the first of its list, and none comes after it
 abbrev pub aloneIn : List ℕ → List ℕ → ℕ → Bool
@@ -34,7 +33,7 @@ pub record Lent (heads next : List ℕ) (b : ℕ) : Type 0 where
 pub record PassReady (g : Geometry) (heads next : List ℕ) : Type 0 where
   pub total : length heads ≡ buckets g
   pub room : buckets g ≤ length next
-  pub small : length next ≤ none
+  pub small : length next ≤ noSlot
 
 -- and no node waits
 pub record IdleReady (g : Geometry) (heads next : List ℕ) (c : Clock) : Type 0 where

@@ -1,8 +1,8 @@
--- The clock record with some of its fields changed. All fields are listed here, and in the clock that create makes
+-- inner: the clock record with some of its fields changed. All fields are listed here, and in the clock that create makes
 -- (specs/calls/Work.antt).
 use Prim.Native.Nat.{ℕ, _+_}
 use mathlib.Core.Bool.{Bool, true, false}
-use Rattle.wheel_rules.specs.declared.records.Clock.{Clock}
+use Rattle.wheel_rules.specs.declared.calls.Clock.{Clock}
 
 -- the first free slot is f
 abbrev pub setFree : ℕ → Clock → Clock

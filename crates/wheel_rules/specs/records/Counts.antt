@@ -1,20 +1,19 @@
--- Armed count and next due, on the records.
+-- inner: armed count and next due, on the records.
 use Prim.Native.Nat.{ℕ, zero, suc, _+_, _≤_, _<_}
-use mathlib.Core.Path.{_≡_}
 use mathlib.Core.Bool.{Bool, false, cond}
-use mathlib.Core.Option.{Option, none, some}
 use mathlib.Core.List.{List}
-use lib.ListN.{length, getD}
+use mathlib.Core.Option.{Option, none, some}
+use mathlib.Core.Path.{_≡_}
 use lib.Dec.{leb, ltb}
-use Rattle.rules.specs.Geometry.{Geometry}
-use Rattle.rules.specs.Wheel.{Wheel, armedCount, nextDue, number, due}
+use lib.ListN.{length, getD}
 use Rattle.rules.specs.Calls.{sooner, act}
+use Rattle.rules.specs.Places.{Geometry}
 use Rattle.rules.specs.Sound.{Sound}
-use Rattle.wheel_rules.specs.declared.records.Clock.{Clock}
+use Rattle.rules.specs.Wheel.{Wheel, armedCount, nextDue, number, due}
+use Rattle.wheel_rules.specs.Lent.{nodes, Entries, entries, records, Shows}
+use Rattle.wheel_rules.specs.declared.calls.Clock.{Clock}
 use Rattle.wheel_rules.specs.declared.records.Due.{Due}
 use Rattle.wheel_rules.specs.declared.records.Due.the-variants.{At, Nothing}
-use Rattle.wheel_rules.specs.records.Records.{nodes, Entries, entries, records}
-use Rattle.wheel_rules.specs.records.Shows.{Shows}
 
 -- how many of the slots from the total D on and below k are armed
 abbrev pub armedAmong : ℕ → List ℕ → ℕ → ℕ

@@ -1,13 +1,12 @@
--- Start, end and abandon: they change the clock alone.
+-- inner: start, end and abandon: they change the clock alone.
 use Prim.Native.Nat.{ℕ}
-use mathlib.Core.Path.{_≡_}
 use mathlib.Core.Bool.{true}
-use Rattle.rules.specs.Geometry.{Geometry}
-use Rattle.rules.specs.Wheel.{closed, Wheel, start, abandon}
+use mathlib.Core.Path.{_≡_}
 use Rattle.rules.specs.Calls.{withClock, act}
-use Rattle.wheel_rules.specs.declared.records.Clock.{Clock}
-use Rattle.wheel_rules.specs.records.Records.{Nodes, Entries, records}
-use Rattle.wheel_rules.specs.records.Shows.{Shows}
+use Rattle.rules.specs.Places.{Geometry}
+use Rattle.rules.specs.Wheel.{closed, Wheel, start, abandon}
+use Rattle.wheel_rules.specs.Lent.{Nodes, Entries, records, Shows}
+use Rattle.wheel_rules.specs.declared.calls.Clock.{Clock}
 use Rattle.wheel_rules.specs.records.Clocks.{started, ended, abandoned}
 
 -- "Start(q): the reading becomes q, the old one p is kept"; "start moves no node"

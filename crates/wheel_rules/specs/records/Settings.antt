@@ -1,15 +1,14 @@
--- An entry set.
+-- inner: an entry set.
 use Prim.Native.Nat.{ℕ, _<_}
-use mathlib.Core.Path.{_≡_}
 use mathlib.Core.Bool.{Bool, cond}
 use mathlib.Core.Option.{none, some}
+use mathlib.Core.Path.{_≡_}
 use lib.ListN.{length, set}
-use Rattle.rules.specs.Geometry.{Geometry}
-use Rattle.rules.specs.Wheel.{Wheel, setEntry}
 use Rattle.rules.specs.Calls.{act}
-use Rattle.wheel_rules.specs.declared.records.Clock.{Clock}
-use Rattle.wheel_rules.specs.records.Records.{Nodes, Entries, entries, records}
-use Rattle.wheel_rules.specs.records.Shows.{Shows}
+use Rattle.rules.specs.Places.{Geometry}
+use Rattle.rules.specs.Wheel.{Wheel, setEntry}
+use Rattle.wheel_rules.specs.Lent.{Nodes, Entries, entries, records, Shows}
+use Rattle.wheel_rules.specs.declared.calls.Clock.{Clock}
 
 -- the entry e: whether it has a deadline, which, and its generation
 abbrev pub settled : ℕ → Bool → ℕ → ℕ → Entries → Entries

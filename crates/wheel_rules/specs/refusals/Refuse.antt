@@ -1,19 +1,17 @@
--- When each refusal number of 01 is given: ordered rows, the lowest number first.
+-- inner: when each refusal number of 01 is given: ordered rows, the lowest number first.
 -- A stage is one or more rows and says once when its numbers are given; a call's rows are stages one after the other.
 use Prim.Native.Nat.{ℕ, _-_, _^_, _≤_, _<_}
-use mathlib.Core.Path.{_≡_}
 use mathlib.Core.Bool.{Bool, true, false}
 use mathlib.Core.Option.{none as nothing}
+use mathlib.Core.Path.{_≡_}
 use lib.ListN.{length, getD}
-use Rattle.deque_rules.specs.Chain.{none}
-use Rattle.deque_rules.specs.Lists.{homeOf}
-pub use Rattle.numbers.specs.Rows.{unless, answered, given}
-use Rattle.rules.specs.Geometry.{wheel01, buckets}
+use Rattle.deque_rules.specs.Links.{homeOf}
+use Rattle.numbers.specs.Rows.{given}
+use Rattle.numbers.specs.Shared.{noSlot, unless, notRefused}
+use Rattle.rules.specs.Calls.{Tests, rows}
+use Rattle.rules.specs.Places.{wheel01, buckets}
 use Rattle.rules.specs.Wheel.{Call, enable, setEntry, schedule, reschedule, pull, armedCount, nextDue}
-use Rattle.rules.specs.Refusals.{Tests, rows}
-use Rattle.wheel_rules.specs.records.Records.{Records}
-use Rattle.wheel_rules.specs.sound.Clauses.{Ranges, EndsLengths, NodesLengths, EntriesLengths}
-use Rattle.wheel_rules.specs.sound.Sound.{SoundRecords}
+use Rattle.wheel_rules.specs.Lent.{Records, Ranges, EndsLengths, NodesLengths, EntriesLengths, SoundRecords}
 
 -- ---- the stages
 -- 1 "wheel not enabled"; 4 "not sound"
@@ -39,7 +37,7 @@ dated R e h more =
 
 -- 10 "schedule, push back: no free slot"; 11 "schedule: next serial is 2^64 - 1"
 abbrev pub roomy : Records → (ℕ → Type 0) → ℕ → Type 0
-roomy R more = unless (R .clock .free ≡ none → ⊥) 10 (unless (R .clock .serial ≡ 2 ^ 64 - 1 → ⊥) 11 more)
+roomy R more = unless (R .clock .free ≡ noSlot → ⊥) 10 (unless (R .clock .serial ≡ 2 ^ 64 - 1 → ⊥) 11 more)
 
 -- 12 "handle's slot absent, sentinel or free, or its serial another": there is such a slot, it is no sentinel, it is
 -- armed, and its serial is n
@@ -85,7 +83,7 @@ testsOn R = record {
   entry = λ e. e < R .clock .entries;
   generation = λ e h. getD (R .entries .generation) e 0 ≡ h;
   dated = λ e. getD (R .entries .dated) e false ≡ true;
-  room = R .clock .free ≡ none → ⊥;
+  room = R .clock .free ≡ noSlot → ⊥;
   serial = R .clock .serial ≡ 2 ^ 64 - 1 → ⊥;
   live = λ x n. Live R x n;
   arming = λ x h. getD (R .nodes .generation) x 0 ≡ h;
@@ -126,7 +124,7 @@ pub record RefusesEnable (R : Records) (r : ℕ) : Type 0 where
 
 -- enable's number over lent nodes, which are of one length by what they are: by numbers alone
 pub record RefusesAround (enabled : Bool) (heads tails nodes dated deadline stamp r : ℕ) : Type 0 where
-  pub by : making enabled (LendableAround heads tails nodes dated deadline stamp) answered r
+  pub by : making enabled (LendableAround heads tails nodes dated deadline stamp) notRefused r
 
 pub record RefusesSet (R : Records) (e r : ℕ) : Type 0 where
   pub by : setRows R e r

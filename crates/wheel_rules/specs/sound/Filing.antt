@@ -1,12 +1,12 @@
--- Slots filed by their serials: what the test that armed serials differ keeps in its two scratch arrays. `latest` has,
+-- inner: slots filed by their serials: what the test that armed serials differ keeps in its two scratch arrays. `latest` has,
 -- for each remainder of a serial by 4,096, the latest slot filed under it, and `before` has, for each slot filed, the
 -- one filed before it under the same remainder. 0 is the end: slot 0 is a sentinel, so it is never armed.
 use Prim.Native.Nat.{ℕ, _+_, _%_, _≤_, _<_}
-use mathlib.Core.Path.{_≡_}
 use mathlib.Core.Bool.{Bool, true, false}
 use mathlib.Core.List.{List}
+use mathlib.Core.Path.{_≡_}
 use lib.ListN.{length, getD}
-use Rattle.wheel_rules.specs.sound.Clauses.{Armed, SerialsDiffer}
+use Rattle.wheel_rules.specs.Lent.{Armed, SerialsDiffer}
 
 -- from the slot y on, back to 0, the slot z is come by
 pub data Leads (before : List ℕ) : ℕ → ℕ → Type 0 where

@@ -1,10 +1,11 @@
--- What is done to the node records: payload written, a slot armed, freed, moved.
+-- inner: what is done to the node records: payload written, a slot armed, freed, moved.
 use Prim.Native.Nat.{ℕ}
-use mathlib.Core.Path.{_≡_}
 use mathlib.Core.List.{List}
+use mathlib.Core.Path.{_≡_}
 use lib.ListN.{set}
-use Rattle.deque_rules.specs.Change.{linkBack, removed, moveBack}
-use Rattle.wheel_rules.specs.records.Records.{Nodes, join, withLinks}
+use Rattle.deque_rules.specs.Links.{linkBack, removed, moveBack}
+use Rattle.wheel_rules.specs.Lent.{Nodes}
+use Rattle.wheel_rules.specs.records.Records.{join, withLinks}
 
 -- the payload of the slot x: entry e, generation h, serial n
 abbrev pub written : ℕ → ℕ → ℕ → ℕ → Nodes → Nodes

@@ -1,22 +1,20 @@
--- Arming, disarming, rearming on sound records: what is asked, and what is done to the records and to the wheel that
+-- inner: arming, disarming, rearming on sound records: what is asked, and what is done to the records and to the wheel that
 -- they show.
 use Prim.Native.Nat.{ℕ, _-_, _^_, _≤_, _<_}
-use mathlib.Core.Path.{_≡_}
-use mathlib.Core.Option.{some}
 use mathlib.Core.List.{List}
+use mathlib.Core.Option.{some}
+use mathlib.Core.Path.{_≡_}
 use lib.ListN.{length, getD}
-use Rattle.deque_rules.specs.Lists.{Links, homeOf}
-use Rattle.deque_rules.specs.Change.{moveBack}
-use Rattle.rules.specs.Geometry.{Geometry}
-use Rattle.rules.specs.Place.{bucketOf}
-use Rattle.rules.specs.Wheel.{Wheel, schedule, reschedule, deschedule, handle, ok}
+use Rattle.deque_rules.specs.Links.{Links, homeOf, moveBack}
 use Rattle.rules.specs.Calls.{act}
+use Rattle.rules.specs.Places.{Geometry, bucketOf}
 use Rattle.rules.specs.Sound.{Sound}
-use Rattle.wheel_rules.specs.declared.records.Clock.{Clock}
+use Rattle.rules.specs.Wheel.{Wheel, schedule, reschedule, deschedule, handle, ok}
+use Rattle.wheel_rules.specs.Lent.{Nodes, Entries, Records, records, Shows}
+use Rattle.wheel_rules.specs.declared.calls.Clock.{Clock}
 use Rattle.wheel_rules.specs.declared.timers.Armed.{Armed}
-use Rattle.wheel_rules.specs.records.Records.{Nodes, Entries, Records, records, join}
-use Rattle.wheel_rules.specs.records.Shows.{Shows}
 use Rattle.wheel_rules.specs.records.Clocks.{counted, setFree}
+use Rattle.wheel_rules.specs.records.Records.{join}
 use Rattle.wheel_rules.specs.timers.Change.{armedIn, freedFrom}
 
 -- the records show some sound wheel

@@ -1,24 +1,23 @@
--- The turns of a pull, on the records: 01, "Calls", the paragraph on the advance.
+-- inner: the turns of a pull, on the records: 01, "Calls", the paragraph on the advance.
 use Prim.Native.Nat.{ℕ, _-_, _≤_}
-use mathlib.Core.Path.{_≡_}
 use mathlib.Core.Bool.{Bool, cond}
 use mathlib.Core.List.{List}
-use lib.ListN.{length}
+use mathlib.Core.Path.{_≡_}
 use lib.Dec.{ltb}
-use Rattle.deque_rules.specs.Lists.{Links}
+use lib.ListN.{length}
 use Rattle.deque_rules.specs.Change.{turnTo}
-use Rattle.rules.specs.Geometry.{Geometry, buckets}
-use Rattle.rules.specs.Visits.{bucketAt}
-use Rattle.rules.specs.Wheel.{Wheel}
+use Rattle.deque_rules.specs.Links.{Links}
+use Rattle.rules.specs.Places.{Geometry, buckets, bucketAt}
 use Rattle.rules.specs.Sound.{Sound}
-use Rattle.wheel_rules.specs.declared.records.Clock.{Clock}
-use Rattle.wheel_rules.specs.records.Records.{Nodes, Entries, entries, records, join, withLinks}
-use Rattle.wheel_rules.specs.records.Shows.{Shows}
-use Rattle.wheel_rules.specs.records.Clocks.{standing, ended}
+use Rattle.rules.specs.Wheel.{Wheel}
+use Rattle.wheel_rules.specs.Lent.{Nodes, Entries, entries, records, Shows}
 use Rattle.wheel_rules.specs.declared.popping.Position.{Position}
 use Rattle.wheel_rules.specs.declared.popping.Pulled.the-variants.{End}
 use Rattle.wheel_rules.specs.declared.popping.Turn.{Turn}
+use Rattle.wheel_rules.specs.declared.calls.Clock.{Clock}
 use Rattle.wheel_rules.specs.popping.Pop.{goes, stops, waitingAt, nextPosition, popNodes, popTurn, TurnReady, Nears, Outcome}
+use Rattle.wheel_rules.specs.records.Clocks.{standing, ended}
+use Rattle.wheel_rules.specs.records.Records.{join, withLinks}
 
 -- ---- the turns
 -- "On entering a bucket, nodes go front to back until the sentinel is last"

@@ -1,8 +1,7 @@
 // Which buckets an advance visits at a level: how many, and which is the next. For the loop of the advance and for the
 // test of its position. No `requires`.
 ghost use mathlib.Core.Path.{_≡_};
-ghost use Rattle.rules.specs.Geometry.{wheel01};
-ghost use Rattle.rules.specs.Visits.{visitedAt, bucketAt};
+ghost use Rattle.rules.specs.Places.{wheel01, visitedAt, bucketAt};
 use crate::place::levels::level_count;
 use crate::place::levels::level_first;
 use crate::place::levels::level_shift;

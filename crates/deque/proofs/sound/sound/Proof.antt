@@ -1,7 +1,7 @@
 -- `sound` meets its contract: its loop keeps `Upto`, and each way out has a law of `Verdicts`.
 use Prim.Native.Nat.{_-_}
 use lib.ListN.{length}
-use Rattle.deque_rules.specs.Lists.{links}
+use Rattle.deque_rules.specs.Links.{links}
 use Rattle.deque_rules.proofs.Judging.{Upto, more}
 use Rattle.deque_rules.proofs.Verdicts.{begins, exits}
 use borrow.Author.Needs.{needs}

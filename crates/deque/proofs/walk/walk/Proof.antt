@@ -2,7 +2,7 @@
 use borrow.Author.Needs.{needs}
 use Prim.Native.Nat.{_-_}
 use lib.ListN.{length}
-use Rattle.deque_rules.specs.Lists.{links}
+use Rattle.deque_rules.specs.Links.{links}
 use Rattle.deque_rules.proofs.Walking.{Going, start, goes, exits}
 use Rattle.deque.proofs.walk.walk.Statement.{statement}
 use Rattle.deque.proofs.walk.walk.Tie as tie

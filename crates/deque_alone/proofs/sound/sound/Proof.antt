@@ -1,7 +1,7 @@
 -- `sound` meets its contract: its loop keeps `Seen`, and each way out has a law of `Judging`.
 use Prim.Native.Nat.{_-_}
 use lib.ListN.{length}
-use Rattle.deque_rules.specs.alone.State.{state}
+use Rattle.deque_rules.specs.Deque.{state}
 use Rattle.deque_rules.proofs.alone.Testing.{Seen, begins, goes, asks-free, exits}
 use borrow.Author.Needs.{needs}
 use Rattle.deque_alone.proofs.sound.sound.Statement.{statement}

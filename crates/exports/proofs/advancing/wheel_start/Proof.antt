@@ -16,10 +16,10 @@ use prog.Wp.{Heap, Calls, Loops, WpFn, Tables}
 use ghost.Atoms.{Atoms}
 use contract.Monad.{Fun, fact}
 use contract.Running.{givenOf, tables, tablesOf}
-use types.Kit.{Given, Item, ‵, raw, some, later, _⊛_, ⋆, _$_, _∵_, !, qed, by, move, keep, drop, use1, use2, use3, split, join, pick, fsplit, fjoin, suffices}
-use types.Kit.{frame, await, done}
-use types.Run.{look, init, forget, stop, hop, from, load, addr, and-then, no-more, assigns, land, returns, enter, alloc1, alloc0, params1, pass1, pass0, free1}
-use types.Run.{free0}
+use types.Kit.{Given, Item, ‵, raw, some, later, _⊛_, ⋆, _$_, _∵_, !, qed, by, move, keep, drop, use1, use2, use3, split, join, pick, fsplit, fjoin}
+use types.Kit.{suffices, frame, await, done}
+use types.Run.{look, init, forget, stop, hop, from, load, addr, and-then, no-more, assigns, land, returns, enter, alloc1, alloc0, params1, pass1, pass0}
+use types.Run.{free1, free0}
 use sound.WpLaws.{FmC, fmOf, WpFn-mono}
 use denote.RattleType.{owns}
 use denote.Laws.{Is, shows}
@@ -37,14 +37,12 @@ use denote.Triple.Spec.{Meets, tripleOf}
 use denote.Triple.Statement.{Contract, Triple}
 use denote.Triple.Table.{entered, cited}
 use denote.Triple.Walked.{says, Stays, walkOf, Walks, ends-at, walked, walk-meets}
-use Rattle.face_rules.specs.declared.nodes.Node.{Node}
-use Rattle.wheel_rules.specs.declared.records.Clock.{Clock}
+use Rattle.face_rules.specs.declared.Node.{Node}
+use Rattle.wheel_rules.specs.declared.calls.Clock.{Clock}
 use Rattle.wheel_rules.specs.declared.calls.Noted.{Noted}
-use Rattle.face_rules.specs.exports.Words.{Writes, wordsOf}
-use Rattle.face_rules.specs.nodes.Shown.{shown}
+use Rattle.face_rules.specs.Face.{Writes, wordsOf, recordsOf as shown}
 use Rattle.rules.specs.Wheel.{start}
-use Rattle.wheel_rules.specs.calls.Answers.{notedSays}
-use Rattle.wheel_rules.specs.calls.Promise.{Promised}
+use Rattle.wheel_rules.specs.Promise.{notedSays, Promised}
 use Rattle.nodes.proofs.Passing.{passed-on}
 use Rattle.face_rules.proofs.nodes.Node as T
 use Rattle.wheel_rules.proofs.records.Clock as K

@@ -22,8 +22,8 @@ use contract.Monad.{Fun, fact}
 use contract.Running.{givenOf, tables, tablesOf}
 use types.Kit.{Given, Item, ‵, raw, some, given, later, _⊛_, mean, ⋆, _$_, _∵_, !, qed, by, move, keep, drop, use1, use2, use3, split, join, pick, learn}
 use types.Kit.{rewrite, fsplit, fsplit3, fjoin, fjoin3, feqI, suffices, frame, await, done}
-use types.Run.{look, look-raw, store-raw, init, forget, stop, hop, fld, from, load, of-opd, lit, addr, and-then, no-more, assigns, land, returns, enter, alloc1}
-use types.Run.{alloc0, params1, pass1, pass0, free1, free0}
+use types.Run.{look, look-raw, store-raw, init, forget, stop, hop, fld, from, load, of-opd, lit, addr, and-then, no-more, assigns, land, returns, enter}
+use types.Run.{alloc1, alloc0, params1, pass1, pass0, free1, free0}
 use types.Part.{whole, sub, look-in, agg, rep}
 use types.SemTy.{Body}
 use sound.WpLaws.{FmC, fmOf, WpFn-mono}
@@ -49,13 +49,13 @@ use denote.Triple.Walked.{says, Stays, stay-ref, walkOf, goes-ref, Walks, ends-a
 use Rattle.nodes.proofs.Lending.{ref-to, lft-of, zeros-typed, length-lit}
 use Rattle.nodes.proofs.Six.{Full, Leases, Rows, Lenders, Sharers, Owned, Viewed, Lasting, full-holds, Tokens as With, makes-six, lends-six, six-back}
 use Rattle.nodes.proofs.Six.{shares-six, six-unshared, six-rooms}
-use Rattle.face_rules.specs.declared.nodes.Node.{Node}
-use Rattle.wheel_rules.specs.declared.records.Clock.{Clock}
+use Rattle.face_rules.specs.declared.Node.{Node}
+use Rattle.wheel_rules.specs.declared.calls.Clock.{Clock}
 use Rattle.face_rules.specs.declared.NotedTurn.{NotedTurn}
 use Rattle.face_rules.specs.Works.{Loaded}
 use Rattle.face_rules.specs.nodes.Columns.{Columns, Loads, columns}
 use Rattle.rules.specs.Wheel.{start}
-use Rattle.wheel_rules.specs.calls.Answers.{notedSays}
+use Rattle.wheel_rules.specs.Promise.{notedSays}
 use Rattle.nodes.proofs.Passing.{passed-on}
 use Rattle.face_rules.proofs.nodes.Node as T
 use Rattle.wheel_rules.proofs.records.Clock as K

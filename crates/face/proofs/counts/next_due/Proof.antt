@@ -21,8 +21,8 @@ use contract.Monad.{Fun, fact}
 use contract.Running.{givenOf, tables, tablesOf}
 use types.Kit.{Given, Item, ‵, raw, some, given, later, _⊛_, mean, ⋆, _$_, _∵_, !, qed, by, move, keep, drop, use1, use2, use3, split, join, pick, learn}
 use types.Kit.{fsplit, fjoin, suffices, frame, await, done}
-use types.Run.{look, init, forget, stop, fld, from, load, of-opd, lit, addr, and-then, no-more, assigns, land, returns, enter, alloc1, alloc0, params1, pass1}
-use types.Run.{pass0, free1, free0}
+use types.Run.{look, init, forget, stop, fld, from, load, of-opd, lit, addr, and-then, no-more, assigns, land, returns, enter, alloc1, alloc0, params1}
+use types.Run.{pass1, pass0, free1, free0}
 use types.Part.{whole, sub, look-in, agg, rep}
 use sound.WpLaws.{FmC, fmOf, WpFn-mono}
 use denote.RattleType.{owns}
@@ -45,13 +45,13 @@ use denote.Triple.Walked.{says, Stays, walkOf, Walks, ends-at, walked, walk-meet
 use Rattle.nodes.proofs.Lending.{ref-to, lft-of, zeros-typed, length-lit}
 use Rattle.nodes.proofs.Six.{Full, Leases, Rows, Lenders, Sharers, Owned, Viewed, Lasting, full-holds, Tokens as With, makes-six, lends-six, six-back}
 use Rattle.nodes.proofs.Six.{shares-six, six-unshared, six-rooms}
-use Rattle.face_rules.specs.declared.nodes.Node.{Node}
-use Rattle.wheel_rules.specs.declared.records.Clock.{Clock}
+use Rattle.face_rules.specs.declared.Node.{Node}
+use Rattle.wheel_rules.specs.declared.calls.Clock.{Clock}
 use Rattle.wheel_rules.specs.declared.calls.Due.{Due}
 use Rattle.face_rules.specs.Works.{Loaded}
 use Rattle.face_rules.specs.nodes.Columns.{Columns, Loads, columns}
 use Rattle.rules.specs.Wheel.{nextDue}
-use Rattle.wheel_rules.specs.calls.Answers.{dueSays}
+use Rattle.wheel_rules.specs.Promise.{dueSays}
 use Rattle.nodes.proofs.Passing.{passed-on}
 use Rattle.face_rules.proofs.nodes.Node as T
 use Rattle.wheel_rules.proofs.records.Clock as K

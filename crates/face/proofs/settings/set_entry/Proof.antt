@@ -3,7 +3,7 @@
 -- All other parameters are passed on for good to the work, `set_entry_work`, whose promise `.meets` is the contract's.
 use mathlib.Core.Path.{refl}
 use Prim.Native.Nat.{ℕ, _<_, _^_}
-use mathlib.Core.Bool.{Bool}
+use mathlib.Core.Bool.{Bool, cond}
 use mathlib.Core.List.{[], _∷_, List}
 use lib.ListN.{length}
 use lib.Dec.{T as Holds, lit<}
@@ -45,14 +45,13 @@ use denote.Triple.Walked.{says, Stays, walkOf, Walks, ends-at, walked, walk-meet
 use Rattle.nodes.proofs.Lending.{ref-to, lft-of, zeros-typed, length-lit}
 use Rattle.nodes.proofs.Six.{Full, Leases, Rows, Lenders, Sharers, Owned, Viewed, Lasting, full-holds, Tokens as With, makes-six, lends-six, six-back}
 use Rattle.nodes.proofs.Six.{shares-six, six-unshared, six-rooms}
-use Rattle.face_rules.specs.declared.nodes.Node.{Node}
-use Rattle.wheel_rules.specs.declared.records.Clock.{Clock}
+use Rattle.face_rules.specs.declared.Node.{Node}
+use Rattle.wheel_rules.specs.declared.calls.Clock.{Clock}
 use Rattle.wheel_rules.specs.declared.calls.Noted.{Noted}
 use Rattle.face_rules.specs.Works.{Loaded}
 use Rattle.face_rules.specs.nodes.Columns.{Columns, Loads, columns}
 use Rattle.rules.specs.Wheel.{setEntry}
-use Rattle.wheel_rules.specs.calls.Answers.{notedSays}
-use mathlib.Core.Bool.{cond}
+use Rattle.wheel_rules.specs.Promise.{notedSays}
 use mathlib.Core.Option as Option
 use Rattle.nodes.proofs.Passing.{passed-on}
 use Rattle.face_rules.proofs.nodes.Node as T

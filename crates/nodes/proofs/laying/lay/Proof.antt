@@ -19,8 +19,8 @@ use prog.Wp.{Heap, Out, Env, Calls, Loops, Wp, WpFn, Tables, afterSeq, afterBloc
 use ghost.Atoms.{Atoms, sem}
 use contract.Monad.{Fun, fact}
 use contract.Running.{givenOf, tables, tablesOf}
-use types.Kit.{Given, Item, ‵, raw, some, later, _⊛_, ⋆, anyQ, atRet, _$_, _∵_, !, qed, by, move, keep, drop, use0, use1, split, join, pick, rewrite, fsplit}
-use types.Kit.{fsplit3, fjoin, feqI, suffices, frame, await, done}
+use types.Kit.{Given, Item, ‵, raw, some, later, _⊛_, ⋆, anyQ, atRet, _$_, _∵_, !, qed, by, move, keep, drop, use0, use1, split, join, pick, rewrite}
+use types.Kit.{fsplit, fsplit3, fjoin, feqI, suffices, frame, await, done}
 use types.Run.{look, store, store-raw, init, forget, stop, hop, fld, from, load, lit, unit-lit, of-opd, bin, and-then, no-more, assigns, assigns-last, land}
 use types.Run.{stays, leaves-loop, first, blocks, exec, returns, enter, alloc1, alloc0, params1, pass1, pass0, free1, free0}
 use types.Part.{whole, sub, look-in}
@@ -45,8 +45,8 @@ use denote.Triple.Spec.{Meets, tripleOf}
 use denote.Triple.Statement.{Contract, Triple}
 use denote.Triple.Table.{entered, cited}
 use denote.Triple.Walked.{says, Stays, stay-slice, walkOf, goes-slice, Walks, ends-at, walked, walk-meets}
-use Rattle.rules.specs.Geometry.{wheel01, buckets}
-use Rattle.face_rules.specs.declared.nodes.Node.{Node}
+use Rattle.rules.specs.Places.{wheel01, buckets}
+use Rattle.face_rules.specs.declared.Node.{Node}
 use Rattle.face_rules.specs.nodes.Laid.{turnsOf, laidNode}
 use Rattle.face_rules.proofs.nodes.Fills.{length-fills}
 use Rattle.nodes.proofs.Counts.{counts, yes-less, not-less, one-more}

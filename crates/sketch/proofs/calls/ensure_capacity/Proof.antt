@@ -5,7 +5,7 @@ use Prim.Native.Nat.{_≤_, _<_}
 use native.Mathlib.Omega.{arith}
 use lib.ListN.{length}
 use borrow.Author.Tests.{not-true, not-false}
-use Rattle.sketch_rules.specs.Sound.{sound, wordsFor}
+use Rattle.sketch_rules.specs.Sketch.{sound, wordsFor}
 use Rattle.sketch_rules.proofs.Promises.{ensure-not-sound, ensure-too-large, ensure-too-short, ensure-stays, ensure-grows, ensure-refused, ensure-same}
 use Rattle.sketch_rules.proofs.Promises.{ensure-grown}
 use borrow.Author.Needs.{needs}

@@ -3,7 +3,7 @@ use mathlib.Core.Path.{_≡_, sym, _∙_}
 use mathlib.Core.Bool.{true}
 use lib.ListN.{length}
 use borrow.Author.Tests.{not-true, not-false}
-use Rattle.sketch_rules.specs.Sound.{sound}
+use Rattle.sketch_rules.specs.Sketch.{sound}
 use Rattle.sketch_rules.proofs.Promises.{ready, increase-refused, increase-unused, increase-done}
 use borrow.Author.Needs.{needs}
 use Rattle.sketch.proofs.calls.increase.Statement.{statement}

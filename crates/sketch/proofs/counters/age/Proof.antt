@@ -4,7 +4,7 @@ use mathlib.Core.Path.{_≡_, ap, _∙_}
 use Prim.Native.Nat.{ℕ, _-_, _≤_, _<_}
 use native.Mathlib.Omega.{arith}
 use lib.ListN.{length, getD}
-use Rattle.sketch_rules.specs.Tables.{halvedTo, oddsTo}
+use Rattle.sketch_rules.specs.Sketch.{halvedTo, oddsTo}
 use Rattle.sketch_rules.proofs.Passes.{odds-le, odds-to-le, turn-table, turn-odd}
 use borrow.Author.Needs.{needs}
 use Rattle.sketch.proofs.counters.age.Statement.{statement}

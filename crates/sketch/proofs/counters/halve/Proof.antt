@@ -1,7 +1,7 @@
 -- `counters::halve` meets its contract.
 use mathlib.Core.Path.{ap, _∙_}
 use Prim.Native.Nat.{ℕ}
-use Rattle.sketch_rules.specs.Counters.{counter}
+use Rattle.sketch_rules.specs.Sketch.{counter}
 use Rattle.sketch_rules.proofs.Words.{halved-counter}
 use Rattle.sketch_rules.proofs.Masks.{halved-mask}
 use Rattle.sketch.proofs.counters.halve.Statement.{statement}

@@ -2,7 +2,8 @@
 use mathlib.Core.Path.{sym, subst}
 use Prim.Native.Nat.{ℕ, _+_, _^_, _<_}
 use native.Mathlib.Omega.{arith}
-use Rattle.sketch_rules.specs.Counters.{counter, Raises}
+use Rattle.sketch_rules.specs.Counters.{Raises}
+use Rattle.sketch_rules.specs.Sketch.{counter}
 use Rattle.sketch_rules.proofs.Rises.{one-at, sum-below, up, full}
 use borrow.Author.Needs.{needs}
 use Rattle.sketch.proofs.counters.raise.Statement.{statement}

@@ -1,7 +1,7 @@
 -- `sketch::index::seed_of` meets its contract.
 use mathlib.Core.Path.{_≡_, sym, ap}
 use native.Mathlib.Omega.{arith}
-use Rattle.sketch_rules.specs.Index.{seed}
+use Rattle.sketch_rules.specs.Sketch.{seed}
 use borrow.Author.Needs.{needs}
 use Rattle.sketch.proofs.index.seed_of.Statement.{statement}
 use Rattle.sketch.proofs.index.seed_of.Tie as tie

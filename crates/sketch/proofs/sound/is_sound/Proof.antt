@@ -3,7 +3,7 @@ use mathlib.Core.Path.{_≡_, sym, _∙_}
 use mathlib.Core.Bool.{true}
 use borrow.Author.Needs.{needs}
 use borrow.Author.Tests.{not-true, not-false}
-use Rattle.numbers.specs.Powers.{isPowerTo}
+use Rattle.numbers.specs.Shared.{isPowerTo}
 use Rattle.sketch_rules.proofs.Soundness.{blank-size, blank-sample, not-inside, not-power, not-tenfold, too-low, too-high, by-size}
 use Rattle.sketch.proofs.sound.is_sound.Statement.{statement}
 use Rattle.sketch.proofs.sound.is_sound.Tie as tie

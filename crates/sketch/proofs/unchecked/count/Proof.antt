@@ -3,7 +3,7 @@ use mathlib.Core.Path.{_≡_, refl, ap, _∙_}
 use Prim.Native.Nat.{ℕ, _+_, _*_, _%_, _-_, _≤_}
 use native.Mathlib.Omega.{arith}
 use lib.ListN.{length}
-use Rattle.sketch_rules.specs.Hashes.{counted, rose}
+use Rattle.sketch_rules.specs.Sketch.{counted, rose}
 use Rattle.sketch_rules.proofs.Counting.{rises-le, turn-table, turn-rose}
 use borrow.Author.Needs.{needs}
 use Rattle.sketch.proofs.unchecked.count.Statement.{statement}

@@ -3,7 +3,7 @@ use Prim.Native.Nat.{_^_, _+_}
 use mathlib.Core.Path.{refl}
 use mathlib.Core.Option.{some}
 use mathlib.Core.List.{[], _∷_, _++_}
-use Rattle.rules.specs.Geometry.{tick}
+use Rattle.rules.specs.Places.{tick}
 use Rattle.rules.specs.Wheel.{schedule, setEntry}
 use Rattle.story.specs.Held.{held}
 use Rattle.story.specs.Story.{Reached, begun, armed}

@@ -1,7 +1,7 @@
 -- `begin` meets its contract: create, and enable, which is done.
 use mathlib.Core.Path.{refl}
 use mathlib.Core.Bool.{true}
-use Rattle.rules.specs.Geometry.{tick}
+use Rattle.rules.specs.Places.{tick}
 use Rattle.rules.specs.Wheel.{enable}
 use Rattle.story.specs.Held.{held}
 use Rattle.story.proofs.Telling.{beginning, on, says}

@@ -1,6 +1,6 @@
 -- `count_none` meets its contract: after the hand-out no timer is armed.
 use mathlib.Core.Path.{refl}
-use Rattle.rules.specs.Geometry.{tick}
+use Rattle.rules.specs.Places.{tick}
 use Rattle.rules.specs.Wheel.{armedCount}
 use Rattle.story.proofs.Telling.{says}
 use borrow.Author.Needs.{needs}

@@ -2,7 +2,7 @@
 use mathlib.Core.Path.{refl}
 use mathlib.Core.List.{[], _∷_, _++_}
 use borrow.Author.Tests.{eq-eqb}
-use Rattle.rules.specs.Geometry.{tick}
+use Rattle.rules.specs.Places.{tick}
 use Rattle.rules.specs.Wheel.{pull, start}
 use Rattle.story.specs.Held.{held}
 use Rattle.story.specs.Story.{Reached, tooEarly, steppedBack}

@@ -1,7 +1,7 @@
 -- `next_position` meets its contract.
 use Rattle.wheel_rules.proofs.popping.Positions.{last-one, not-last, onward-here, onward-last, onward-up, onward-still}
 use native.Mathlib.Omega.{arith}
-use Rattle.rules.specs.Geometry.{wheel01}
+use Rattle.rules.specs.Places.{wheel01}
 use borrow.Author.Needs.{needs}
 use Rattle.wheel_advance.proofs.position.next_position.Statement.{statement}
 use Rattle.wheel_advance.proofs.position.next_position.Tie as tie

@@ -1,7 +1,7 @@
 -- `pull` meets its contract.
 use borrow.Author.Tests.{not-true, not-false}
-use Rattle.rules.specs.Geometry.{wheel01}
-use Rattle.wheel_rules.specs.records.Records.{nodes}
+use Rattle.rules.specs.Places.{wheel01}
+use Rattle.wheel_rules.specs.Lent.{nodes}
 use Rattle.wheel_rules.specs.popping.Pop.{left}
 use Rattle.wheel_rules.proofs.pull.Pulling.{Pulling, pull-begins, pull-asks, pull-ends, pull-kept}
 use Rattle.wheel_rules.proofs.pull.Skipping.{skip-asks, skip-less, skip-again}

@@ -1,7 +1,7 @@
 -- `waiting` meets its contract.
 use Rattle.wheel_rules.proofs.turns.Looking.{waits-before, waits-none, waits-some}
 use Rattle.wheel_rules.proofs.popping.Positions.{bucketAt-in}
-use Rattle.rules.specs.Geometry.{wheel01}
+use Rattle.rules.specs.Places.{wheel01}
 use native.Mathlib.Omega.{arith}
 use Prim.Native.Nat.{_-_}
 use borrow.Author.Needs.{needs}

@@ -1,7 +1,7 @@
 -- `seat` meets its contract.
 use borrow.Author.Needs.{needs}
 use Rattle.wheel_rules.proofs.layout.Seating.{Seating, seating-begins, seating-asks, seating-again, seating-ends}
-use Rattle.deque_rules.specs.Lists.{links}
+use Rattle.deque_rules.specs.Links.{links}
 use Prim.Native.Nat.{_-_}
 use lib.ListN.{length}
 use Rattle.wheel_timers.proofs.layout.seat.Statement.{statement}

@@ -2,7 +2,7 @@
 -- is the number of calls that are left.
 use mathlib.Core.Path.{_≡_}
 use lib.ListN.{length}
-use Rattle.deque_rules.specs.alone.State.{state}
+use Rattle.deque_rules.specs.Deque.{state}
 use Rattle.bench.specs.Ready.{Ready}
 use borrow.Author.Needs.{needs}
 use Rattle.bench.proofs.deques.looks.walk.Statement.{statement}

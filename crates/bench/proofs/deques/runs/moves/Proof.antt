@@ -1,7 +1,7 @@
 -- `moves` keeps the records those of one deque that has every node. The measure is the number of calls that are left.
 use mathlib.Core.Path.{sym}
 use lib.ListN.{take}
-use Rattle.deque_rules.specs.alone.State.{state}
+use Rattle.deque_rules.specs.Deque.{state}
 use Rattle.bench.specs.Ready.{Sized, Full}
 use Rattle.bench.proofs.DequeStanding.{tested-ready, full-asks, full-size, chosen-node}
 use Rattle.bench.proofs.DequeParts.{one-less, part-fits, part-length}

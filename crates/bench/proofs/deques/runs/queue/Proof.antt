@@ -2,7 +2,7 @@
 use mathlib.Core.Path.{sym, subst}
 use lib.ListN.{take, getD}
 use lib.Dec.{lit<}
-use Rattle.deque_rules.specs.alone.State.{State, state}
+use Rattle.deque_rules.specs.Deque.{State, state}
 use Rattle.deque_rules.specs.alone.Ready.{PushReady, NodeReady}
 use Rattle.bench.specs.Ready.{Sized}
 use Rattle.bench.proofs.DequeStanding.{tested-ready, push-asks}

@@ -2,7 +2,7 @@
 -- left.
 use mathlib.Core.Path.{sym, subst}
 use lib.ListN.{take}
-use Rattle.deque_rules.specs.alone.State.{State, state}
+use Rattle.deque_rules.specs.Deque.{State, state}
 use Rattle.deque_rules.specs.alone.Ready.{PushReady}
 use Rattle.bench.proofs.DequeStanding.{tested-ready, full-asks, full-size, full-ready, chosen-node, left-asks}
 use Rattle.bench.proofs.DequeParts.{one-less, part-fits, part-length, left-fits, left-length, left-state}

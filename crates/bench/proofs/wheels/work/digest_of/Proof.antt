@@ -2,11 +2,11 @@
 use borrow.Author.Needs.{needs}
 use mathlib.Core.Path.{sym}
 use lib.Seq.{length-take-le}
-use Rattle.wheel_rules.specs.records.Records.{nodes, entries}
+use Rattle.wheel_rules.specs.Lent.{nodes, entries}
 use Rattle.bench.specs.Kept.{Keeps}
 use Rattle.bench.proofs.WheelParts.{few-fit, entries-few, reaches, scaled-by-4, scaled-by-8}
-use Rattle.bench.proofs.WheelKeeping.{arm-asks, arm-keeps, disarm-asks, disarm-keeps, pull-asks, pull-keeps, open-keeps}
-use Rattle.bench.proofs.WheelKeeping.{fit-arm, fit-cancel, fit-pull}
+use Rattle.bench.proofs.WheelKeeping.{arm-asks, arm-keeps, disarm-asks, disarm-keeps, pull-asks, pull-keeps, open-keeps, fit-arm, fit-cancel}
+use Rattle.bench.proofs.WheelKeeping.{fit-pull}
 use Rattle.bench.proofs.wheels.work.digest_of.Statement.{statement}
 use Rattle.bench.proofs.wheels.work.digest_of.Tie as tie
 

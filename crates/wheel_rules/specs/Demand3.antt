@@ -1,4 +1,4 @@
--- Demand 3, of what a program sees: its calls, their answers, and the lent records.
+-- Histories of the public calls, and demand 3 of what a program sees: its calls, their answers, and the lent records.
 --
 -- "Let only this wheel's calls write the lent records. Arm or re-arm a timer whose deadline is not in an earlier tick
 -- than the wheel's reading, and change neither it nor its deadline afterwards. It stands in exactly one bucket until it
@@ -7,25 +7,35 @@
 -- abandoned one already had. Calls on other timers, refused calls, abandoned advances and a clock stepped back do not
 -- alter this."
 --
--- A timer is its slot x and serial n; e is its entry, d its deadline. Calls cs answered rs lead from records to records
--- (specs/history/History.antt).
-use Prim.Native.Nat.{ℕ, _≤_, _<_}
-use mathlib.Core.Path.{_≡_}
-use mathlib.Core.Logic.{_⊎_}
+-- A timer is its slot x and serial n; e is its entry, d its deadline.
+use Prim.Native.Nat.{ℕ, _<_, _≤_}
 use mathlib.Core.Bool.{true}
-use mathlib.Core.Option.{some}
 use mathlib.Core.List.{List, [], _∷_, _++_}
-use lib.ListN.{length, getD}
-use Rattle.deque_rules.specs.Lists.{homeOf}
-use Rattle.deque_rules.specs.Listed.{listFrom}
-use Rattle.rules.specs.Geometry.{wheel01, buckets}
-use Rattle.rules.specs.Lists.{hit, count}
-use Rattle.rules.specs.Wheel.{Call, schedule, reschedule, start, pull, abandon, Answer, ok, handle, end, expired}
-use Rattle.rules.specs.Timers.{LeftAlone, handsOut, handed, Timely, Later}
-use Rattle.wheel_rules.specs.records.Records.{Records}
-use Rattle.wheel_rules.specs.records.Shows.{entryAt}
-use Rattle.wheel_rules.specs.calls.Promise.{Promised}
-use Rattle.wheel_rules.specs.history.History.{Leads, done, then}
+use mathlib.Core.Logic.{_⊎_}
+use mathlib.Core.Option.{some}
+use mathlib.Core.Path.{_≡_}
+use lib.ListN.{getD, length}
+use Rattle.deque_rules.specs.Links.{listFrom, homeOf}
+use Rattle.rules.specs.Places.{wheel01, buckets}
+use Rattle.rules.specs.Wheel.{Call, Answer, refused, schedule, reschedule, ok, handle, Timely, hit, count, start, pull, end, Later, abandon, handed}
+use Rattle.rules.specs.Wheel.{expired, LeftAlone, handsOut}
+use Rattle.wheel_rules.specs.Promise.{Promised}
+use Rattle.wheel_rules.specs.Lent.{Records, entryAt}
+
+-- ======== histories
+
+-- the calls lead from some lent records to others, with these answers: each step is any result that the call's promise
+-- allows, refused calls of every kind among them
+pub data Leads : Records → List Call → List Answer → Records → Type 0 where
+  done : {R : Records} → Leads R [] [] R
+  then : {R M S : Records} {c : Call} {a : Answer} {cs : List Call} {rs : List Answer} → Promised c R M a → Leads M cs rs S → Leads R (c ∷ cs) (a ∷ rs) S
+
+-- no answer is the refusal 4, "not sound"
+abbrev pub NeverFour : List Answer → Type 0
+NeverFour [] = Unit {0}
+NeverFour (a ∷ rs) = (a ≡ refused 4 → ⊥) × NeverFour rs
+
+-- ======== demand 3
 
 -- ---- arming
 -- "Arm or re-arm a timer whose deadline is not in an earlier tick than the wheel's reading": at the records P a schedule
