@@ -43,7 +43,7 @@ use Rattle.face_rules.specs.declared.Node.{Node}
 use Rattle.face_rules.specs.nodes.Blocks.{Reaches, written}
 use Rattle.nodes.proofs.Lending.{ref-at, Lease, lft-of, lends-row, row-back}
 use Rattle.nodes.proofs.Reading.{Field, signature, ended, clauses}
-use Rattle.face_rules.proofs.nodes.Node as T
+use Rattle.face_rules.proofs.Node as T
 
 -- the nodes, and what is kept of n numbers at (b, o) that are lent
 abbrev nodes-of : Lft → RefT (List Node) → Fml

@@ -57,8 +57,8 @@ use Rattle.face_rules.specs.nodes.Blocks.{Reaches, written}
 use Rattle.nodes.proofs.Counts.{counts, yes-less, not-less, one-more}
 use Rattle.face_rules.proofs.nodes.Using.{blank}
 use Rattle.face_rules.proofs.nodes.Written.{written-none, written-more, length-written}
-use Rattle.face_rules.proofs.nodes.Node as T
-use Rattle.face_rules.proofs.nodes.Node.Laws as T′
+use Rattle.face_rules.proofs.Node as T
+use Rattle.face_rules.proofs.Node.Laws as T′
 
 abbrev vals : Node → List Val
 vals = LL.vals T.the-type T′.the-laws

@@ -4,15 +4,20 @@ use mathlib.Core.Bool.{true}
 use mathlib.Core.Option.{some}
 use mathlib.Core.List.{List, [], _∷_, _++_}
 use Rattle.rules.specs.Places.{wheel01}
-use Rattle.rules.specs.Wheel.{Call, create, enable, setEntry, schedule, deschedule, start, pull, abandon}
+use Rattle.rules.specs.Wheel.{Call, create, enable, setEntry, schedule, deschedule, start, pull, abandon, Answer}
 use Rattle.rules.specs.Runs.{after}
 use Rattle.rules.specs.Worked.{nothing}
 use Rattle.wheel_rules.specs.Lent.{Records}
+use Rattle.wheel_rules.specs.Demand3.{Leads, Demand3}
 use Rattle.wheel_rules.specs.history.Tells.{Tells}
 
--- the records stand for the wheel that these calls of the rules lead to, and are sound
+-- these calls, each with the contract of the function that was called, have led here from some records; so the records
+-- stand for the wheel that the same calls of the rules lead to
 pub record Reached (calls : List Call) (R : Records) : Type 0 where
   pub tells : Tells R (after wheel01 nothing calls .wheel)
+  pub from : Records
+  pub told : List Answer
+  pub leads : Leads from calls told R
 
 -- ---- the chapters
 -- a wheel of 168 node records and 2 entries, whose serials begin at 7
@@ -22,6 +27,11 @@ begun = create 7 ∷ enable 168 2 true ∷ []
 -- a timer, due a little after the tick 1 begins
 abbrev pub armed : List Call
 armed = begun ++ (setEntry 0 (some (2 ^ 30 + 5)) 1 ∷ schedule 0 1 ∷ [])
+
+-- demand 3 holds of it from here on, by the theorem over histories
+pub record Watched (R : Records) : Type 0 where
+  pub reached : Reached armed R
+  pub demand : Demand3 165 7 0 (2 ^ 30 + 5) R
 
 -- "Calls on other timers, refused calls": another one is armed and cancelled, and cancelling it again is refused
 abbrev pub cancelled : List Call

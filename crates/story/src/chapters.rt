@@ -1,7 +1,7 @@
 // The chapters of the story: what is called, and what is expected of each answer. Unchecked: a chapter asks that the
 // story has come that far.
 ghost use Rattle.story.specs.Held.{held};
-ghost use Rattle.story.specs.Story.{Reached, begun, armed, cancelled, abandoned, tooEarly, steppedBack, handedOut};
+ghost use Rattle.story.specs.Story.{Reached, begun, Watched, cancelled, abandoned, tooEarly, steppedBack, handedOut};
 use crate::answers::is_count;
 use crate::answers::is_done;
 use crate::answers::is_end;
@@ -39,10 +39,10 @@ pub fn begin() -> Held
     t.after
 }
 
-// The timer is armed: the first free slot, the first serial.
+// The timer is armed: the first free slot, the first serial. From here on demand 3 holds of it.
 pub fn arm(s: Held) -> Held
     requires { ⌜ Reached begun (held s) ⌝ }
-    ensures { λ r. ⌜ Reached armed (held r) ⌝ }
+    ensures { λ r. ⌜ Watched (held r) ⌝ }
 {
     let noting = set(s, 0, DUE, 1);
     let noted = noting.answer;
@@ -56,7 +56,7 @@ pub fn arm(s: Held) -> Held
 
 // Another timer is armed and cancelled; to cancel it once more is refused, since its handle is stale.
 pub fn cancel_another(s: Held) -> Held
-    requires { ⌜ Reached armed (held s) ⌝ }
+    requires { ⌜ Watched (held s) ⌝ }
     ensures { λ r. ⌜ Reached cancelled (held r) ⌝ }
 {
     let noting = set(s, 1, 64 * TICK, 3);

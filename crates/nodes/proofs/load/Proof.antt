@@ -54,7 +54,7 @@ use Rattle.nodes.proofs.CallsUsed.{Used, used-of, to-used, goes-used}
 use Rattle.nodes.proofs.CallsEnd.{End, end-of, to-end, goes-end}
 use Rattle.nodes.proofs.Reading.{next-field, prev-field, bucket-field, entry-field, generation-field, serial-field}
 use Rattle.nodes.proofs.CallsReader.{Reader, reads-block}
-use Rattle.face_rules.proofs.nodes.Node as T
+use Rattle.face_rules.proofs.Node as T
 use Rattle.nodes.proofs.used as used
 use Rattle.nodes.proofs.used.Symbol as used-def
 use Rattle.nodes.proofs.used.Symbol.{name as #nodes·used}

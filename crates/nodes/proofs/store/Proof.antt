@@ -53,8 +53,8 @@ use Rattle.face_rules.proofs.nodes.Fills.{length-fills}
 use Rattle.nodes.proofs.Counts.{counts, yes-less, not-less, one-more}
 use Rattle.face_rules.proofs.nodes.Using.{used-le, used-fits, blank, nodeAt, storedNodes, stored}
 use Rattle.nodes.proofs.CallsUsed.{Used, used-of, to-used, goes-used}
-use Rattle.face_rules.proofs.nodes.Node as T
-use Rattle.face_rules.proofs.nodes.Node.Laws as T′
+use Rattle.face_rules.proofs.Node as T
+use Rattle.face_rules.proofs.Node.Laws as T′
 use Rattle.nodes.proofs.used as used
 use Rattle.nodes.proofs.used.Symbol as used-def
 use Rattle.nodes.proofs.used.Symbol.{name as #nodes·used}

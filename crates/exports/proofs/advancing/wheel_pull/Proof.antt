@@ -45,8 +45,8 @@ use Rattle.face_rules.specs.Face.{pulledSays, Writes, wordsOf, recordsOf as sho
 use Rattle.rules.specs.Wheel.{pull}
 use Rattle.wheel_rules.specs.Promise.{Promised}
 use Rattle.nodes.proofs.Passing.{passed-on}
-use Rattle.face_rules.proofs.nodes.Node as T
-use Rattle.wheel_rules.proofs.records.Clock as K
+use Rattle.face_rules.proofs.Node as T
+use Rattle.wheel_rules.proofs.calls.Clock as K
 use Rattle.face_rules.proofs.Pulled as E
 use Rattle.face_rules.proofs.Pulled.Laws as E′
 use Rattle.face.proofs.advancing.pull as calls

@@ -45,9 +45,9 @@ use Rattle.face_rules.specs.Face.{Writes, wordsOf, recordsOf as shown}
 use Rattle.rules.specs.Wheel.{armedCount}
 use Rattle.wheel_rules.specs.Promise.{countedSays, Promised}
 use Rattle.nodes.proofs.Passing.{passed-on}
-use Rattle.face_rules.proofs.nodes.Node as T
-use Rattle.wheel_rules.proofs.records.Clock as K
-use Rattle.wheel_rules.proofs.records.Clock.Laws as K′
+use Rattle.face_rules.proofs.Node as T
+use Rattle.wheel_rules.proofs.calls.Clock as K
+use Rattle.wheel_rules.proofs.calls.Clock.Laws as K′
 use Rattle.wheel_rules.proofs.calls.Counted as E
 use Rattle.wheel_rules.proofs.calls.Counted.Laws as E′
 use Rattle.face.proofs.counts.armed_count as calls

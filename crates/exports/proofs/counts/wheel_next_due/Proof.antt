@@ -45,9 +45,9 @@ use Rattle.face_rules.specs.Face.{Writes, wordsOf, recordsOf as shown}
 use Rattle.rules.specs.Wheel.{nextDue}
 use Rattle.wheel_rules.specs.Promise.{dueSays, Promised}
 use Rattle.nodes.proofs.Passing.{passed-on}
-use Rattle.face_rules.proofs.nodes.Node as T
-use Rattle.wheel_rules.proofs.records.Clock as K
-use Rattle.wheel_rules.proofs.records.Clock.Laws as K′
+use Rattle.face_rules.proofs.Node as T
+use Rattle.wheel_rules.proofs.calls.Clock as K
+use Rattle.wheel_rules.proofs.calls.Clock.Laws as K′
 use Rattle.wheel_rules.proofs.calls.Due as E
 use Rattle.wheel_rules.proofs.calls.Due.Laws as E′
 use Rattle.face.proofs.counts.next_due as calls

@@ -44,8 +44,8 @@ use Rattle.wheel_rules.specs.declared.calls.Noted.{Noted}
 use Rattle.face_rules.specs.Face.{Writes, wordsOf, recordsOf as shown}
 use Rattle.wheel_rules.specs.Promise.{notedSays, Promised, enabling}
 use Rattle.nodes.proofs.Passing.{passed-on}
-use Rattle.face_rules.proofs.nodes.Node as T
-use Rattle.wheel_rules.proofs.records.Clock as K
+use Rattle.face_rules.proofs.Node as T
+use Rattle.wheel_rules.proofs.calls.Clock as K
 use Rattle.wheel_rules.proofs.calls.Noted as E
 use Rattle.wheel_rules.proofs.calls.Noted.Laws as E′
 use Rattle.face.proofs.making.enable as calls

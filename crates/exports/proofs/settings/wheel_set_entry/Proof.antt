@@ -47,9 +47,9 @@ use Rattle.rules.specs.Wheel.{setEntry}
 use Rattle.wheel_rules.specs.Promise.{notedSays, Promised}
 use mathlib.Core.Option as Option
 use Rattle.nodes.proofs.Passing.{passed-on}
-use Rattle.face_rules.proofs.nodes.Node as T
-use Rattle.wheel_rules.proofs.records.Clock as K
-use Rattle.wheel_rules.proofs.records.Clock.Laws as K′
+use Rattle.face_rules.proofs.Node as T
+use Rattle.wheel_rules.proofs.calls.Clock as K
+use Rattle.wheel_rules.proofs.calls.Clock.Laws as K′
 use Rattle.wheel_rules.proofs.calls.Noted as E
 use Rattle.wheel_rules.proofs.calls.Noted.Laws as E′
 use Rattle.face.proofs.settings.set_entry as calls

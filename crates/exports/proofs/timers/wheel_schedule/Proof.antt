@@ -45,8 +45,8 @@ use Rattle.face_rules.specs.Face.{scheduledSays, Writes, wordsOf, recordsOf as 
 use Rattle.rules.specs.Wheel.{schedule}
 use Rattle.wheel_rules.specs.Promise.{Promised}
 use Rattle.nodes.proofs.Passing.{passed-on}
-use Rattle.face_rules.proofs.nodes.Node as T
-use Rattle.wheel_rules.proofs.records.Clock as K
+use Rattle.face_rules.proofs.Node as T
+use Rattle.wheel_rules.proofs.calls.Clock as K
 use Rattle.face_rules.proofs.Scheduled as E
 use Rattle.face_rules.proofs.Scheduled.Laws as E′
 use Rattle.face.proofs.timers.schedule as calls

@@ -63,9 +63,9 @@ use Rattle.face_rules.specs.Works.{Stored}
 use Rattle.face_rules.specs.nodes.Columns.{Columns, Loads, Stores, columns}
 use Rattle.rules.specs.Wheel.{pull}
 use Rattle.nodes.proofs.Passing.{passed-on}
-use Rattle.face_rules.proofs.nodes.Node as T
-use Rattle.wheel_rules.proofs.records.Clock as K
-use Rattle.wheel_rules.proofs.records.Clock.Laws as K′
+use Rattle.face_rules.proofs.Node as T
+use Rattle.wheel_rules.proofs.calls.Clock as K
+use Rattle.wheel_rules.proofs.calls.Clock.Laws as K′
 use Rattle.face_rules.proofs.Pulled as E
 use Rattle.face_rules.proofs.Pulled.Laws as E′
 use Rattle.face_rules.proofs.PulledTurn as U

@@ -53,8 +53,8 @@ use Rattle.nodes.proofs.Counts.{counts, yes-less, not-less, one-more}
 use Rattle.face_rules.proofs.nodes.Using.{blank}
 use Rattle.nodes.proofs.Passing.{passed-on}
 use Rattle.face_rules.proofs.nodes.InPlace.{laidTo, laid, turns-le}
-use Rattle.face_rules.proofs.nodes.Node as T
-use Rattle.face_rules.proofs.nodes.Node.Laws as T′
+use Rattle.face_rules.proofs.Node as T
+use Rattle.face_rules.proofs.Node.Laws as T′
 use Rattle.nodes.proofs.laying.turns as turns
 use Rattle.nodes.proofs.laying.turns.Symbol as turns-def
 use Rattle.nodes.proofs.laying.turns.Symbol.{name as #turns}

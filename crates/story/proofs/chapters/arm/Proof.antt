@@ -6,17 +6,14 @@ use mathlib.Core.List.{[], _∷_, _++_}
 use Rattle.rules.specs.Places.{tick}
 use Rattle.rules.specs.Wheel.{schedule, setEntry}
 use Rattle.story.specs.Held.{held}
-use Rattle.story.specs.Story.{Reached, begun, armed}
-use Rattle.story.proofs.Telling.{on, says}
+use Rattle.story.specs.Story.{Reached, begun}
+use Rattle.story.proofs.Telling.{on, says, watching}
 use borrow.Author.Needs.{needs}
 use Rattle.story.proofs.chapters.arm.Statement.{statement}
 use Rattle.story.proofs.chapters.arm.Tie as tie
 
 reached1 : (c : tie.After-set) → Reached (begun ++ (setEntry 0 (some (2 ^ 30 + 5)) 1 ∷ [])) (held (c .set .result .after))
 reached1 c = on (setEntry 0 (some (2 ^ 30 + 5)) 1) _ _ (c .before .pre) (c .set .ensures)
-
-reached2 : (c : tie.After-schedule) → Reached armed (held (c .schedule .result .after))
-reached2 c = on (schedule 0 1) _ _ (reached1 (c .before .before .before .before)) (c .schedule .ensures)
 
 set-requires : tie.Need-set-requires
 set-requires c κs = search needs
@@ -40,7 +37,7 @@ expect-requires-2 c κs = c .is-handle .ensures .yes (says (schedule 0 1) _ _ (r
     (c .before .schedule .ensures) _ refl)
 
 returns : tie.Need-returns
-returns c = reached2 (c .before .before .before)
+returns c = watching _ _ (reached1 (c .before .before .before .before .before .before .before)) (c .before .before .before .schedule .ensures)
 
 pub arm-spec : {M : Type 1} → statement M
 arm-spec =

@@ -13,7 +13,7 @@ use Rattle.story.proofs.chapters.cancel_another.Statement.{statement}
 use Rattle.story.proofs.chapters.cancel_another.Tie as tie
 
 reached1 : (c : tie.After-set) → Reached (armed ++ (setEntry 1 (some (2 ^ 36)) 3 ∷ [])) (held (c .set .result .after))
-reached1 c = on (setEntry 1 (some (2 ^ 36)) 3) _ _ (c .before .pre) (c .set .ensures)
+reached1 c = on (setEntry 1 (some (2 ^ 36)) 3) _ _ (c .before .pre .reached) (c .set .ensures)
 
 reached2 : (c : tie.After-schedule) → Reached (armed ++ (setEntry 1 (some (2 ^ 36)) 3 ∷ schedule 1 3 ∷ [])) (held (c .schedule .result .after))
 reached2 c = on (schedule 1 3) _ _ (reached1 (c .before .before .before .before)) (c .schedule .ensures)
@@ -36,7 +36,7 @@ is-noted-requires c κs = search needs
 
 expect-requires : tie.Need-expect-requires
 unfolding tick
-expect-requires c κs = c .is-noted .ensures .yes (says (setEntry 1 (some (2 ^ 36)) 3) _ _ (c .before .before .pre) (c .before .set .ensures) _ refl)
+expect-requires c κs = c .is-noted .ensures .yes (says (setEntry 1 (some (2 ^ 36)) 3) _ _ (c .before .before .pre .reached) (c .before .set .ensures) _ refl)
 
 schedule-requires : tie.Need-schedule-requires
 schedule-requires c κs = search needs
