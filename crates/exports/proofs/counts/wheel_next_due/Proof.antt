@@ -16,10 +16,10 @@ use prog.Wp.{Heap, Calls, Loops, WpFn, Tables}
 use ghost.Atoms.{Atoms}
 use contract.Monad.{Fun, fact}
 use contract.Running.{givenOf, tables, tablesOf}
-use types.Kit.{Given, Item, ‵, raw, some, later, _⊛_, ⋆, _$_, _∵_, !, qed, by, move, keep, drop, use1, use2, use3, split, join, pick, fsplit, fjoin}
-use types.Kit.{suffices, frame, await, done}
-use types.Run.{look, init, forget, stop, hop, from, load, addr, and-then, no-more, assigns, land, returns, enter, alloc1, alloc0, params1, pass1, pass0}
-use types.Run.{free1, free0}
+use types.Kit.{Given, Item, ‵, raw, some, later, _⊛_, ⋆, _$_, _∵_, !, qed, by, move, keep, drop, use1, use2, use3, split, join, pick, fsplit, fjoin, suffices}
+use types.Kit.{frame, await, done}
+use types.Run.{look, init, forget, stop, hop, from, load, addr, and-then, no-more, assigns, land, returns, enter, alloc1, alloc0, params1, pass1, pass0, free1}
+use types.Run.{free0}
 use sound.WpLaws.{FmC, fmOf, WpFn-mono}
 use denote.RattleType.{owns}
 use denote.Laws.{Is, shows}
@@ -41,9 +41,9 @@ use denote.Triple.Walked.{says, Stays, walkOf, Walks, ends-at, walked, walk-meet
 use Rattle.face_rules.specs.declared.Node.{Node}
 use Rattle.wheel_rules.specs.declared.calls.Clock.{Clock}
 use Rattle.wheel_rules.specs.declared.calls.Due.{Due}
-use Rattle.face_rules.specs.Face.{Writes, wordsOf, recordsOf as shown}
+use Rattle.face_rules.specs.Face.{Writes, after, before, wordsOf}
 use Rattle.rules.specs.Wheel.{nextDue}
-use Rattle.wheel_rules.specs.Promise.{dueSays, Promised}
+use Rattle.wheel_rules.specs.Promise.{Promised, dueSays}
 use Rattle.nodes.proofs.Passing.{passed-on}
 use Rattle.face_rules.proofs.Node as T
 use Rattle.wheel_rules.proofs.calls.Clock as K
@@ -134,8 +134,8 @@ module _ {M : Type 1} (𝓤 : URA M) (H : Heap 𝓤) (A : Atoms 𝓤) (W : Given
   Last = Lasts calls.ended (κ₀, (κ₁, (κ₂, (κ₃, (κ₄, (κ₅, tt)))))) given
 
   abbrev Does : Last → Due → Type 0
-  Does ws u = Promised nextDue (shown (x₃ .now) (x₄ .now) (x₁ .now) (x₅ .now) (x₆ .now) (x₇ .now) h₂)
-      (shown (x₃ .now) (x₄ .now) (x₁ .now) (x₅ .now) (x₆ .now) (x₇ .now) h₂) (dueSays u)
+  Does ws u = Promised nextDue (before (x₃ .now) (x₄ .now) (x₁ .now) (x₅ .now) (x₆ .now) (x₇ .now) h₂)
+      (after (x₃ .now) (x₄ .now) (x₁ .now) (x₅ .now) (x₆ .now) (x₇ .now) h₂) (dueSays u)
 
   -- and to `tell_due`
   abbrev telling : Due → Due × (RefT (List ℕ) × Unit {0})

@@ -3,7 +3,7 @@
 -- All other parameters are passed on for good to the work, `set_entry_work`, whose promise `.meets` is the contract's.
 use mathlib.Core.Path.{refl}
 use Prim.Native.Nat.{ℕ, _<_, _^_}
-use mathlib.Core.Bool.{Bool, cond}
+use mathlib.Core.Bool.{Bool}
 use mathlib.Core.List.{[], _∷_, List}
 use lib.ListN.{length}
 use lib.Dec.{T as Holds, lit<}
@@ -52,6 +52,7 @@ use Rattle.face_rules.specs.Works.{Loaded}
 use Rattle.face_rules.specs.nodes.Columns.{Columns, Loads, columns}
 use Rattle.rules.specs.Wheel.{setEntry}
 use Rattle.wheel_rules.specs.Promise.{notedSays}
+use mathlib.Core.Bool.{cond}
 use mathlib.Core.Option as Option
 use Rattle.nodes.proofs.Passing.{passed-on}
 use Rattle.face_rules.proofs.Node as T

@@ -23,8 +23,8 @@ use contract.Monad.{Fun, fact}
 use contract.Running.{givenOf, tables, tablesOf}
 use types.Kit.{Given, Item, ‵, raw, some, given, later, _⊛_, mean, ⋆, _$_, _∵_, !, qed, by, move, keep, drop, use1, use2, use3, split, join, pick, learn}
 use types.Kit.{rewrite, fsplit, fsplit3, fjoin, fjoin3, feqI, suffices, frame, await, done}
-use types.Run.{look, look-raw, store-raw, init, forget, stop, hop, fld, from, load, of-opd, lit, addr, and-then, no-more, assigns, land, returns, enter}
-use types.Run.{alloc1, alloc0, params1, pass1, pass0, free1, free0}
+use types.Run.{look, look-raw, store-raw, init, forget, stop, hop, fld, from, load, of-opd, lit, addr, and-then, no-more, assigns, land, returns, enter, alloc1}
+use types.Run.{alloc0, params1, pass1, pass0, free1, free0}
 use types.Part.{whole, sub, look-in, agg, rep}
 use types.Share.{arr-parts}
 use types.SemTy.{Body}
