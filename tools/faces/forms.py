@@ -97,7 +97,7 @@ class Function:
         self.key = '·'.join([crate] + path + [name]).replace('_', '-')
         self.brought = list(brought(self.text))
         for module, abbreviation in list(self.brought):
-            if module.endswith('.Lending'):
+            if module.endswith('.Lending') or abbreviation in ('before', 'after'):
                 self.write_out(module, abbreviation)
 
     def write_out(self, module, name):

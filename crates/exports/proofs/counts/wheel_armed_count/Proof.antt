@@ -41,7 +41,7 @@ use denote.Triple.Walked.{says, Stays, walkOf, Walks, ends-at, walked, walk-meet
 use Rattle.face_rules.specs.declared.Node.{Node}
 use Rattle.wheel_rules.specs.declared.calls.Clock.{Clock}
 use Rattle.wheel_rules.specs.declared.calls.Counted.{Counted}
-use Rattle.face_rules.specs.Face.{Writes, after, before, wordsOf}
+use Rattle.face_rules.specs.Face.{Writes, wordsOf}
 use Rattle.rules.specs.Wheel.{armedCount}
 use Rattle.wheel_rules.specs.Promise.{Promised, countedSays}
 use Rattle.nodes.proofs.Passing.{passed-on}
@@ -134,8 +134,8 @@ module _ {M : Type 1} (𝓤 : URA M) (H : Heap 𝓤) (A : Atoms 𝓤) (W : Given
   Last = Lasts calls.ended (κ₀, (κ₁, (κ₂, (κ₃, (κ₄, (κ₅, tt)))))) given
 
   abbrev Does : Last → Counted → Type 0
-  Does ws u = Promised armedCount (before (x₃ .now) (x₄ .now) (x₁ .now) (x₅ .now) (x₆ .now) (x₇ .now) h₂)
-      (after (x₃ .now) (x₄ .now) (x₁ .now) (x₅ .now) (x₆ .now) (x₇ .now) h₂) (countedSays u)
+  Does ws u = Promised armedCount (recordsOf (x₃ .now) (x₄ .now) (x₁ .now) (x₅ .now) (x₆ .now) (x₇ .now) h₂)
+      (recordsOf (x₃ .now) (x₄ .now) (x₁ .now) (x₅ .now) (x₆ .now) (x₇ .now) h₂) (countedSays u)
 
   -- and to `tell_counted`
   abbrev telling : Counted → Counted × (RefT (List ℕ) × Unit {0})

@@ -41,7 +41,7 @@ use denote.Triple.Walked.{says, Stays, walkOf, Walks, ends-at, walked, walk-meet
 use Rattle.face_rules.specs.declared.Node.{Node}
 use Rattle.wheel_rules.specs.declared.calls.Clock.{Clock}
 use Rattle.wheel_rules.specs.declared.calls.Due.{Due}
-use Rattle.face_rules.specs.Face.{Writes, after, before, wordsOf}
+use Rattle.face_rules.specs.Face.{Writes, wordsOf}
 use Rattle.rules.specs.Wheel.{nextDue}
 use Rattle.wheel_rules.specs.Promise.{Promised, dueSays}
 use Rattle.nodes.proofs.Passing.{passed-on}
@@ -134,8 +134,8 @@ module _ {M : Type 1} (𝓤 : URA M) (H : Heap 𝓤) (A : Atoms 𝓤) (W : Given
   Last = Lasts calls.ended (κ₀, (κ₁, (κ₂, (κ₃, (κ₄, (κ₅, tt)))))) given
 
   abbrev Does : Last → Due → Type 0
-  Does ws u = Promised nextDue (before (x₃ .now) (x₄ .now) (x₁ .now) (x₅ .now) (x₆ .now) (x₇ .now) h₂)
-      (after (x₃ .now) (x₄ .now) (x₁ .now) (x₅ .now) (x₆ .now) (x₇ .now) h₂) (dueSays u)
+  Does ws u = Promised nextDue (recordsOf (x₃ .now) (x₄ .now) (x₁ .now) (x₅ .now) (x₆ .now) (x₇ .now) h₂)
+      (recordsOf (x₃ .now) (x₄ .now) (x₁ .now) (x₅ .now) (x₆ .now) (x₇ .now) h₂) (dueSays u)
 
   -- and to `tell_due`
   abbrev telling : Due → Due × (RefT (List ℕ) × Unit {0})

@@ -42,7 +42,7 @@ use denote.Triple.Walked.{says, Stays, walkOf, Walks, ends-at, walked, walk-meet
 use Rattle.face_rules.specs.declared.Node.{Node}
 use Rattle.wheel_rules.specs.declared.calls.Clock.{Clock}
 use Rattle.wheel_rules.specs.declared.calls.Noted.{Noted}
-use Rattle.face_rules.specs.Face.{Writes, after, before, wordsOf}
+use Rattle.face_rules.specs.Face.{Writes, wordsOf}
 use Rattle.rules.specs.Wheel.{setEntry}
 use Rattle.wheel_rules.specs.Promise.{Promised, notedSays}
 use mathlib.Core.Bool.{cond}
@@ -173,8 +173,8 @@ module _ {M : Type 1} (𝓤 : URA M) (H : Heap 𝓤) (A : Atoms 𝓤) (W : Given
   Last = Lasts calls.ended (κ₀, (κ₁, (κ₂, (κ₃, (κ₄, (κ₅, tt)))))) given
 
   abbrev Does : Last → Noted → Type 0
-  Does ws u = Promised (setEntry m₈ (cond t₉ (Option.some m₁₀) Option.none) m₁₁) (before (x₃ .now) (x₄ .now) (x₁ .now) (x₅ .now) (x₆ .now) (x₇ .now) h₂)
-      (after (x₃ .now) (x₄ .now) (x₁ .now) (x₅ .now) (x₆ .now) (x₇ .now) h₂) (notedSays u)
+  Does ws u = Promised (setEntry m₈ (cond t₉ (Option.some m₁₀) Option.none) m₁₁) (recordsOf (x₃ .now) (x₄ .now) (x₁ .now) (x₅ .now) (x₆ .now) (x₇ .now) h₂)
+      (recordsOf (x₃ .now) (x₄ .now) (x₁ .now) (ws .1 .1 .1 .1 .0) (ws .1 .1 .1 .1 .1 .0) (ws .1 .1 .1 .1 .1 .1 .0) h₂) (notedSays u)
 
   -- and to `tell_noted`
   abbrev telling : Noted → Noted × (RefT (List ℕ) × Unit {0})

@@ -41,7 +41,7 @@ use denote.Triple.Walked.{says, Stays, walkOf, Walks, ends-at, walked, walk-meet
 use Rattle.face_rules.specs.declared.Node.{Node}
 use Rattle.wheel_rules.specs.declared.calls.Clock.{Clock}
 use Rattle.face_rules.specs.declared.Rescheduled.{Rescheduled}
-use Rattle.face_rules.specs.Face.{Writes, after, before, rescheduledSays, wordsOf}
+use Rattle.face_rules.specs.Face.{Writes, rescheduledSays, wordsOf}
 use Rattle.rules.specs.Wheel.{reschedule}
 use Rattle.wheel_rules.specs.Promise.{Promised}
 use Rattle.nodes.proofs.Passing.{passed-on}
@@ -156,8 +156,8 @@ module _ {M : Type 1} (𝓤 : URA M) (H : Heap 𝓤) (A : Atoms 𝓤) (W : Given
   Last = Lasts calls.ended (κ₀, (κ₁, (κ₂, (κ₃, (κ₄, (κ₅, (κ₆, tt))))))) given
 
   abbrev Does : Last → Rescheduled → Type 0
-  Does ws u = Promised (reschedule m₈ m₉ m₁₀) (before (x₃ .now) (x₄ .now) (x₁ .now) (x₅ .now) (x₆ .now) (x₇ .now) (x₂ .now))
-      (after (x₃ .now) (x₄ .now) (x₁ .now) (x₅ .now) (x₆ .now) (x₇ .now) (ws .1 .0)) (rescheduledSays u)
+  Does ws u = Promised (reschedule m₈ m₉ m₁₀) (recordsOf (x₃ .now) (x₄ .now) (x₁ .now) (x₅ .now) (x₆ .now) (x₇ .now) (x₂ .now))
+      (recordsOf (ws .1 .1 .0) (ws .1 .1 .1 .0) (ws .0) (x₅ .now) (x₆ .now) (x₇ .now) (ws .1 .0)) (rescheduledSays u)
 
   -- and to `tell_rescheduled`
   abbrev telling : Rescheduled → Rescheduled × (RefT (List ℕ) × Unit {0})
