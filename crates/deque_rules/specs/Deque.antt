@@ -329,6 +329,8 @@ pub record DequePromised (c : DequeCall) (a : State) (free : ℕ) (b : State) (r
 
 -- ======== lent slices
 
+-- the records that eight lent slices are, before a call and after it: heads, tails, lens, cursors; next, prev, home,
+-- element
 abbrev pub before : Numbers → Numbers → Numbers → Numbers → Numbers → Numbers → Numbers → Numbers → State
 before h t l c n p o e =
     state (now (h .entry)) (now (t .entry)) (now (l .entry)) (now (c .entry)) (now (n .entry)) (now (p .entry)) (now (o .entry)) (now (e .entry))

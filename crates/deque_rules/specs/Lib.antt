@@ -1,6 +1,6 @@
--- Linked deques and the free chain, and, in alone, the deque by itself.
-pub mod Deque
+-- Linked deques and the free chain (Links), and the deque by itself (Deque): what a reader reads. The others are inner.
 pub mod Links
+pub mod Deque
 pub mod Chain
 pub mod Lists
 pub mod Change

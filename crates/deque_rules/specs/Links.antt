@@ -114,7 +114,6 @@ pub record Whole (a : Links) (free : ℕ) : Type 0 where
 unfoldable pub handBack : Links → ℕ → ℕ → Links
 handBack a s free = links (a .heads) (a .tails) (set (a .next) s free) (set (a .prev) s noSlot) (a .home)
 
--- ---- on the records
 -- the slot after p in the deque d is q: the head, where p is none (the list of next has no place for none, so there it
 -- stays)
 abbrev pub endAt : List ℕ → ℕ → ℕ → ℕ → List ℕ

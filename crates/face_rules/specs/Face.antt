@@ -47,7 +47,7 @@ serials = map (λ (v : Node). v .serial)
 abbrev pub recordsOf : List ℕ → List ℕ → List Node → List Bool → List ℕ → List ℕ → Clock → Records
 recordsOf h t ns d l m c = lent h t (nexts ns) (prevs ns) (buckets ns) (entryNumbers ns) (generations ns) (serials ns) d l m c
 
--- a lent slice of nodes
+-- what is lent, before a call and after it: heads, tails; nodes; dated, deadline, stamp; clock
 abbrev pub LentNodes : Type 0
 LentNodes = Both (RefT (List Node)) (RefT (List Node))
 
@@ -99,7 +99,8 @@ pub record Writes (words a′ : List ℕ) (r : ℕ) : Type 0 where
 
 -- ======== C functions
 
--- of the records before and after, of the lent numbers at exit and of the result r
+-- The promise of every C function but create, whose promise is `Begins`: the wheel's promise of some answer, which is
+-- written to the five lent numbers; the refusal's number, or 0, is the result r.
 pub record Told (c : Call) (R R′ : Records) (words : List ℕ) (r : ℕ) : Type 0 where
   pub answer : Answer
   pub promised : Promised c R R′ answer

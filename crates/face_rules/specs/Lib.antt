@@ -1,8 +1,6 @@
--- The face: what lent nodes and the answers of the calls over them are, and what the C functions promise. The calls over
--- lent nodes cite the wheel's promise (wheel_rules, specs/calls/Promise.antt).
+-- Lent nodes as records, and the C functions: Face is what a reader reads; the others are inner.
 pub mod Face
 pub mod nodes
 pub mod Turns
 pub mod Works
 pub mod Crowded
-pub mod exports

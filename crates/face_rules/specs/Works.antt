@@ -1,5 +1,5 @@
 -- inner: what the works promise, by the call. But for that of enable, of the columns that n lent nodes were read into:
--- whatever nodes were read, the call on them is as promised (wheel_rules, specs/calls/Promise.antt), with the nodes that
+-- whatever nodes were read, the call on them is as promised (wheel_rules, specs/Promise.antt), with the nodes that
 -- are stored back from the columns it leaves. Where more nodes are lent than fit, the columns say nothing of them.
 use Prim.Native.Nat.{ℕ}
 use mathlib.Core.Bool.{Bool}

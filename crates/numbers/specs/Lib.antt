@@ -1,5 +1,4 @@
--- What the contracts of `numbers` cite, the form that refusals and answers have, lists of numbers, and the numbers that
--- are no slot.
+-- What several modules say: Shared is what a reader reads; the others are inner.
 pub mod Shared
 pub mod Rows
 pub mod Lists

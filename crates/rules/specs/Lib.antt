@@ -1,11 +1,11 @@
--- The rules of the wheel, as definitions. The order is that of reading: times and places, the state, the calls, runs,
--- demand 3.
+-- The rules of the wheel, as definitions: Places, Wheel and Calls are what a reader reads, in this order. The others are
+-- inner: what the laws, runs and demand 3 on the rules speak of.
 pub mod Places
+pub mod Wheel
+pub mod Calls
 pub mod Geometry
 pub mod Place
 pub mod Lists
-pub mod Wheel
-pub mod Calls
 pub mod Sound
 pub mod Runs
 pub mod Demand3

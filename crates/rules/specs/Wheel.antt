@@ -126,7 +126,7 @@ pub record Entry : Type 0 where
 
 -- "any open advance": closed; or open from the reading p, before its first bucket or within the bucket b, with the
 -- buckets that it has yet to enter.
--- (Level and step of the clock record stand for this list: specs/Visits.antt, `ahead`.)
+-- (Level and step of the clock record stand for this list: specs/Places.antt, `ahead`.)
 pub data Advance : Type 0 where
   closed : Advance
   poised : ℕ → List ℕ → Advance

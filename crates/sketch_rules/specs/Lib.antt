@@ -1,4 +1,4 @@
--- The sketch: a word as sixteen counters, the places of a hash, aging, soundness, the calls, histories.
+-- The sketch: Sketch is what a reader reads; the others are inner.
 pub mod Sketch
 pub mod Counters
 pub mod Index

@@ -46,6 +46,8 @@ records n e c = record { nodes = n; entries = e; clock = c }
 
 -- ======== lent slices
 
+-- the records that lent slices and a clock are, before a call and after it, in the order in which every call takes them:
+-- heads, tails; next, prev, bucket, entry, generation, serial; dated, deadline, stamp (an entry's generation); clock
 abbrev pub nodesBefore : Numbers → Numbers → Numbers → Numbers → Numbers → Numbers → Numbers → Numbers → Nodes
 nodesBefore h t n p b e g s =
     nodes (now (h .entry)) (now (t .entry)) (now (n .entry)) (now (p .entry)) (now (b .entry)) (now (e .entry)) (now (g .entry)) (now (s .entry))
@@ -69,8 +71,8 @@ pub record Decides (P : Type 0) (r : Bool) : Type 0 where
 
 -- ---- slots
 -- The kind of the slot x is read off its number and its bucket field b: below the total it is a sentinel, whose field
--- is its own number; from there on it is
--- armed where the field names a bucket, and free where it is none. Any other field is of no kind.
+-- is its own number; from there on it is armed where the field names a bucket, and free where it is none. Any other
+-- field is of no kind.
 pub record KindAt (total x b : ℕ) : Type 0 where
   pub sentinel : x < total → b ≡ x
   pub other : total ≤ x → (b < total) ⊎ (b ≡ noSlot)
@@ -246,6 +248,7 @@ within-at g c (suc i) = within (c .previous) (bucketAt g (c .previous) (c .level
 abbrev pub advanceOf : Geometry → Clock → Advance
 advanceOf g c = cond (c .open) (within-at g c (c .step)) closed
 
+-- the wheel that sound records show, computed from them
 abbrev pub wheelOf : Geometry → Records → Wheel
 wheelOf g R =
     let v = listed (R .nodes .links) (R .clock .free) in
@@ -260,7 +263,7 @@ wheelOf g R =
       entry = entryAt (R .entries);
     }
 
--- in the order in which every call takes them: heads, tails; next, prev, bucket, entry, generation, serial; dated,
+-- the lent lists as records, in the order in which every call takes them: heads, tails; next, prev, bucket, entry, generation, serial; dated,
 -- deadline, stamp; clock
 abbrev pub lent : List ℕ → List ℕ → List ℕ → List ℕ → List ℕ → List ℕ → List ℕ → List ℕ → List Bool → List ℕ → List ℕ → Clock → Records
 lent h t n p b e g s d l m c = records (nodes h t n p b e g s) (entries d l m) c

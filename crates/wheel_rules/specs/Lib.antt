@@ -1,7 +1,8 @@
--- The wheel on records, from a place to a history of calls.
+-- The wheel on records. Lent, Promise and Demand3 are what a reader reads; the folders are inner: what the code is proved to
+-- write, and what its functions ask of each other.
 pub mod Lent
-pub mod Demand3
 pub mod Promise
+pub mod Demand3
 pub mod place
 pub mod records
 pub mod timers

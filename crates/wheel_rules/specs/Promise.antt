@@ -129,7 +129,6 @@ pub record Blank (D : ℕ) (N : Nodes) : Type 0 where
 
 -- ======== create
 
--- ---- create
 -- "Create(first serial): reading 0, not enabled." No advance, no recorded lengths, no first free slot
 abbrev pub createdClock : ℕ → Clock
 createdClock first = record {

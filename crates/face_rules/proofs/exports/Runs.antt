@@ -1,5 +1,5 @@
 -- What a program over the exported functions sees is a history of the wheel's promise (wheel_rules,
--- specs/history/History.antt), its answers written as numbers: all that is proved of such histories holds of it.
+-- specs/Demand3.antt), its answers written as numbers: all that is proved of such histories holds of it.
 use Prim.Native.Nat.{ℕ}
 use mathlib.Core.Path.{_≡_, refl}
 use mathlib.Core.List.{List, [], _∷_, map}

@@ -1,4 +1,4 @@
--- What each call that is not refused writes of the fields that a wheel does not show (specs/calls/Frame.antt).
+-- What each call that is not refused writes of the fields that a wheel does not show (specs/Promise.antt).
 use Prim.Native.Nat.{ℕ, zero, suc, _-_, _≤_, _<_}
 use native.Mathlib.Omega.{arith}
 use mathlib.Core.Path.{_≡_, refl, sym, _∙_}

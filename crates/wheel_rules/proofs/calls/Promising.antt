@@ -1,4 +1,4 @@
--- The promise of a call (specs/calls/Promise.antt) and the equations on records (specs/calls/Calls.antt) say the same;
+-- The promise of a call (specs/Promise.antt) and the equations on records (specs/calls/Calls.antt) say the same;
 -- and two results that meet the promise coincide.
 use Prim.Native.Nat.{ℕ, zero, suc, _≤_}
 use native.Mathlib.Omega.{arith}

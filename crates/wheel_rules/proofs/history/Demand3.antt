@@ -1,5 +1,5 @@
 -- Demand 3 of what a program sees, proved: from a create on, whatever the records held, after any calls and any answers
--- that the promises allow. The statement is specs/history/Demand3.antt; it rests on the rules' theorem.
+-- that the promises allow. The statement is specs/Demand3.antt; it rests on the rules' theorem.
 use Prim.Native.Nat.{ℕ, _+_, _≤_, _<_}
 use native.Mathlib.Omega.{arith}
 use mathlib.Core.Path.{_≡_, refl, sym, ap, subst, _∙_}

@@ -1,5 +1,5 @@
 -- inner: what each call writes and answers, as equations on the records (specs/calls/Work.antt). The code is proved to
--- meet them; that they and the promise (specs/calls/Promise.antt) say the same is proved in proofs/calls/Promising.antt.
+-- meet them; that they and the promise (specs/Promise.antt) say the same is proved in proofs/calls/Promising.antt.
 use Prim.Native.Nat.{ℕ}
 use mathlib.Core.Bool.{not}
 use mathlib.Core.Path.{_≡_}

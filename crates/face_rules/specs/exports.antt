@@ -1,1 +1,0 @@
--- The calls as C functions: answers in numbers, the promise, and a history.
