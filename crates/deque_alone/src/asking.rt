@@ -6,9 +6,9 @@ use crate::looks::back;
 use crate::looks::front;
 use crate::looks::step;
 use crate::refuse::deque_refusal;
-use deque_rules::alone::Counted;
 use deque_rules::alone::Done;
 use deque_rules::alone::Looked;
+use deque_rules::alone::Measured;
 
 // Looks at the front of the deque d: the node and its element, Nothing where the deque is empty, or refuses (4, 16).
 pub fn look_front(
@@ -114,7 +114,7 @@ pub fn length_of(
     element: &[u64],
     free: usize,
     d: usize,
-) -> Counted
+) -> Measured
     ensures { λ r. ⌜ DequePromised (lengthOf d)
         (before heads tails lens cursors next prev home element) free
         (after heads tails lens cursors next prev home element) r ⌝ }
@@ -132,10 +132,10 @@ pub fn length_of(
         d,
     );
     if no != 0 {
-        return Counted::Refused(no);
+        return Measured::Refused(no);
     }
     let n = lens[d];
-    Counted::Length(n)
+    Measured::Length(n)
 }
 
 // The node at the cursor of the deque d, which starts at the head and moves on; after the last Nothing once. Refuses

@@ -9,8 +9,8 @@ use lib.Dec.{eqb}
 use lib.ListN.{length, getD, replicate, set}
 use denote.Ref.{now}
 use Rattle.deque_rules.specs.Links.{Links, links, listFrom, Chain, slotAfter, homeOf, Path, first, fresh, linkBack, removed, moveBack}
-use Rattle.deque_rules.specs.declared.alone.Counted.{Counted}
-use Rattle.deque_rules.specs.declared.alone.Counted.the-variants.{Length, Refused as CountedRefused}
+use Rattle.deque_rules.specs.declared.alone.Measured.{Measured}
+use Rattle.deque_rules.specs.declared.alone.Measured.the-variants.{Length, Refused as MeasuredRefused}
 use Rattle.deque_rules.specs.declared.alone.Done.{Done}
 use Rattle.deque_rules.specs.declared.alone.Done.the-variants.{Done as Did, Refused as DoneRefused}
 use Rattle.deque_rules.specs.declared.alone.Dropped.{Dropped}
@@ -191,53 +191,53 @@ movedBack a d s = cond (eqb (backOf a d) s) a (shifted a d s)
 
 -- a refusal number of 01, Nothing, or values in the order of 01 (and last, where nodes are taken or freed, the first
 -- free node then)
-pub data Told : Type 0 where
-  refused : ℕ → Told
-  nothing : Told
-  values : List ℕ → Told
+pub data DequeAnswer : Type 0 where
+  refused : ℕ → DequeAnswer
+  nothing : DequeAnswer
+  values : List ℕ → DequeAnswer
 
 -- ---- what each case of the code's answers tells
-abbrev pub madeTold : Made → Told
+abbrev pub madeTold : Made → DequeAnswer
 madeTold (First free) = values (free ∷ [])
 madeTold (MadeRefused k) = refused k
 
-abbrev pub pushedTold : Pushed → Told
+abbrev pub pushedTold : Pushed → DequeAnswer
 pushedTold (At slot free) = values (slot ∷ free ∷ [])
 pushedTold (PushedRefused k) = refused k
 
-abbrev pub poppedTold : Popped → Told
+abbrev pub poppedTold : Popped → DequeAnswer
 poppedTold (PoppedNode slot element free) = values (slot ∷ element ∷ free ∷ [])
 poppedTold PoppedNothing = nothing
 poppedTold (PoppedRefused k) = refused k
 
-abbrev pub lookedTold : Looked → Told
+abbrev pub lookedTold : Looked → DequeAnswer
 lookedTold (LookedNode slot element) = values (slot ∷ element ∷ [])
 lookedTold LookedNothing = nothing
 lookedTold (LookedRefused k) = refused k
 
-abbrev pub droppedTold : Dropped → Told
+abbrev pub droppedTold : Dropped → DequeAnswer
 droppedTold (Element element free) = values (element ∷ free ∷ [])
 droppedTold (DroppedRefused k) = refused k
 
-abbrev pub countedTold : Counted → Told
-countedTold (Length n) = values (n ∷ [])
-countedTold (CountedRefused k) = refused k
+abbrev pub measuredTold : Measured → DequeAnswer
+measuredTold (Length n) = values (n ∷ [])
+measuredTold (MeasuredRefused k) = refused k
 
-abbrev pub doneTold : Done → Told
+abbrev pub doneTold : Done → DequeAnswer
 doneTold Did = values []
 doneTold (DoneRefused k) = refused k
 
 -- ---- what the looks and next by cursor tell where they are not refused
 -- the node x with its element, or Nothing where x is no node
-abbrev pub lookTold : State → ℕ → Told
+abbrev pub lookTold : State → ℕ → DequeAnswer
 lookTold a x = cond (eqb x noSlot) nothing (values (x ∷ elementOf a x ∷ []))
 
 -- past the end the answer is Nothing too
-abbrev pub nextTold : State → ℕ → Told
+abbrev pub nextTold : State → ℕ → DequeAnswer
 nextTold a d = let x = cursorNode a d in cond (eqb x pastEnd) nothing (lookTold a x)
 
 -- the front with its element, which is the first free node then; or Nothing
-abbrev pub popTold : State → ℕ → Told
+abbrev pub popTold : State → ℕ → DequeAnswer
 popTold a d = let x = frontOf a d in cond (eqb x noSlot) nothing (values (x ∷ elementOf a x ∷ x ∷ []))
 
 -- ======== refusals
@@ -263,7 +263,7 @@ nodeRows a free d s = unless (Sound a free) 4 (unless (d < dequeCount a) 16 (unl
 
 -- The rows give a number. Where it is not 0 the answer is that refusal and every record is as before; where it is 0 the
 -- answer is `then` and the records are `after`.
-pub record Meets (rows : ℕ → Type 0) (a b : State) (answer : Told) (after : State) (then : Told) : Type 0 where
+pub record Meets (rows : ℕ → Type 0) (a b : State) (answer : DequeAnswer) (after : State) (then : DequeAnswer) : Type 0 where
   pub number : ℕ
   pub by : rows number
   pub refusal : (number ≡ 0 → ⊥) → (answer ≡ refused number) × (b ≡ a)
@@ -294,11 +294,11 @@ AnswerOf (lookFront d) = Looked
 AnswerOf (lookBack d) = Looked
 AnswerOf (moveToBack d s) = Done
 AnswerOf (unlinkAndDrop d s) = Dropped
-AnswerOf (lengthOf d) = Counted
+AnswerOf (lengthOf d) = Measured
 AnswerOf (nextByCursor d) = Looked
 AnswerOf (resetCursor d) = Done
 
-abbrev pub told : (c : DequeCall) → AnswerOf c → Told
+abbrev pub told : (c : DequeCall) → AnswerOf c → DequeAnswer
 told make r = madeTold r
 told (pushBack d e) r = pushedTold r
 told (popFront d) r = poppedTold r
@@ -306,12 +306,12 @@ told (lookFront d) r = lookedTold r
 told (lookBack d) r = lookedTold r
 told (moveToBack d s) r = doneTold r
 told (unlinkAndDrop d s) r = droppedTold r
-told (lengthOf d) r = countedTold r
+told (lengthOf d) r = measuredTold r
 told (nextByCursor d) r = lookedTold r
 told (resetCursor d) r = doneTold r
 
 -- a call on the records a with the first free node free leaves the records b and tells t
-abbrev pub Promise : DequeCall → State → ℕ → State → Told → Type 0
+abbrev pub Promise : DequeCall → State → ℕ → State → DequeAnswer → Type 0
 Promise make a free b t = Meets (makeRows a) a b t (made a) (values (first (upFrom (nodeCount a) 0) ∷ []))
 Promise (pushBack d e) a free b t = Meets (pushRows a free d) a b t (pushed a free d e) (values (free ∷ nextOf a free ∷ []))
 Promise (popFront d) a free b t = Meets (dequeRows a free d) a b t (popped a free d) (popTold a d)

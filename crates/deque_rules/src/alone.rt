@@ -37,7 +37,7 @@ pub enum Dropped {
 }
 
 // Length.
-pub enum Counted {
+pub enum Measured {
     Length(usize),
     Refused(u32),
 }

@@ -1,10 +1,10 @@
 // What a call answers. An answer is told as six numbers: its word's place in the table, how many numbers follow, three
 // numbers, and the first free node after the call.
-use deque_rules::alone::Counted;
 use deque_rules::alone::Done;
 use deque_rules::alone::Dropped;
 use deque_rules::alone::Looked;
 use deque_rules::alone::Made;
+use deque_rules::alone::Measured;
 use deque_rules::alone::Popped;
 use deque_rules::alone::Pushed;
 use lines::Source;
@@ -94,10 +94,10 @@ pub fn looked(told: &mut [u64; 6], free: usize, r: Looked) -> &mut [u64; 6] {
     }
 }
 
-pub fn counted(told: &mut [u64; 6], free: usize, r: Counted) -> &mut [u64; 6] {
+pub fn counted(told: &mut [u64; 6], free: usize, r: Measured) -> &mut [u64; 6] {
     match r {
-        Counted::Length(n) => answer(told, free, LENGTH, 1, n as u64, 0),
-        Counted::Refused(k) => refused(told, free, k),
+        Measured::Length(n) => answer(told, free, LENGTH, 1, n as u64, 0),
+        Measured::Refused(k) => refused(told, free, k),
     }
 }
 

@@ -13,7 +13,7 @@ use Rattle.wheel_rules.specs.Lent.{Records}
 use Rattle.wheel_rules.specs.Promise.{Promised}
 use Rattle.wheel_rules.proofs.calls.Promising.{coincide}
 use Rattle.face_rules.specs.declared.Node.{Node}
-use Rattle.face_rules.specs.Face.{nexts, prevs, buckets, entryNumbers, generations, serials, recordsOf as shown}
+use Rattle.face_rules.specs.Face.{nextSlots as nexts, prevSlots as prevs, bucketNumbers as buckets, entryNumbers, generations, serials, recordsOf as shown}
 
 -- ---- equal fields, equal nodes
 nodes-one : (ns ms : List Node) → nexts ns ≡ nexts ms → prevs ns ≡ prevs ms → buckets ns ≡ buckets ms → entryNumbers ns ≡ entryNumbers ms

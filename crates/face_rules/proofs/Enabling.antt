@@ -20,7 +20,7 @@ use Rattle.wheel_rules.proofs.calls.Calling as calling
 use Rattle.wheel_rules.specs.calls.Work.{laidOut}
 use Rattle.wheel_rules.specs.Promise.{enabling, Promised}
 use Rattle.face_rules.specs.declared.Node.{Node}
-use Rattle.face_rules.specs.Face.{nexts, prevs, entryNumbers, generations, serials, recordsOf as shown, buckets as homes}
+use Rattle.face_rules.specs.Face.{nextSlots as nexts, prevSlots as prevs, entryNumbers, generations, serials, recordsOf as shown, bucketNumbers as homes}
 use Rattle.face_rules.specs.nodes.Columns.{columnsOf}
 use Rattle.face_rules.specs.nodes.Laid.{Laid}
 use Rattle.face_rules.proofs.nodes.InPlace.{columnsIn, laid-bare}

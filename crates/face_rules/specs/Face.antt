@@ -24,14 +24,14 @@ use Rattle.wheel_rules.specs.declared.calls.Clock.{Clock}
 -- ======== lent nodes
 
 -- ---- one field of every node, in order
-abbrev pub nexts : List Node → List ℕ
-nexts = map (λ (v : Node). v .next)
+abbrev pub nextSlots : List Node → List ℕ
+nextSlots = map (λ (v : Node). v .next)
 
-abbrev pub prevs : List Node → List ℕ
-prevs = map (λ (v : Node). v .prev)
+abbrev pub prevSlots : List Node → List ℕ
+prevSlots = map (λ (v : Node). v .prev)
 
-abbrev pub buckets : List Node → List ℕ
-buckets = map (λ (v : Node). v .bucket)
+abbrev pub bucketNumbers : List Node → List ℕ
+bucketNumbers = map (λ (v : Node). v .bucket)
 
 abbrev pub entryNumbers : List Node → List ℕ
 entryNumbers = map (λ (v : Node). v .entry)
@@ -45,16 +45,16 @@ serials = map (λ (v : Node). v .serial)
 -- "The node records are lent as one array", with heads and tails, the entries and the clock beside it: heads, tails;
 -- nodes; dated, deadline, stamp; clock
 abbrev pub recordsOf : List ℕ → List ℕ → List Node → List Bool → List ℕ → List ℕ → Clock → Records
-recordsOf h t ns d l m c = lent h t (nexts ns) (prevs ns) (buckets ns) (entryNumbers ns) (generations ns) (serials ns) d l m c
+recordsOf h t ns d l m c = lent h t (nextSlots ns) (prevSlots ns) (bucketNumbers ns) (entryNumbers ns) (generations ns) (serials ns) d l m c
 
 -- what is lent, before a call and after it: heads, tails; nodes; dated, deadline, stamp; clock
-abbrev pub LentNodes : Type 0
-LentNodes = Both (RefT (List Node)) (RefT (List Node))
+abbrev pub NodeSlice : Type 0
+NodeSlice = Both (RefT (List Node)) (RefT (List Node))
 
-abbrev pub before : Numbers → Numbers → LentNodes → Flags → Numbers → Numbers → Clock → Records
+abbrev pub before : Numbers → Numbers → NodeSlice → Flags → Numbers → Numbers → Clock → Records
 before h t ns d l m c = recordsOf (now (h .entry)) (now (t .entry)) (now (ns .entry)) (now (d .entry)) (now (l .entry)) (now (m .entry)) c
 
-abbrev pub after : Numbers → Numbers → LentNodes → Flags → Numbers → Numbers → Clock → Records
+abbrev pub after : Numbers → Numbers → NodeSlice → Flags → Numbers → Numbers → Clock → Records
 after h t ns d l m c = recordsOf (now (h .exit)) (now (t .exit)) (now (ns .exit)) (now (d .exit)) (now (l .exit)) (now (m .exit)) c
 
 -- ======== answers

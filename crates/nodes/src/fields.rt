@@ -2,13 +2,13 @@
 // stream. For load alone, unchecked.
 // Nothing is assumed of what the nodes hold.
 ghost use mathlib.Core.Path.{_≡_};
-ghost use Rattle.face_rules.specs.Face.{nexts, prevs, buckets, entryNumbers, generations, serials};
+ghost use Rattle.face_rules.specs.Face.{nextSlots, prevSlots, bucketNumbers, entryNumbers, generations, serials};
 ghost use Rattle.face_rules.specs.nodes.Blocks.{Reaches, written};
 use face_rules::Node;
 
 pub fn read_next(nodes: &[Node], next: &mut [usize], from: usize, to: usize)
     requires { ⌜ Reaches (now nodes) (now next) from to ⌝ }
-    ensures { λ _. ⌜ now (next .exit) ≡ written (nexts (now (nodes .entry))) from to (now (next .entry)) ⌝ }
+    ensures { λ _. ⌜ now (next .exit) ≡ written (nextSlots (now (nodes .entry))) from to (now (next .entry)) ⌝ }
 {
     let mut i = from;
     while i < to {
@@ -19,7 +19,7 @@ pub fn read_next(nodes: &[Node], next: &mut [usize], from: usize, to: usize)
 
 pub fn read_prev(nodes: &[Node], prev: &mut [usize], from: usize, to: usize)
     requires { ⌜ Reaches (now nodes) (now prev) from to ⌝ }
-    ensures { λ _. ⌜ now (prev .exit) ≡ written (prevs (now (nodes .entry))) from to (now (prev .entry)) ⌝ }
+    ensures { λ _. ⌜ now (prev .exit) ≡ written (prevSlots (now (nodes .entry))) from to (now (prev .entry)) ⌝ }
 {
     let mut i = from;
     while i < to {
@@ -30,7 +30,7 @@ pub fn read_prev(nodes: &[Node], prev: &mut [usize], from: usize, to: usize)
 
 pub fn read_bucket(nodes: &[Node], bucket: &mut [usize], from: usize, to: usize)
     requires { ⌜ Reaches (now nodes) (now bucket) from to ⌝ }
-    ensures { λ _. ⌜ now (bucket .exit) ≡ written (buckets (now (nodes .entry))) from to (now (bucket .entry)) ⌝ }
+    ensures { λ _. ⌜ now (bucket .exit) ≡ written (bucketNumbers (now (nodes .entry))) from to (now (bucket .entry)) ⌝ }
 {
     let mut i = from;
     while i < to {

@@ -7,7 +7,7 @@ use mathlib.Core.Option.{Option, none, some}
 use mathlib.Core.List.{List, [], _∷_}
 use Rattle.rules.specs.Places.{Geometry, buckets, bucketOf}
 use Rattle.rules.specs.Place.{effective}
-use Rattle.rules.specs.Wheel.{Node, Lists, newNode, placedIn, update, link, unlink, claim, Advance, closed, poised, within, Wheel, Call, create}
+use Rattle.rules.specs.Wheel.{Slot as Node, Lists, newNode, placedIn, update, link, unlink, claim, Advance, closed, poised, within, Wheel, Call, create}
 use Rattle.rules.specs.Wheel.{enable, setEntry, schedule, reschedule, deschedule, start, pull, abandon, armedCount, nextDue, handle, ok, Timely}
 use Rattle.rules.specs.Calls.{isOpen, rows, testsOf, armed, rearmed, act, judged}
 use Rattle.rules.specs.Runs.{refusal, step, Run, next}

@@ -7,7 +7,7 @@ use mathlib.Core.Bool.{true, false}
 use mathlib.Core.List.{List, [], _∷_, _++_, append-assoc}
 use Rattle.rules.specs.Places.{Geometry}
 use Rattle.rules.specs.Place.{effective}
-use Rattle.rules.specs.Wheel.{Node, Advance, closed, poised, within, Wheel, Call, create, start, pull, ok, end, expired, Timely, Changes, handsOut}
+use Rattle.rules.specs.Wheel.{Slot as Node, Advance, closed, poised, within, Wheel, Call, create, start, pull, ok, end, expired, Timely, Changes, handsOut}
 use Rattle.rules.specs.Wheel.{handed, Later}
 use Rattle.rules.specs.Calls.{isOpen, origin}
 use Rattle.rules.specs.Runs.{refusal, step, Run, answer, next, answers, after}

@@ -7,7 +7,7 @@ use mathlib.Core.Option.{Option, none, some}
 use mathlib.Core.List.{List, [], _∷_}
 use borrow.Author.Tests.{le-leb, lt-leb}
 use Rattle.rules.specs.Places.{Geometry, bucketOf}
-use Rattle.rules.specs.Wheel.{Node, Lists, placedIn, count, link, release, enter, pop, Entry, Advance, closed, poised, within, Answer, handsOut}
+use Rattle.rules.specs.Wheel.{Slot as Node, Lists, placedIn, count, link, release, enter, pop, Entry, Advance, closed, poised, within, Answer, handsOut}
 use Rattle.rules.specs.Calls.{Found, dealt, emptied, AfterPull as Pulled, stopped, swept, pulled}
 use Rattle.numbers.proofs.Cases.{below?}
 use Rattle.rules.proofs.Counting.{hit-is, hit-not}

@@ -10,7 +10,7 @@ use lib.ListN.{length, length-append}
 use borrow.Author.Tests.{eq-eqb, ne-eqb}
 use Rattle.rules.specs.Places.{Geometry, bucketOf}
 use Rattle.rules.specs.Lists.{times}
-use Rattle.rules.specs.Wheel.{Bucket, Node, Lists, whole, newNode, placedIn, count, atBack as pushed, link, unlink, claim, turned, Wheel, schedule}
+use Rattle.rules.specs.Wheel.{Bucket, Slot as Node, Lists, whole, newNode, placedIn, count, atBack as pushed, link, unlink, claim, turned, Wheel, schedule}
 use Rattle.rules.specs.Wheel.{reschedule, handle, ok}
 use Rattle.rules.specs.Runs.{refusal, step}
 use Rattle.rules.specs.Calls.{armed, rearmed, act, judged}

@@ -6,7 +6,7 @@ use mathlib.Core.Bool.{true}
 use mathlib.Core.Option.{Option, none, some}
 use mathlib.Core.List.{List, [], _∷_}
 use Rattle.rules.specs.Places.{Geometry, bucketOf}
-use Rattle.rules.specs.Wheel.{Node, Lists, newNode, placedIn, link, unlink, release, claim, Wheel, Call, create, enable, setEntry, schedule}
+use Rattle.rules.specs.Wheel.{Slot as Node, Lists, newNode, placedIn, link, unlink, release, claim, Wheel, Call, create, enable, setEntry, schedule}
 use Rattle.rules.specs.Wheel.{reschedule, deschedule, start, pull, abandon, armedCount, nextDue, Answer, Changes, handsOut}
 use Rattle.rules.specs.Calls.{rows, testsOf, armed, rearmed, act, judged}
 use Rattle.rules.specs.Runs.{refusal, step, Run, next}

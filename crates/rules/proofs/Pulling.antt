@@ -9,7 +9,7 @@ use borrow.Author.Tests.{eq-eqb, le-leb, lt-leb}
 use Rattle.rules.specs.Places.{Geometry, bucketOf}
 use Rattle.rules.specs.Place.{effective}
 use Rattle.rules.specs.Lists.{times}
-use Rattle.rules.specs.Wheel.{Node, Lists, newNode, placedIn, hit, count, link, release, enter, pop, Entry, Advance, poised, within, pull, Answer}
+use Rattle.rules.specs.Wheel.{Slot as Node, Lists, newNode, placedIn, hit, count, link, release, enter, pop, Entry, Advance, poised, within, pull, Answer}
 use Rattle.rules.specs.Wheel.{expired, Later, handsOut}
 use Rattle.rules.specs.Calls.{Found, dealt, emptied, AfterPull as Pulled, stopped, swept, pulled}
 use Rattle.rules.specs.Runs.{placing, noted}

@@ -8,7 +8,7 @@ use mathlib.Core.List.{List, _∷_}
 use lib.Dec.{ltb}
 use borrow.Author.Tests.{eq-eqb, lt-ltb, le-ltb}
 use Rattle.rules.specs.Lists.{times}
-use Rattle.rules.specs.Wheel.{Node, Lists, hit, count, link, release, claim, enter, upwards, bare}
+use Rattle.rules.specs.Wheel.{Slot as Node, Lists, hit, count, link, release, claim, enter, upwards, bare}
 use Rattle.rules.specs.Sound.{spare, SoundLists}
 use Rattle.numbers.proofs.Cases.{below?, same?, not-both}
 use Rattle.rules.proofs.Counting.{hit-is, count-upwards, count-upwards-below, count-upwards-above}

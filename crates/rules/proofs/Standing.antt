@@ -9,7 +9,7 @@ use mathlib.Core.Bool.{true, false}
 use mathlib.Core.List.{List, [], _∷_}
 use borrow.Author.Tests.{eq-eqb, ne-eqb}
 use Rattle.rules.specs.Lists.{times}
-use Rattle.rules.specs.Wheel.{Bucket, Node, Lists, freed, update, hit, count, atBack as pushed, link, taken, unlink, release, claim, turned, enter}
+use Rattle.rules.specs.Wheel.{Bucket, Slot as Node, Lists, freed, update, hit, count, atBack as pushed, link, taken, unlink, release, claim, turned, enter}
 use Rattle.rules.specs.Wheel.{shortened, pop}
 use Rattle.numbers.proofs.Cases.{same?, not-both}
 use Rattle.rules.proofs.Counting.{hit-is, hit-not, hit-most, hit-same, count-app, count-without, count-without-own, update-is, update-not}

@@ -9,7 +9,7 @@ use mathlib.Core.List.{List, [], _∷_}
 use borrow.Author.Tests.{eq-eqb, ne-eqb}
 use Rattle.rules.specs.Places.{Geometry, tick, bucketOf, visits}
 use Rattle.rules.specs.Place.{effective}
-use Rattle.rules.specs.Wheel.{Node, Lists, newNode, placedIn, update, count, link, unlink, release, claim, Advance, closed, poised, within, Wheel}
+use Rattle.rules.specs.Wheel.{Slot as Node, Lists, newNode, placedIn, update, count, link, unlink, release, claim, Advance, closed, poised, within, Wheel}
 use Rattle.rules.specs.Wheel.{Call, create, enable, setEntry, schedule, reschedule, deschedule, start, pull, abandon, armedCount, nextDue, Answer}
 use Rattle.rules.specs.Wheel.{expired, Changes, Later, handsOut}
 use Rattle.rules.specs.Calls.{isOpen, isStale, rows, testsOf, AfterPull as Pulled, pulled, withLists, withNext, armed, rearmed, origin, act, judged}

@@ -6,7 +6,7 @@ use mathlib.Core.Option.{Option, none, some}
 use lib.Dec.{eqb, leb, ltb}
 use Rattle.rules.specs.Places.{Geometry, buckets, bucketOf, placeOf, visits}
 use Rattle.rules.specs.Wheel.{Call, create, enable, setEntry, schedule, reschedule, deschedule, start, pull, abandon, armedCount, nextDue, Advance}
-use Rattle.rules.specs.Wheel.{closed, poised, within, Wheel, Lists, Answer, Node, placedIn, link, release, expired, rescheduled, pop, Entry, enter}
+use Rattle.rules.specs.Wheel.{closed, poised, within, Wheel, Lists, Answer, Slot, placedIn, link, release, expired, rescheduled, pop, Entry, enter}
 use Rattle.rules.specs.Wheel.{end, refused, update, newNode, claim, handle, unlink, ok, removed, upwards, bare, number, due}
 
 -- ======== refusals
@@ -129,7 +129,7 @@ Found = Option Answer × Lists
 abbrev pub dealt : Geometry → ℕ → ℕ → Option ℕ → Lists → Found → Found
 dealt g q x none L r = r
 dealt g q x (some d) L r =
-    let v : Node = L .node x in
+    let v : Slot = L .node x in
     let b : ℕ = bucketOf g q d in
     cond (leb d q)
     (some (expired (v .entry) (v .serial) d), release x L)
@@ -212,7 +212,7 @@ origin (within p b bs) r = p
 
 -- ---- the two counts
 -- how many of the slots below k are armed
-abbrev pub armedBelow : (ℕ → Node) → ℕ → ℕ
+abbrev pub armedBelow : (ℕ → Slot) → ℕ → ℕ
 armedBelow f zero = 0
 armedBelow f (suc k) = cond (f k .armed) 1 0 + armedBelow f k
 

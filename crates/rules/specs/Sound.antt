@@ -7,11 +7,11 @@ use mathlib.Core.Path.{_≡_}
 use lib.Dec.{ltb}
 use Rattle.rules.specs.Lists.{times}
 use Rattle.rules.specs.Places.{Geometry, buckets, visits, visitedAt, bucketAt, ahead}
-use Rattle.rules.specs.Wheel.{Node, Lists, hit, count, Advance, closed, poised, within, Wheel}
+use Rattle.rules.specs.Wheel.{Slot, Lists, hit, count, Advance, closed, poised, within, Wheel}
 
 -- how often the free chain has to hold the slot y: once where it is free. A slot below D is a sentinel, one from
 -- `nodes` on is absent, any other is armed or free.
-abbrev pub spare : ℕ → ℕ → (ℕ → Node) → ℕ → ℕ
+abbrev pub spare : ℕ → ℕ → (ℕ → Slot) → ℕ → ℕ
 spare D nodes f y = cond (ltb y D) 0 (cond (ltb y nodes) (cond (f y .armed) 0 1) 0)
 
 -- The lists of a wheel with D buckets, and so many node records and entries, whose next serial is `next`.

@@ -20,7 +20,7 @@ abbrev pub whole : ℕ → Bucket → List ℕ
 whole z B = B .early ++ (z ∷ B .late)
 
 -- What the record of a slot after the sentinels says. The four numbers mean something only while it is armed.
-pub record Node : Type 0 where
+pub record Slot : Type 0 where
   pub armed : Bool
   pub bucket : ℕ
   pub entry : ℕ
@@ -31,18 +31,18 @@ pub record Lists : Type 0 where
   pub bucket : ℕ → Bucket
   -- the free chain; "the free slot taken is the last one freed": the first of the list
   pub free : List ℕ
-  pub node : ℕ → Node
+  pub node : ℕ → Slot
 
 -- a node newly armed in the bucket b, for the entry e, with the generation h at arming and the serial n
-abbrev pub newNode : ℕ → ℕ → ℕ → ℕ → Node
+abbrev pub newNode : ℕ → ℕ → ℕ → ℕ → Slot
 newNode b e h n = record { armed = true; bucket = b; entry = e; generation = h; serial = n }
 
 -- the same node in the bucket b: "serial and stored generation stay"
-abbrev pub placedIn : ℕ → Node → Node
+abbrev pub placedIn : ℕ → Slot → Slot
 placedIn b v = record { armed = true; bucket = b; entry = v .entry; generation = v .generation; serial = v .serial }
 
 -- the node no longer armed; its other fields mean nothing any more
-abbrev pub freed : Node → Node
+abbrev pub freed : Slot → Slot
 freed v = record { armed = false; bucket = v .bucket; entry = v .entry; generation = v .generation; serial = v .serial }
 
 -- f with v at i
@@ -70,7 +70,7 @@ abbrev pub atBack : ℕ → Bucket → Bucket
 atBack x B = record { early = B .early; late = B .late ++ (x ∷ []) }
 
 -- the slot x goes to the back of the bucket b, and its record says v
-abbrev pub link : ℕ → ℕ → Node → Lists → Lists
+abbrev pub link : ℕ → ℕ → Slot → Lists → Lists
 link b x v L = record { bucket = update (L .bucket) b (atBack x (L .bucket b)); free = L .free; node = update (L .node) x v }
 
 -- "unlinks": the slot x leaves the bucket that its record names

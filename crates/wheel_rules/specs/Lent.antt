@@ -11,7 +11,7 @@ use denote.Ref.{now}
 use Rattle.deque_rules.specs.Links.{Links, links, Whole, homeOf, first, Deques, deq, Rep, listed}
 use Rattle.numbers.specs.Shared.{Numbers, Flags, noSlot, beforeIn, afterIn}
 use Rattle.rules.specs.Places.{Geometry, SoundPosition, buckets, visits, visitedAt, bucketAt, ahead}
-use Rattle.rules.specs.Wheel.{Node, Entry, Advance, closed, poised, within, whole, Wheel, Bucket}
+use Rattle.rules.specs.Wheel.{Slot, Entry, Advance, closed, poised, within, whole, Wheel, Bucket}
 use Rattle.wheel_rules.specs.declared.calls.Clock.{Clock}
 
 -- ======== the records
@@ -173,7 +173,7 @@ SoundRecords g R = SoundWith g (buckets g) R
 -- ======== the wheel that records show
 
 -- what the record of a slot after the sentinels says: it is armed where its bucket is one of the D buckets
-abbrev pub nodeAt : ℕ → Nodes → ℕ → Node
+abbrev pub nodeAt : ℕ → Nodes → ℕ → Slot
 nodeAt D N x = record {
   armed = ltb (homeOf (N .links) x) D;
   bucket = homeOf (N .links) x;
@@ -234,10 +234,10 @@ abbrev pub parted : Deques → ℕ → Bucket
 parted v b = record { early = beforeIn b (deq v b); late = afterIn b (deq v b) }
 
 -- what the record of a slot says; of a sentinel, or of a slot that is absent, nothing
-abbrev pub unarmed : Node
+abbrev pub unarmed : Slot
 unarmed = record { armed = false; bucket = 0; entry = 0; generation = 0; serial = 0 }
 
-abbrev pub nodeOf : ℕ → ℕ → Nodes → ℕ → Node
+abbrev pub nodeOf : ℕ → ℕ → Nodes → ℕ → Slot
 nodeOf total nodes N x = cond (ltb x total) unarmed (cond (ltb x nodes) (nodeAt total N x) unarmed)
 
 -- the position of an advance, as the buckets that it has yet to enter

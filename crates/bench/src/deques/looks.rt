@@ -4,8 +4,8 @@ ghost use Rattle.bench.specs.Ready.{Ready};
 ghost use Rattle.deque_rules.specs.Deque.{state, after};
 use crate::deques::records::laid;
 use deque_alone::unchecked;
-use deque_rules::alone::Counted;
 use deque_rules::alone::Looked;
+use deque_rules::alone::Measured;
 
 // The steps of the cursor, or else the checked lengths: the sum of what they gave.
 pub fn run_looks(n: usize, calls: u64, x: u64, steps: bool) -> u64
@@ -163,7 +163,7 @@ fn length(
         free,
         0,
     ) {
-        Counted::Length(n) => n as u64,
-        Counted::Refused(_) => 0,
+        Measured::Length(n) => n as u64,
+        Measured::Refused(_) => 0,
     }
 }

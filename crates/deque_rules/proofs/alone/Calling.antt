@@ -19,7 +19,7 @@ use Rattle.deque_rules.proofs.alone.Meeting.{no, yes-by}
 use Rattle.deque_rules.specs.alone.Refuse.{RefusesDeque, RefusesPush, RefusesNode}
 use Rattle.deque_rules.specs.declared.alone.Looked.{Looked}
 use Rattle.deque_rules.specs.declared.alone.Looked.the-variants.{Refused as LookedRefused}
-use Rattle.deque_rules.specs.declared.alone.Counted.the-variants.{Length, Refused as CountedRefused}
+use Rattle.deque_rules.specs.declared.alone.Measured.the-variants.{Length, Refused as MeasuredRefused}
 use Rattle.deque_rules.specs.declared.alone.Done.the-variants.{Done as Did, Refused as DoneRefused}
 use Rattle.deque_rules.specs.declared.alone.Pushed.the-variants.{At, Refused as PushedRefused}
 use Rattle.deque_rules.specs.declared.alone.Popped.{Popped}
@@ -78,7 +78,7 @@ module _ (a : State) (free d k : ℕ) (f : RefusesDeque a free d k) where
   pub back-yes : (r : Looked) → k ≡ 0 → LooksBack a d r → Promised (lookBack d) a free a r
   back-yes r z p = record { meets = yes-by _ a a _ _ _ k (f .by) z (p .told) refl }
 
-  pub length-no : (k ≡ 0 → ⊥) → Promised (lengthOf d) a free a (CountedRefused k)
+  pub length-no : (k ≡ 0 → ⊥) → Promised (lengthOf d) a free a (MeasuredRefused k)
   length-no n = record { meets = no _ a _ _ k (f .by) n }
 
   pub length-yes : k ≡ 0 → Promised (lengthOf d) a free a (Length (getD (a .lens) d 0))

@@ -5,7 +5,7 @@ use mathlib.Core.Path.{_≡_, refl, sym, ap, _∙_}
 use mathlib.Core.Logic.{⊎-elim}
 use Rattle.numbers.proofs.Cases.{same?}
 use Rattle.numbers.proofs.Rows.{Single, none-left, row}
-use Rattle.deque_rules.specs.Deque.{State, Told, refused, madeTold, pushedTold, poppedTold, lookedTold, droppedTold, countedTold, doneTold, makeRows}
+use Rattle.deque_rules.specs.Deque.{State, DequeAnswer as Told, refused, madeTold, pushedTold, poppedTold, lookedTold, droppedTold, measuredTold, doneTold, makeRows}
 use Rattle.deque_rules.specs.Deque.{dequeRows, pushRows, nodeRows, Meets, DequeCall as Call, make, pushBack, popFront, lookFront, lookBack}
 use Rattle.deque_rules.specs.Deque.{moveToBack, unlinkAndDrop, lengthOf, nextByCursor, resetCursor, AnswerOf, told, Promise}
 use Rattle.deque_rules.specs.Deque.{DequePromised as Promised}
@@ -20,8 +20,8 @@ use Rattle.deque_rules.specs.declared.alone.Looked.{Looked}
 use Rattle.deque_rules.specs.declared.alone.Looked.the-variants.{Node as LookedNode, Nothing as LookedNothing, Refused as LookedRefused}
 use Rattle.deque_rules.specs.declared.alone.Dropped.{Dropped}
 use Rattle.deque_rules.specs.declared.alone.Dropped.the-variants.{Element, Refused as DroppedRefused}
-use Rattle.deque_rules.specs.declared.alone.Counted.{Counted}
-use Rattle.deque_rules.specs.declared.alone.Counted.the-variants.{Length, Refused as CountedRefused}
+use Rattle.deque_rules.specs.declared.alone.Measured.{Measured}
+use Rattle.deque_rules.specs.declared.alone.Measured.the-variants.{Length, Refused as MeasuredRefused}
 use Rattle.deque_rules.specs.declared.alone.Done.{Done}
 use Rattle.deque_rules.specs.declared.alone.Done.the-variants.{Done as Did, Refused as DoneRefused}
 
@@ -94,11 +94,11 @@ dropped-told (Element x y) (DroppedRefused u) e = let z : _≡_ {A = ℕ} 0 1 = 
 dropped-told (DroppedRefused x) (Element u w) e = let z : _≡_ {A = ℕ} 0 1 = cc in absurd (omega arith)
 dropped-told (DroppedRefused x) (DroppedRefused y) e = cc
 
-counted-told : (r s : Counted) → countedTold r ≡ countedTold s → r ≡ s
+counted-told : (r s : Measured) → measuredTold r ≡ measuredTold s → r ≡ s
 counted-told (Length x) (Length y) e = cc
-counted-told (Length x) (CountedRefused y) e = let z : _≡_ {A = ℕ} 0 1 = cc in absurd (omega arith)
-counted-told (CountedRefused x) (Length y) e = let z : _≡_ {A = ℕ} 0 1 = cc in absurd (omega arith)
-counted-told (CountedRefused x) (CountedRefused y) e = cc
+counted-told (Length x) (MeasuredRefused y) e = let z : _≡_ {A = ℕ} 0 1 = cc in absurd (omega arith)
+counted-told (MeasuredRefused x) (Length y) e = let z : _≡_ {A = ℕ} 0 1 = cc in absurd (omega arith)
+counted-told (MeasuredRefused x) (MeasuredRefused y) e = cc
 
 done-told : (r s : Done) → doneTold r ≡ doneTold s → r ≡ s
 done-told Did Did e = refl

@@ -13,14 +13,14 @@ use Rattle.deque_rules.specs.Chain.{last}
 use Rattle.deque_rules.specs.Links.{first, Deques as Lists, deq}
 use Rattle.numbers.specs.Shared.{noSlot as none, In, pastEnd}
 use Rattle.deque_rules.proofs.Laws.{head-is, tail-is, next-is}
-use Rattle.deque_rules.specs.Deque.{State, backOf, elementOf, movedOn, cursorNode, withCursor, stepped, stepOff, released, movedBack, Told, nothing}
-use Rattle.deque_rules.specs.Deque.{values, lookedTold, countedTold, lookTold, nextTold, dequeRows, Meets, lookFront, lookBack, lengthOf}
+use Rattle.deque_rules.specs.Deque.{State, backOf, elementOf, movedOn, cursorNode, withCursor, stepped, stepOff, released, movedBack, DequeAnswer as Told, nothing}
+use Rattle.deque_rules.specs.Deque.{values, lookedTold, measuredTold, lookTold, nextTold, dequeRows, Meets, lookFront, lookBack, lengthOf}
 use Rattle.deque_rules.specs.Deque.{nextByCursor, DequePromised as Promised}
 use Rattle.deque_rules.specs.alone.State.{Shows}
 use Rattle.deque_rules.specs.alone.Step.{cursorOf}
 use Rattle.deque_rules.specs.alone.History.{moveOn}
 use Rattle.deque_rules.specs.declared.alone.Looked.{Looked}
-use Rattle.deque_rules.specs.declared.alone.Counted.{Counted}
+use Rattle.deque_rules.specs.declared.alone.Measured.{Measured}
 use Rattle.deque_rules.proofs.alone.Sounding.{shows-sound}
 use Rattle.deque_rules.proofs.alone.Keeping.{in-cursors, stepped-shows}
 
@@ -42,7 +42,7 @@ module _ (a : State) (free : ℕ) (v : Lists) (s : Shows a free v) (d : ℕ) (h 
   pub back-lists : (r : Looked) → Promised (lookBack d) a free a r → lookedTold r ≡ lookTold a (last (deq v d))
   back-lists r m = answers a a a free d v _ _ s h (m .meets) .0 ∙ ap (lookTold a) (tail-is (a .links) v [] (s .rep) d h)
 
-  pub length-lists : (r : Counted) → Promised (lengthOf d) a free a r → countedTold r ≡ values (length (deq v d) ∷ [])
+  pub length-lists : (r : Measured) → Promised (lengthOf d) a free a r → measuredTold r ≡ values (length (deq v d) ∷ [])
   length-lists r m = answers a a a free d v _ _ s h (m .meets) .0 ∙ ap (λ (x : ℕ). values (x ∷ [])) (s .lengths d h)
 
   -- ---- the cursor

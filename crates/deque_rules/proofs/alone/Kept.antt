@@ -5,7 +5,7 @@ use mathlib.Core.Path.{_≡_, sym, subst}
 use mathlib.Core.Logic.{⊎-elim}
 use Rattle.deque_rules.specs.Links.{Deques as Lists, listed}
 use Rattle.numbers.proofs.Cases.{same?}
-use Rattle.deque_rules.specs.Deque.{State, Sound, frontOf, backOf, Told, refused, dequeRows, Meets, DequeCall as Call, make, pushBack, popFront}
+use Rattle.deque_rules.specs.Deque.{State, Sound, frontOf, backOf, DequeAnswer as Told, refused, dequeRows, Meets, DequeCall as Call, make, pushBack, popFront}
 use Rattle.deque_rules.specs.Deque.{lookFront, lookBack, moveToBack, unlinkAndDrop, lengthOf, nextByCursor, resetCursor, AnswerOf, told}
 use Rattle.deque_rules.specs.Deque.{DequePromised as Promised, madeFree, pushedFree, poppedFree, droppedFree, freeThen}
 use Rattle.deque_rules.specs.alone.State.{Shows}

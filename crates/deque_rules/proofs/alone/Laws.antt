@@ -15,7 +15,7 @@ use Rattle.numbers.proofs.Cases.{same?}
 use Rattle.numbers.proofs.Members.{in-same, remove-first}
 use Rattle.deque_rules.proofs.Laws.{some-first, in-home, slot-real, head-is}
 use Rattle.deque_rules.specs.Deque.{State, dequeCount as deques, nodeCount as nodes, Lent, Sound, nextOf, frontOf, elementOf, cursorNode, released}
-use Rattle.deque_rules.specs.Deque.{Told, refused, nothing, values, lookTold, nextTold, popTold, makeRows, dequeRows, pushRows, nodeRows, Meets, make}
+use Rattle.deque_rules.specs.Deque.{DequeAnswer as Told, refused, nothing, values, lookTold, nextTold, popTold, makeRows, dequeRows, pushRows, nodeRows, Meets, make}
 use Rattle.deque_rules.specs.Deque.{popFront, moveToBack, unlinkAndDrop, DequePromised as Promised, pushBack as pushCall}
 use Rattle.deque_rules.specs.alone.State.{Shows}
 use Rattle.deque_rules.specs.alone.Work.{toBack}

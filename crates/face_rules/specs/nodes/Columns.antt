@@ -6,7 +6,7 @@ use mathlib.Core.List.{List}
 use mathlib.Core.Path.{_≡_}
 use lib.Dec.{leb}
 use lib.ListN.{length, take}
-use Rattle.face_rules.specs.Face.{nexts, prevs, buckets, entryNumbers, generations, serials}
+use Rattle.face_rules.specs.Face.{nextSlots, prevSlots, bucketNumbers, entryNumbers, generations, serials}
 use Rattle.face_rules.specs.declared.Node.{Node}
 
 pub record Columns : Type 0 where
@@ -22,7 +22,7 @@ columns n p b e g s = record { next = n; prev = p; bucket = b; entry = e; genera
 
 -- each column is one field of the nodes, in order
 abbrev pub columnsOf : List Node → Columns
-columnsOf ns = columns (nexts ns) (prevs ns) (buckets ns) (entryNumbers ns) (generations ns) (serials ns)
+columnsOf ns = columns (nextSlots ns) (prevSlots ns) (bucketNumbers ns) (entryNumbers ns) (generations ns) (serials ns)
 
 -- the first n of each
 abbrev pub front : ℕ → Columns → Columns

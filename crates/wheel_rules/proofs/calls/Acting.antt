@@ -14,7 +14,7 @@ use Rattle.deque_rules.specs.Links.{Links, links, homeOf}
 use Rattle.numbers.specs.Shared.{noSlot, unless, notRefused as answered}
 use Rattle.deque_rules.proofs.Laws.{first-in}
 use Rattle.rules.specs.Places.{wheel01, buckets}
-use Rattle.rules.specs.Wheel.{Node, Entry, Wheel}
+use Rattle.rules.specs.Wheel.{Slot as Node, Entry, Wheel}
 use Rattle.wheel_rules.specs.declared.calls.Clock.{Clock}
 use Rattle.wheel_rules.specs.Lent.{Nodes, Entries, Records, records, nodes, entries, Shows, Armed, SoundRecords, wheelOf as shown, lent}
 use Rattle.wheel_rules.specs.records.Records.{join}

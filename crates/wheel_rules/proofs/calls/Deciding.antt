@@ -13,7 +13,7 @@ use borrow.Author.Tests.{eq-eqb, ne-eqb, eqb-true, lt-ltb, lt-leb, le-leb, ltb-t
 use Rattle.deque_rules.specs.Links.{first, homeOf}
 use Rattle.numbers.specs.Shared.{In, noSlot, unless, notRefused as answered}
 use Rattle.rules.specs.Places.{wheel01, buckets}
-use Rattle.rules.specs.Wheel.{Node, Entry, Advance, closed, poised, within, Wheel, Call, create, enable, setEntry, schedule, reschedule, deschedule, start}
+use Rattle.rules.specs.Wheel.{Slot as Node, Entry, Advance, closed, poised, within, Wheel, Call, create, enable, setEntry, schedule, reschedule, deschedule, start}
 use Rattle.rules.specs.Wheel.{pull, abandon, armedCount, nextDue}
 use Rattle.rules.specs.Calls.{Row, Tests, rows, testsOf, pick, isOpen, isNone, isEmpty, isStale, inRange, refusalIf}
 use Rattle.rules.specs.Runs.{refusal}

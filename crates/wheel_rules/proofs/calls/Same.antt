@@ -12,7 +12,7 @@ use Rattle.deque_rules.specs.Links.{first, Links, Deques as Lists, homeOf, Rep}
 use Rattle.numbers.specs.Shared.{noSlot as none}
 use Rattle.deque_rules.proofs.Laws.{Alike, links-alike}
 use Rattle.rules.specs.Places.{Geometry, buckets, visitedAt, ahead}
-use Rattle.rules.specs.Wheel.{Node, Advance, closed, poised, within, Wheel}
+use Rattle.rules.specs.Wheel.{Slot as Node, Advance, closed, poised, within, Wheel}
 use Rattle.rules.proofs.Places.{ahead-once}
 use Rattle.numbers.proofs.Cases.{below?, same?}
 use Rattle.wheel_rules.specs.declared.calls.Clock.{Clock}

@@ -8,7 +8,7 @@ use lib.ListN.{getD}
 use lib.Dec.{ltb}
 use borrow.Author.Tests.{ltb-true}
 use Rattle.rules.specs.Places.{wheel01}
-use Rattle.rules.specs.Wheel.{Node, Entry, Wheel, Call, schedule, reschedule, Answer, ok, handle, IsRefused}
+use Rattle.rules.specs.Wheel.{Slot as Node, Entry, Wheel, Call, schedule, reschedule, Answer, ok, handle, IsRefused}
 use Rattle.rules.specs.Calls.{rows, testsOf, isOpen, act, judged}
 use Rattle.rules.specs.Runs.{refusal, step}
 use Rattle.rules.specs.Demand3.{Arms as RunArms}

@@ -8,7 +8,7 @@ use borrow.Author.Tests.{ltb-true}
 use Rattle.deque_rules.specs.Links.{homeOf}
 use Rattle.rules.specs.Places.{wheel01, buckets}
 use Rattle.rules.specs.Lists.{times}
-use Rattle.rules.specs.Wheel.{Bucket, Node, whole, hit, count, Wheel}
+use Rattle.rules.specs.Wheel.{Bucket, Slot as Node, whole, hit, count, Wheel}
 use Rattle.rules.specs.Sound.{Sound}
 use Rattle.rules.specs.Demand3.{InOneBucket as InOne}
 use Rattle.deque_rules.proofs.Laws.{deq-is}

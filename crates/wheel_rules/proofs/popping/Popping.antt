@@ -10,7 +10,7 @@ use borrow.Author.Tests.{ltb-true, le-leb, lt-leb}
 use Rattle.deque_rules.specs.Links.{Links, homeOf}
 use Rattle.deque_rules.proofs.Laws.{home-removed}
 use Rattle.rules.specs.Places.{Geometry, wheel01, buckets, bucketOf, placeOf}
-use Rattle.rules.specs.Wheel.{Node, Lists, placedIn, unlink, link, release, pop, Entry, Advance, within, Wheel, Answer, expired, rescheduled}
+use Rattle.rules.specs.Wheel.{Slot as Node, Lists, placedIn, unlink, link, release, pop, Entry, Advance, within, Wheel, Answer, expired, rescheduled}
 use Rattle.rules.specs.Calls.{AfterPull as Pulled, pulled, withLists, rearmed}
 use Rattle.rules.specs.Sound.{Sound}
 use Rattle.numbers.proofs.Cases.{not-both}

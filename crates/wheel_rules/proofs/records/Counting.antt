@@ -11,7 +11,7 @@ use lib.ListN.{length, getD}
 use lib.Dec.{ltb}
 use borrow.Author.Tests.{lt-ltb, le-ltb, le-leb, lt-leb}
 use Rattle.rules.specs.Places.{Geometry, wheel01, buckets}
-use Rattle.rules.specs.Wheel.{Node, Wheel, Entry, number, due}
+use Rattle.rules.specs.Wheel.{Slot as Node, Wheel, Entry, number, due}
 use Rattle.rules.specs.Calls.{armedBelow, sooner, keyOf, leastKey}
 use Rattle.rules.specs.Sound.{Sound}
 use Rattle.numbers.proofs.Cases.{below?}

@@ -16,7 +16,7 @@ use Rattle.deque_rules.specs.Links.{Links, homeOf, deq, Rep, Deques as Held}
 use Rattle.deque_rules.specs.Lists.{withDeque, pushBack, takeOut, turn, taken as takenFree, freed as freedSlot}
 use Rattle.numbers.proofs.Members.{split-at}
 use Rattle.rules.specs.Lists.{times}
-use Rattle.rules.specs.Wheel.{Bucket, Node, Lists, whole, newNode, placedIn, freed, update, without, count, atBack as pushed, link, taken, unlink, release}
+use Rattle.rules.specs.Wheel.{Bucket, Slot as Node, Lists, whole, newNode, placedIn, freed, update, without, count, atBack as pushed, link, taken, unlink, release}
 use Rattle.rules.specs.Wheel.{claim, turned, enter}
 use Rattle.rules.specs.Sound.{SoundLists}
 use Rattle.numbers.proofs.Cases.{same?, below?, not-both}

@@ -13,7 +13,7 @@ use Rattle.numbers.proofs.Members.{split}
 use Rattle.deque_rules.proofs.Laws.{deq-once, whole-listed, in-home, home-in, free-once, free-home, home-free}
 use Rattle.rules.specs.Places.{Geometry, buckets, SoundPosition}
 use Rattle.rules.specs.Lists.{times}
-use Rattle.rules.specs.Wheel.{Node, hit, count, Advance, closed, poised, within}
+use Rattle.rules.specs.Wheel.{Slot as Node, hit, count, Advance, closed, poised, within}
 use Rattle.rules.specs.Sound.{spare, SoundLists, SoundAdvance, Sound}
 use Rattle.numbers.proofs.Cases.{same?, below?}
 use Rattle.rules.proofs.Counting.{hit-is, hit-not}

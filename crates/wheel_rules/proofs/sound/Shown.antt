@@ -12,7 +12,7 @@ use Rattle.numbers.specs.Shared.{noSlot as none}
 use Rattle.numbers.proofs.Members.{in-same, app-right}
 use Rattle.deque_rules.proofs.Laws.{home-in}
 use Rattle.rules.specs.Places.{Geometry, buckets, visitedAt, SoundPosition}
-use Rattle.rules.specs.Wheel.{Node, Advance, closed, poised, within, Wheel}
+use Rattle.rules.specs.Wheel.{Slot as Node, Advance, closed, poised, within, Wheel}
 use Rattle.rules.specs.Sound.{Sound}
 use Rattle.numbers.proofs.Cases.{same?}
 use Rattle.wheel_rules.specs.declared.calls.Clock.{Clock}
