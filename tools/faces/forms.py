@@ -115,7 +115,8 @@ class Function:
             return '(%s)' % re.sub(r'\((\w+) \.exit\)', lambda k: '(%s .entry)' % k.group(1) if k.group(1) in shared else k.group(0), out)
         self.clause, count = form.subn(written, self.clause)
         if count:
-            self.brought += [x for x in brought(text) if x[1] in body.split()]
+            own = [(module, x) for x in re.findall(r'^abbrev pub (\w+) ', text, re.M)]
+            self.brought += [x for x in list(brought(text)) + own if x[1] in body.split()]
 
     def home(self, name):
         """The crate that the function's file takes a name from."""

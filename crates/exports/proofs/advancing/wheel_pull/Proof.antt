@@ -41,7 +41,7 @@ use denote.Triple.Walked.{says, Stays, walkOf, Walks, ends-at, walked, walk-meet
 use Rattle.face_rules.specs.declared.Node.{Node}
 use Rattle.wheel_rules.specs.declared.calls.Clock.{Clock}
 use Rattle.face_rules.specs.declared.Pulled.{Pulled}
-use Rattle.face_rules.specs.Face.{Writes, pulledSays, wordsOf}
+use Rattle.face_rules.specs.Face.{Writes, pulledSays, recordsOf, wordsOf}
 use Rattle.rules.specs.Wheel.{pull}
 use Rattle.wheel_rules.specs.Promise.{Promised}
 use Rattle.nodes.proofs.Passing.{passed-on}

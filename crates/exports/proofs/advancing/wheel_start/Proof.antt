@@ -40,7 +40,7 @@ use denote.Triple.Walked.{says, Stays, walkOf, Walks, ends-at, walked, walk-meet
 use Rattle.face_rules.specs.declared.Node.{Node}
 use Rattle.wheel_rules.specs.declared.calls.Clock.{Clock}
 use Rattle.wheel_rules.specs.declared.calls.Noted.{Noted}
-use Rattle.face_rules.specs.Face.{Writes, wordsOf}
+use Rattle.face_rules.specs.Face.{Writes, recordsOf, wordsOf}
 use Rattle.rules.specs.Wheel.{start}
 use Rattle.wheel_rules.specs.Promise.{Promised, notedSays}
 use Rattle.nodes.proofs.Passing.{passed-on}

@@ -41,7 +41,7 @@ use denote.Triple.Walked.{says, Stays, walkOf, Walks, ends-at, walked, walk-meet
 use Rattle.face_rules.specs.declared.Node.{Node}
 use Rattle.wheel_rules.specs.declared.calls.Clock.{Clock}
 use Rattle.wheel_rules.specs.declared.calls.Due.{Due}
-use Rattle.face_rules.specs.Face.{Writes, wordsOf}
+use Rattle.face_rules.specs.Face.{Writes, recordsOf, wordsOf}
 use Rattle.rules.specs.Wheel.{nextDue}
 use Rattle.wheel_rules.specs.Promise.{Promised, dueSays}
 use Rattle.nodes.proofs.Passing.{passed-on}

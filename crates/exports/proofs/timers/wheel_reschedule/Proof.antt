@@ -41,7 +41,7 @@ use denote.Triple.Walked.{says, Stays, walkOf, Walks, ends-at, walked, walk-meet
 use Rattle.face_rules.specs.declared.Node.{Node}
 use Rattle.wheel_rules.specs.declared.calls.Clock.{Clock}
 use Rattle.face_rules.specs.declared.Rescheduled.{Rescheduled}
-use Rattle.face_rules.specs.Face.{Writes, rescheduledSays, wordsOf}
+use Rattle.face_rules.specs.Face.{Writes, recordsOf, rescheduledSays, wordsOf}
 use Rattle.rules.specs.Wheel.{reschedule}
 use Rattle.wheel_rules.specs.Promise.{Promised}
 use Rattle.nodes.proofs.Passing.{passed-on}

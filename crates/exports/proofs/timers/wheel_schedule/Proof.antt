@@ -41,7 +41,7 @@ use denote.Triple.Walked.{says, Stays, walkOf, Walks, ends-at, walked, walk-meet
 use Rattle.face_rules.specs.declared.Node.{Node}
 use Rattle.wheel_rules.specs.declared.calls.Clock.{Clock}
 use Rattle.face_rules.specs.declared.Scheduled.{Scheduled}
-use Rattle.face_rules.specs.Face.{Writes, scheduledSays, wordsOf}
+use Rattle.face_rules.specs.Face.{Writes, recordsOf, scheduledSays, wordsOf}
 use Rattle.rules.specs.Wheel.{schedule}
 use Rattle.wheel_rules.specs.Promise.{Promised}
 use Rattle.nodes.proofs.Passing.{passed-on}
