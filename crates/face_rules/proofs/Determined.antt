@@ -1,5 +1,5 @@
--- Two results that meet the promise of a call over lent nodes coincide: what the answer says, every node, head, tail and
--- entry, and the clock. What it says determines the answer: proofs/Answers.antt, and wheel_rules,
+-- Two results that meet the promise of a call over lent nodes coincide: what the answer says, every node, head, tail
+-- and entry, and the clock. What it says determines the answer: proofs/Answers.antt, and wheel_rules,
 -- proofs/history/Coincide.antt (`noted`, `counted`, `dued`; create's: `create-coincides`).
 use Prim.Native.Nat.{ℕ}
 use native.Mathlib.Omega.{arith}
@@ -59,8 +59,8 @@ shown-one hs ts hs′ ts′ ns ns′ d d′ l m l′ m′ c c′ e =
     }
 
 -- ---- every call
-pub face-coincides : (R : Records) (hs ts hs′ ts′ : List ℕ) (ns ns′ : List Node) (d d′ : List Bool) (l m l′ m′ : List ℕ) (k k′ : Clock) (c : Call) (a b : Answer)
-    → Promised c R (shown hs ts ns d l m k) a → Promised c R (shown hs′ ts′ ns′ d′ l′ m′ k′) b
+pub face-coincides : (R : Records) (hs ts hs′ ts′ : List ℕ) (ns ns′ : List Node) (d d′ : List Bool) (l m l′ m′ : List ℕ) (k k′ : Clock) (c : Call)
+    (a b : Answer) → Promised c R (shown hs ts ns d l m k) a → Promised c R (shown hs′ ts′ ns′ d′ l′ m′ k′) b
     → (a ≡ b) × Same hs ts hs′ ts′ ns ns′ d d′ l m l′ m′ k k′
 face-coincides R hs ts hs′ ts′ ns ns′ d d′ l m l′ m′ k k′ c a b p q =
     let u = coincide R (shown hs ts ns d l m k) (shown hs′ ts′ ns′ d′ l′ m′ k′) c a b p q in

@@ -48,7 +48,9 @@ timed-requires : tie.Need-timed-requires
 timed-requires c κs = search needs
 
 returns-2 : tie.Need-returns-2
-returns-2 c = loaded-done (c .before .before .before .before .before .before .before .before .if1 .left) (c .before .start .ensures) (c .timed .ensures .says) (c .timed .ensures .clock-is)
+returns-2 c =
+    loaded-done (c .before .before .before .before .before .before .before .before .if1 .left) (c .before .start .ensures) (c .timed .ensures .says)
+    (c .timed .ensures .clock-is)
 
 pub start-work-spec : {M : Type 1} → statement M
 start-work-spec =
