@@ -1,5 +1,5 @@
-// Seeded workloads for the sketch, the deque and the wheel, to be timed: one line of standard input asks for one, and its
-// answer is a digest of what it left.
+// Seeded workloads for the sketch, the deque and the wheel, to be timed: one line of standard input asks for one, and
+// its answer is a digest of what it left.
 mod deques;
 mod generator;
 mod requests;

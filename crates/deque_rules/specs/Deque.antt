@@ -1,5 +1,5 @@
--- 01, "The deque by itself": its records, when they are sound, what each call writes and answers, the promise of every call,
--- and histories of calls.
+-- 01, "The deque by itself": its records, when they are sound, what each call writes and answers, the promise of every
+-- call, and histories of calls.
 use Prim.Native.Nat.{ℕ, _≤_, _<_, _+_, _-_}
 use mathlib.Core.Bool.{cond}
 use mathlib.Core.List.{List, [], _∷_}

@@ -1,5 +1,5 @@
--- inner: the rule that turning in one splice stands for: "nodes go front to back until the sentinel is last", one node after
--- another.
+-- inner: the rule that turning in one splice stands for: "nodes go front to back until the sentinel is last", one node
+-- after another.
 use Prim.Native.Nat.{ℕ, zero, suc}
 use mathlib.Core.Bool.{cond}
 use lib.Dec.{eqb}

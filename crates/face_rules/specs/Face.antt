@@ -1,5 +1,5 @@
--- The wheel over one lent array of node structs, and as C functions: the records that lent nodes are, what the answers say,
--- answers as five numbers, and the promise and the histories of the C functions.
+-- The wheel over one lent array of node structs, and as C functions: the records that lent nodes are, what the answers
+-- say, answers as five numbers, and the promise and the histories of the C functions.
 use Prim.Native.Nat.{ℕ}
 use mathlib.Core.Bool.{Bool}
 use mathlib.Core.List.{List, map, [], _∷_}

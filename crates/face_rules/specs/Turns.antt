@@ -1,5 +1,5 @@
--- inner: what a call over parallel slices answers, in two: the answer without the clock, and the clock from now on, which is
--- the caller's own where none is handed back.
+-- inner: what a call over parallel slices answers, in two: the answer without the clock, and the clock from now on,
+-- which is the caller's own where none is handed back.
 use mathlib.Core.Path.{_≡_}
 use Rattle.face_rules.specs.Face.{scheduledSays, rescheduledSays, pulledSays}
 use Rattle.face_rules.specs.declared.NotedTurn.{NotedTurn}

@@ -1,5 +1,5 @@
--- What several modules say: powers of two, the numbers that are no slot, lists of numbers, rows of refusals and answers, and
--- what the name of a lent slice stands for in a contract.
+-- What several modules say: powers of two, the numbers that are no slot, lists of numbers, rows of refusals and
+-- answers, and what the name of a lent slice stands for in a contract.
 use Prim.Native.Nat.{ℕ, zero, suc, _^_}
 use mathlib.Core.Bool.{Bool, _||_, cond}
 use mathlib.Core.List.{List, [], _∷_}

@@ -1,5 +1,5 @@
--- Demand 3's premise on the calls, read off the answers alone: where each call that would change a timer was answered by
--- a refusal, none of them was taken.
+-- Demand 3's premise on the calls, read off the answers alone: where each call that would change a timer was answered
+-- by a refusal, none of them was taken.
 use Prim.Native.Nat.{ℕ}
 use mathlib.Core.Path.{_≡_, subst}
 use mathlib.Core.Option.{Option, none, some}

@@ -1,4 +1,5 @@
--- 01, "Calls" and "Refusal numbers": when each call is refused, what a pull does, and what each call does to a wheel on lists.
+-- 01, "Calls" and "Refusal numbers": when each call is refused, what a pull does, and what each call does to a wheel on
+-- lists.
 use Prim.Native.Nat.{ℕ, _-_, _^_, suc, zero, _+_, min}
 use mathlib.Core.Bool.{Bool, true, false, cond, not, _&&_}
 use mathlib.Core.List.{List, [], _∷_, _++_}

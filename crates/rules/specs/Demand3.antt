@@ -49,8 +49,8 @@ Unchanged g x n e d R (c ∷ cs) =
 abbrev pub NotYet : Geometry → ℕ → Run → List Call → Type 0
 NotYet g n R cs = handed n (answers g R cs) ≡ 0
 
--- "It stands in exactly one bucket": the timer's slot is armed, with its serial and its entry, and stands once in one of
--- the wheel's buckets and in no other
+-- "It stands in exactly one bucket": the timer's slot is armed, with its serial and its entry, and stands once in one
+-- of the wheel's buckets and in no other
 abbrev pub InOneBucket : Geometry → ℕ → ℕ → ℕ → Wheel → Type 0
 InOneBucket g x n e w =
     (w .lists .node x .armed ≡ true) × (w .lists .node x .serial ≡ n) × (w .lists .node x .entry ≡ e) ×

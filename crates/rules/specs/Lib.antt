@@ -1,5 +1,5 @@
--- The rules of the wheel, as definitions: Places, Wheel and Calls are what a reader reads, in this order. The others are
--- inner: what the laws, runs and demand 3 on the rules speak of.
+-- The rules of the wheel, as definitions: Places, Wheel and Calls are what a reader reads, in this order. The others
+-- are inner: what the laws, runs and demand 3 on the rules speak of.
 pub mod Places
 pub mod Wheel
 pub mod Calls

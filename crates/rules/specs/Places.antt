@@ -1,5 +1,5 @@
--- 01, "Times and places": the levels of a wheel, where a deadline is placed, and which buckets an advance visits. The laws
--- hold for every geometry; 01's wheel is the instance `wheel01`.
+-- 01, "Times and places": the levels of a wheel, where a deadline is placed, and which buckets an advance visits. The
+-- laws hold for every geometry; 01's wheel is the instance `wheel01`.
 use Prim.Native.Nat.{ℕ, _/_, _^_, _+_, zero, suc, _-_, _%_, min, _≤_}
 use mathlib.Core.Bool.{cond, Bool}
 use mathlib.Core.List.{List, [], _∷_, _++_}

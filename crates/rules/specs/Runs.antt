@@ -1,5 +1,5 @@
--- inner: runs of the rules on sound wheels: lists of calls, what they answer, and what they lead to. A run keeps beside the
--- wheel, for each serial, the reading at which the timer with that serial was last placed.
+-- inner: runs of the rules on sound wheels: lists of calls, what they answer, and what they lead to. A run keeps beside
+-- the wheel, for each serial, the reading at which the timer with that serial was last placed.
 use Prim.Native.Nat.{ℕ}
 use mathlib.Core.Bool.{true}
 use mathlib.Core.List.{List, [], _∷_}

@@ -145,8 +145,9 @@ pub record Wheel : Type 0 where
   pub lists : Lists
   pub entry : ℕ → Entry
 
--- 01, "Calls". A handle is slot and serial. Enable is given the lent lengths: node records, entries, and whether all else
--- that is lent goes with these (heads and tails as many as there are buckets, slices that are parallel of one length).
+-- 01, "Calls". A handle is slot and serial. Enable is given the lent lengths: node records, entries, and whether all
+-- else that is lent goes with these (heads and tails as many as there are buckets, slices that are parallel of one
+-- length).
 pub data Call : Type 0 where
   create : ℕ → Call
   enable : ℕ → ℕ → Bool → Call

@@ -1,5 +1,5 @@
--- inner: what 01's worked numbers of the wheel say, as tests that compute: a place, and the tick in which a deadline first
--- fires.
+-- inner: what 01's worked numbers of the wheel say, as tests that compute: a place, and the tick in which a deadline
+-- first fires.
 use Prim.Native.Nat.{ℕ, zero, suc, _+_, _-_, _*_, _^_}
 use mathlib.Core.Bool.{Bool, true, false, cond}
 use mathlib.Core.List.{[], _∷_}

@@ -1,5 +1,5 @@
--- The frequency sketch, as 01 tells it: a word as sixteen counters, the four counters of a hash, aging, soundness, and the
--- promises of its calls.
+-- The frequency sketch, as 01 tells it: a word as sixteen counters, the four counters of a hash, aging, soundness, and
+-- the promises of its calls.
 use Prim.Native.Nat.{ℕ, _/_, _%_, _^_, zero, suc, _+_, _*_, min, _-_}
 use mathlib.Core.Bool.{cond, _&&_, Bool, _||_, not}
 use mathlib.Core.List.{List, [], _∷_, _++_}

@@ -38,8 +38,9 @@ NeverFour (a ∷ rs) = (a ≡ refused 4 → ⊥) × NeverFour rs
 -- ======== demand 3
 
 -- ---- arming
--- "Arm or re-arm a timer whose deadline is not in an earlier tick than the wheel's reading": at the records P a schedule
--- answers the handle (x, n), or a reschedule with that handle is done and does not remove; R are the records then
+-- "Arm or re-arm a timer whose deadline is not in an earlier tick than the wheel's reading": at the records P a
+-- schedule answers the handle (x, n), or a reschedule with that handle is done and does not remove; R are the records
+-- then
 pub record Arms (P R : Records) (x n e d : ℕ) : Type 0 where
   pub armed :
       ((h : ℕ) × Promised (schedule e h) P R (handle x n)) ⊎
@@ -133,8 +134,8 @@ pub record Demand3 (x n e d : ℕ) (R : Records) : Type 0 where
       (q : ℕ) (ps : List Call) (ts : List Answer) (U : Records) → Full d S q ps ts U → LeftAlone x n e d ps ts → handed n (rs ++ ts) ≡ 1
   -- It is handed out once at most.
   pub atMostOnce : (cs : List Call) (rs : List Answer) (S : Records) → Leads R cs rs S → LeftAlone x n e d cs rs → handed n rs ≤ 1
-  -- What hands it out says its entry, serial and deadline, and is a pull of an open advance that goes to the deadline or
-  -- later and enters a later tick.
+  -- What hands it out says its entry, serial and deadline, and is a pull of an open advance that goes to the deadline
+  -- or later and enters a later tick.
   pub says :
       (cs : List Call) (rs : List Answer) (S : Records) → Leads R cs rs S → LeftAlone x n e d cs rs →
       (c : Call) (a : Answer) (T : Records) → Promised c S T a → LeftAlone x n e d (c ∷ []) (a ∷ []) → 0 < handsOut n a →

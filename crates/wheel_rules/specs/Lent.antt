@@ -46,8 +46,9 @@ records n e c = record { nodes = n; entries = e; clock = c }
 
 -- ======== lent slices
 
--- the records that lent slices and a clock are, before a call and after it, in the order in which every call takes them:
--- heads, tails; next, prev, bucket, entry, generation, serial; dated, deadline, stamp (an entry's generation); clock
+-- the records that lent slices and a clock are, before a call and after it, in the order in which every call takes
+-- them: heads, tails; next, prev, bucket, entry, generation, serial; dated, deadline, stamp (an entry's generation);
+-- clock
 abbrev pub nodesBefore : Numbers → Numbers → Numbers → Numbers → Numbers → Numbers → Numbers → Numbers → Nodes
 nodesBefore h t n p b e g s =
     nodes (now (h .entry)) (now (t .entry)) (now (n .entry)) (now (p .entry)) (now (b .entry)) (now (e .entry)) (now (g .entry)) (now (s .entry))
@@ -263,7 +264,7 @@ wheelOf g R =
       entry = entryAt (R .entries);
     }
 
--- the lent lists as records, in the order in which every call takes them: heads, tails; next, prev, bucket, entry, generation, serial; dated,
--- deadline, stamp; clock
+-- the lent lists as records, in the order in which every call takes them: heads, tails; next, prev, bucket, entry,
+-- generation, serial; dated, deadline, stamp; clock
 abbrev pub lent : List ℕ → List ℕ → List ℕ → List ℕ → List ℕ → List ℕ → List ℕ → List ℕ → List Bool → List ℕ → List ℕ → Clock → Records
 lent h t n p b e g s d l m c = records (nodes h t n p b e g s) (entries d l m) c

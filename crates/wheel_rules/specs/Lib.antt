@@ -1,5 +1,5 @@
--- The wheel on records. Lent, Promise and Demand3 are what a reader reads; the folders are inner: what the code is proved to
--- write, and what its functions ask of each other.
+-- The wheel on records. Lent, Promise and Demand3 are what a reader reads; the folders are inner: what the code is
+-- proved to write, and what its functions ask of each other.
 pub mod Lent
 pub mod Promise
 pub mod Demand3

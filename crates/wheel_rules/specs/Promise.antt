@@ -1,5 +1,6 @@
--- The promise of every public call: `Promised c R R′ a` says of the call c, of the lent records R before it and R′ after
--- it, and of its answer a, all that is promised. The calls over parallel slices, over lent nodes and in C cite it.
+-- The promise of every public call: `Promised c R R′ a` says of the call c, of the lent records R before it and R′
+-- after it, and of its answer a, all that is promised. The calls over parallel slices, over lent nodes and in C cite
+-- it.
 use Prim.Native.Nat.{ℕ, _<_}
 use mathlib.Core.Bool.{true, false, Bool, _&&_, not}
 use mathlib.Core.List.{List, [], _∷_}
@@ -250,8 +251,8 @@ pub record Promised (c : Call) (R R′ : Records) (a : Answer) : Type 0 where
   pub stays : (refusalIf wheel01 sound (wheelOf wheel01 R) c ≡ 0 → ⊥) → R′ ≡ R
   pub leaves : refusalIf wheel01 sound (wheelOf wheel01 R) c ≡ 0 → Leaves c R R′
 
--- Create hands out a clock, heads and tails by value: laid over any records, which keep nodes and entries, they are what
--- the call promises.
+-- Create hands out a clock, heads and tails by value: laid over any records, which keep nodes and entries, they are
+-- what the call promises.
 abbrev pub over : Records → Clock → List ℕ → List ℕ → Records
 over R c h t =
     records

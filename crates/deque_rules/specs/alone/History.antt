@@ -1,4 +1,5 @@
--- inner: histories: calls of the deque by itself one after the other, each meeting its promise; and the cursor on the lists.
+-- inner: histories: calls of the deque by itself one after the other, each meeting its promise; and the cursor on the
+-- lists.
 use Prim.Native.Nat.{ℕ}
 use mathlib.Core.Bool.{cond}
 use mathlib.Core.List.{List}

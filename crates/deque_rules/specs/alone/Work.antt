@@ -1,5 +1,5 @@
--- inner: what the unchecked functions do: the equation on the records, what is told, and the law on the lists that they stand
--- for.
+-- inner: what the unchecked functions do: the equation on the records, what is told, and the law on the lists that they
+-- stand for.
 use Prim.Native.Nat.{ℕ}
 use mathlib.Core.List.{List, [], _∷_, _++_}
 use mathlib.Core.Path.{_≡_}

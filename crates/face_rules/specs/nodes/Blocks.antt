@@ -1,5 +1,5 @@
--- inner: what goes of a block of lent nodes, the places from one to before another, into a column: one field of each, at the
--- same places.
+-- inner: what goes of a block of lent nodes, the places from one to before another, into a column: one field of each,
+-- at the same places.
 use Prim.Native.Nat.{ℕ, _+_, _≤_}
 use mathlib.Core.Bool.{cond}
 use mathlib.Core.List.{List, _++_}

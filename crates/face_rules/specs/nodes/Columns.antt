@@ -1,5 +1,5 @@
--- inner: six columns of numbers, which lent nodes are read into and stored back from, a field in each: "The node records are
--- lent as one array of 166 to 4,096 records". Lent nodes that are more than fit go neither way.
+-- inner: six columns of numbers, which lent nodes are read into and stored back from, a field in each: "The node
+-- records are lent as one array of 166 to 4,096 records". Lent nodes that are more than fit go neither way.
 use Prim.Native.Nat.{ℕ, _≤_, _<_}
 use mathlib.Core.Bool.{cond}
 use mathlib.Core.List.{List}

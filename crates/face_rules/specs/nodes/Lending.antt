@@ -1,5 +1,5 @@
--- inner: what lent nodes are, with what is lent beside them, before a call and after it: heads, tails; nodes; dated, deadline,
--- stamp; clock. And the six columns that a work is lent: next, prev, bucket, entry, generation, serial.
+-- inner: what lent nodes are, with what is lent beside them, before a call and after it: heads, tails; nodes; dated,
+-- deadline, stamp; clock. And the six columns that a work is lent: next, prev, bucket, entry, generation, serial.
 use denote.Ref.{now}
 use Rattle.face_rules.specs.nodes.Columns.{Columns, columns}
 use Rattle.numbers.specs.Shared.{Numbers}

@@ -1,5 +1,5 @@
--- The rows of a call ask the same of records as of the wheel that they stand for: each test on records is decided by the
--- test on the wheel, where the rows before it hold. So the rows give one number, and it is the rules'.
+-- The rows of a call ask the same of records as of the wheel that they stand for: each test on records is decided by
+-- the test on the wheel, where the rows before it hold. So the rows give one number, and it is the rules'.
 use Prim.Native.Nat.{ℕ, _-_, _^_, _≤_, _<_}
 use native.Mathlib.Omega.{arith}
 use mathlib.Core.Path.{_≡_, refl, sym, ap, subst, _∙_}

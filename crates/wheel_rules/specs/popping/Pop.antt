@@ -1,5 +1,5 @@
--- inner: a pull's turn that pops a node, on the records, and what all turns share: their form, the node that waits, the next
--- position, the turns that are left. 01, "Calls", the paragraph on the advance.
+-- inner: a pull's turn that pops a node, on the records, and what all turns share: their form, the node that waits, the
+-- next position, the turns that are left. 01, "Calls", the paragraph on the advance.
 use Prim.Native.Nat.{ℕ, suc, _+_, _-_, _<_}
 use mathlib.Core.Bool.{Bool, true, false, cond}
 use mathlib.Core.List.{List}

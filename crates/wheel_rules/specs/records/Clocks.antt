@@ -1,4 +1,5 @@
--- inner: the clock record with some of its fields changed. All fields are listed here, and in the clock that create makes
+-- inner: the clock record with some of its fields changed. All fields are listed here, and in the clock that create
+-- makes
 -- (specs/calls/Work.antt).
 use Prim.Native.Nat.{ℕ, _+_}
 use mathlib.Core.Bool.{Bool, true, false}

@@ -1,6 +1,7 @@
--- inner: slots filed by their serials: what the test that armed serials differ keeps in its two scratch arrays. `latest` has,
--- for each remainder of a serial by 4,096, the latest slot filed under it, and `before` has, for each slot filed, the
--- one filed before it under the same remainder. 0 is the end: slot 0 is a sentinel, so it is never armed.
+-- inner: slots filed by their serials: what the test that armed serials differ keeps in its two scratch arrays.
+-- `latest` has, for each remainder of a serial by 4,096, the latest slot filed under it, and `before` has, for each
+-- slot filed, the one filed before it under the same remainder. 0 is the end: slot 0 is a sentinel, so it is never
+-- armed.
 use Prim.Native.Nat.{ℕ, _+_, _%_, _≤_, _<_}
 use mathlib.Core.Bool.{Bool, true, false}
 use mathlib.Core.List.{List}

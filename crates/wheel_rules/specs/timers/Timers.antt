@@ -1,5 +1,5 @@
--- inner: arming, disarming, rearming on sound records: what is asked, and what is done to the records and to the wheel that
--- they show.
+-- inner: arming, disarming, rearming on sound records: what is asked, and what is done to the records and to the wheel
+-- that they show.
 use Prim.Native.Nat.{ℕ, _-_, _^_, _≤_, _<_}
 use mathlib.Core.List.{List}
 use mathlib.Core.Option.{some}
