@@ -81,12 +81,13 @@ def bring(cited):
 
 
 class Function:
-    """A function's signature and contract, as its source has them."""
+    """A function's signature and contract, as its source has them; the name may have its module before it, as in lends.start."""
 
     def __init__(self, crate, name):
+        *module, name = name.split('.')
         form = r'fn %s\s*\((.*?)\)\s*->\s*(\w+)\s*(?:requires \{[^{}]*\}\s*)?ensures \{ λ (\w+)\. ⌜(.*?)⌝ \}\s*\{(.*?)\n\}' % name
         found = [(path, text, re.search(form, text, re.S)) for path, text in sources(crate)]
-        found = [x for x in found if x[2]]
+        found = [x for x in found if x[2] and (not module or x[0] == module)]
         if len(found) != 1:
             sys.exit('crate %s has %d functions %s of the form' % (crate, len(found), name))
         path, self.text, m = found[0]

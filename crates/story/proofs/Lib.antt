@@ -1,5 +1,5 @@
 -- What the proofs of the story share.
 pub mod Answering
-pub mod Timing
+pub mod Locals
 pub mod Beginning
 pub mod Telling

@@ -1,29 +1,20 @@
-// Whether an answer is the one that is expected: all of it but the clock.
+// Whether an answer is the one that is expected.
 ghost use Rattle.rules.specs.Wheel.{ok, handle, end, expired, rescheduled, number};
-ghost use Rattle.wheel_rules.specs.Promise.{timedSays, notedSays, scheduledSays, pulledSays, countedSays};
+ghost use Rattle.face_rules.specs.Face.{scheduledSays, pulledSays};
+ghost use Rattle.wheel_rules.specs.Promise.{notedSays, countedSays};
 ghost use Rattle.rules.specs.Wheel as rules;
 ghost use Rattle.story.specs.Tests.{Whether, Agree};
+use face_rules::Pulled;
+use face_rules::Scheduled;
 use wheel_rules::calls::Counted;
 use wheel_rules::calls::Noted;
-use wheel_rules::calls::Pulled;
-use wheel_rules::calls::Scheduled;
-use wheel_rules::calls::Timed;
 
-pub fn is_done(answer: Timed) -> bool
-    ensures { λ r. ⌜ Whether (timedSays answer) ok r ⌝ }
+pub fn is_refused(answer: Noted, n: u64) -> bool
+    ensures { λ r. ⌜ Whether (notedSays answer) (rules.refused n) r ⌝ }
 {
     match answer {
-        Timed::Done(_) => true,
-        Timed::Refused(_) => false,
-    }
-}
-
-pub fn is_refused(answer: Timed, n: u64) -> bool
-    ensures { λ r. ⌜ Whether (timedSays answer) (rules.refused n) r ⌝ }
-{
-    match answer {
-        Timed::Done(_) => false,
-        Timed::Refused(k) => k == n,
+        Noted::Done => false,
+        Noted::Refused(k) => k == n,
     }
 }
 
@@ -40,11 +31,7 @@ pub fn is_handle(answer: Scheduled, slot: usize, serial: u64) -> bool
     ensures { λ r. ⌜ Whether (scheduledSays answer) (handle slot serial) r ⌝ }
 {
     match answer {
-        Scheduled::Armed {
-            slot: x,
-            serial: n,
-            clock: _,
-        } => if x == slot { n == serial } else { false },
+        Scheduled::Armed { slot: x, serial: n } => if x == slot { n == serial } else { false },
         Scheduled::Refused(_) => false,
     }
 }
@@ -57,15 +44,13 @@ pub fn is_end(answer: Pulled) -> bool
             entry: _,
             serial: _,
             deadline: _,
-            clock: _,
         } => false,
         Pulled::Rescheduled {
             entry: _,
             serial: _,
             place: _,
-            clock: _,
         } => false,
-        Pulled::End(_) => true,
+        Pulled::End => true,
         Pulled::Refused(_) => false,
     }
 }
@@ -78,15 +63,13 @@ pub fn is_moved(answer: Pulled, entry: usize, serial: u64, place: u64) -> bool
             entry: _,
             serial: _,
             deadline: _,
-            clock: _,
         } => false,
         Pulled::Rescheduled {
             entry: e,
             serial: n,
             place: b,
-            clock: _,
         } => agree(e, n, b, entry, serial, place),
-        Pulled::End(_) => false,
+        Pulled::End => false,
         Pulled::Refused(_) => false,
     }
 }
@@ -99,15 +82,13 @@ pub fn is_expired(answer: Pulled, entry: usize, serial: u64, deadline: u64) -> b
             entry: e,
             serial: n,
             deadline: d,
-            clock: _,
         } => agree(e, n, d, entry, serial, deadline),
         Pulled::Rescheduled {
             entry: _,
             serial: _,
             place: _,
-            clock: _,
         } => false,
-        Pulled::End(_) => false,
+        Pulled::End => false,
         Pulled::Refused(_) => false,
     }
 }

@@ -1,24 +1,17 @@
-// The wheel's public calls on held records, each with the wheel's own promise.
+// The face's calls on held records, each with the wheel's own promise.
 ghost use mathlib.Core.Option.{some};
 ghost use Rattle.rules.specs.Wheel.{setEntry, schedule, deschedule, start, pull, abandon, armedCount};
-ghost use Rattle.wheel_rules.specs.Promise.{timedClock, timedSays, notedSays, scheduledSays, pulledSays, countedSays, Promised};
-ghost use Rattle.story.specs.Held.{held, later};
-use crate::clocks::after_pull;
-use crate::clocks::after_schedule;
-use crate::clocks::after_timed;
+ghost use Rattle.face_rules.specs.Face.{scheduledSays, pulledSays};
+ghost use Rattle.wheel_rules.specs.Promise.{notedSays, countedSays, Promised};
+ghost use Rattle.story.specs.Held.{held};
 use crate::held::Held;
+use crate::lends;
+use face_rules::Pulled;
+use face_rules::Scheduled;
 use wheel_rules::calls::Counted;
 use wheel_rules::calls::Noted;
-use wheel_rules::calls::Pulled;
-use wheel_rules::calls::Scheduled;
-use wheel_rules::calls::Timed;
 
 // The records after a call, and its answer.
-pub struct Timing {
-    pub after: Held,
-    pub answer: Timed,
-}
-
 pub struct Noting {
     pub after: Held,
     pub answer: Noted,
@@ -40,29 +33,19 @@ pub fn set(s: Held, e: usize, due: u64, h: u32) -> Noting
 {
     let heads = s.heads;
     let tails = s.tails;
-    let next = s.next;
-    let prev = s.prev;
-    let bucket = s.bucket;
-    let entry = s.entry;
-    let generation = s.generation;
-    let serial = s.serial;
+    let nodes = s.nodes;
     let mut dated = s.dated;
     let mut deadline = s.deadline;
     let mut stamp = s.stamp;
     let clock = s.clock;
-    let answer = wheel::set_entry(
+    let answer = lends::set_entry(
+        nodes,
+        clock,
         &heads,
         &tails,
-        &next,
-        &prev,
-        &bucket,
-        &entry,
-        &generation,
-        &serial,
         &mut dated,
         &mut deadline,
         &mut stamp,
-        clock,
         e,
         true,
         due,
@@ -71,12 +54,7 @@ pub fn set(s: Held, e: usize, due: u64, h: u32) -> Noting
     let after = Held {
         heads,
         tails,
-        next,
-        prev,
-        bucket,
-        entry,
-        generation,
-        serial,
+        nodes,
         dated,
         deadline,
         stamp,
@@ -91,42 +69,29 @@ pub fn schedule(s: Held, e: usize, h: u32) -> Arming
 {
     let mut heads = s.heads;
     let mut tails = s.tails;
-    let mut next = s.next;
-    let mut prev = s.prev;
-    let mut bucket = s.bucket;
-    let mut entry = s.entry;
-    let mut generation = s.generation;
-    let mut serial = s.serial;
+    let nodes = s.nodes;
     let dated = s.dated;
     let deadline = s.deadline;
     let stamp = s.stamp;
     let clock = s.clock;
-    let answer = wheel::schedule(
+    let left = lends::schedule(
+        nodes,
+        clock,
         &mut heads,
         &mut tails,
-        &mut next,
-        &mut prev,
-        &mut bucket,
-        &mut entry,
-        &mut generation,
-        &mut serial,
         &dated,
         &deadline,
         &stamp,
-        clock,
         e,
         h,
     );
-    let clock = after_schedule(clock, answer);
+    let nodes = left.nodes;
+    let clock = left.clock;
+    let answer = left.answer;
     let after = Held {
         heads,
         tails,
-        next,
-        prev,
-        bucket,
-        entry,
-        generation,
-        serial,
+        nodes,
         dated,
         deadline,
         stamp,
@@ -136,87 +101,67 @@ pub fn schedule(s: Held, e: usize, h: u32) -> Arming
 }
 
 // Cancels the timer with the handle (slot, number).
-pub fn deschedule(s: Held, slot: usize, number: u64, h: u32) -> Timing
-    ensures { λ r. ⌜ Promised (deschedule slot number h) (held s) (held (r .after)) (timedSays (r .answer)) ⌝ }
+pub fn deschedule(s: Held, slot: usize, number: u64, h: u32) -> Noting
+    ensures { λ r. ⌜ Promised (deschedule slot number h) (held s) (held (r .after)) (notedSays (r .answer)) ⌝ }
 {
     let mut heads = s.heads;
     let mut tails = s.tails;
-    let mut next = s.next;
-    let mut prev = s.prev;
-    let mut bucket = s.bucket;
-    let mut entry = s.entry;
-    let mut generation = s.generation;
-    let mut serial = s.serial;
+    let nodes = s.nodes;
     let dated = s.dated;
     let deadline = s.deadline;
     let stamp = s.stamp;
     let clock = s.clock;
-    let answer = wheel::deschedule(
+    let left = lends::deschedule(
+        nodes,
+        clock,
         &mut heads,
         &mut tails,
-        &mut next,
-        &mut prev,
-        &mut bucket,
-        &mut entry,
-        &mut generation,
-        &mut serial,
         &dated,
         &deadline,
         &stamp,
-        clock,
         slot,
         number,
         h,
     );
-    let clock = after_timed(clock, answer);
+    let nodes = left.nodes;
+    let clock = left.clock;
+    let answer = left.answer;
     let after = Held {
         heads,
         tails,
-        next,
-        prev,
-        bucket,
-        entry,
-        generation,
-        serial,
+        nodes,
         dated,
         deadline,
         stamp,
         clock,
     };
-    Timing { after, answer }
+    Noting { after, answer }
 }
 
 // Opens an advance to q.
-pub fn start(s: Held, q: u64) -> Timed
-    ensures { λ r. ⌜ Promised (start q) (held s) (later s (timedClock (s .clock) r)) (timedSays r) ⌝ }
+pub fn start(s: Held, q: u64) -> Noting
+    ensures { λ r. ⌜ Promised (start q) (held s) (held (r .after)) (notedSays (r .answer)) ⌝ }
 {
     let heads = s.heads;
     let tails = s.tails;
-    let next = s.next;
-    let prev = s.prev;
-    let bucket = s.bucket;
-    let entry = s.entry;
-    let generation = s.generation;
-    let serial = s.serial;
+    let nodes = s.nodes;
     let dated = s.dated;
     let deadline = s.deadline;
     let stamp = s.stamp;
     let clock = s.clock;
-    wheel::start(
-        &heads,
-        &tails,
-        &next,
-        &prev,
-        &bucket,
-        &entry,
-        &generation,
-        &serial,
-        &dated,
-        &deadline,
-        &stamp,
+    let left = lends::start(nodes, clock, &heads, &tails, &dated, &deadline, &stamp, q);
+    let clock = left.clock;
+    let answer = left.answer;
+    let after = Held {
+        heads,
+        tails,
+        nodes,
+        dated,
+        deadline,
+        stamp,
         clock,
-        q,
-    )
+    };
+    Noting { after, answer }
 }
 
 // One event of the advance, or End.
@@ -225,40 +170,27 @@ pub fn pull(s: Held) -> Pulling
 {
     let mut heads = s.heads;
     let mut tails = s.tails;
-    let mut next = s.next;
-    let mut prev = s.prev;
-    let mut bucket = s.bucket;
-    let mut entry = s.entry;
-    let mut generation = s.generation;
-    let mut serial = s.serial;
+    let nodes = s.nodes;
     let dated = s.dated;
     let deadline = s.deadline;
     let stamp = s.stamp;
     let clock = s.clock;
-    let answer = wheel::pull(
+    let left = lends::pull(
+        nodes,
+        clock,
         &mut heads,
         &mut tails,
-        &mut next,
-        &mut prev,
-        &mut bucket,
-        &mut entry,
-        &mut generation,
-        &mut serial,
         &dated,
         &deadline,
         &stamp,
-        clock,
     );
-    let clock = after_pull(clock, answer);
+    let nodes = left.nodes;
+    let clock = left.clock;
+    let answer = left.answer;
     let after = Held {
         heads,
         tails,
-        next,
-        prev,
-        bucket,
-        entry,
-        generation,
-        serial,
+        nodes,
         dated,
         deadline,
         stamp,
@@ -268,35 +200,29 @@ pub fn pull(s: Held) -> Pulling
 }
 
 // Abandons the advance.
-pub fn abandon(s: Held) -> Timed
-    ensures { λ r. ⌜ Promised abandon (held s) (later s (timedClock (s .clock) r)) (timedSays r) ⌝ }
+pub fn abandon(s: Held) -> Noting
+    ensures { λ r. ⌜ Promised abandon (held s) (held (r .after)) (notedSays (r .answer)) ⌝ }
 {
     let heads = s.heads;
     let tails = s.tails;
-    let next = s.next;
-    let prev = s.prev;
-    let bucket = s.bucket;
-    let entry = s.entry;
-    let generation = s.generation;
-    let serial = s.serial;
+    let nodes = s.nodes;
     let dated = s.dated;
     let deadline = s.deadline;
     let stamp = s.stamp;
     let clock = s.clock;
-    wheel::abandon(
-        &heads,
-        &tails,
-        &next,
-        &prev,
-        &bucket,
-        &entry,
-        &generation,
-        &serial,
-        &dated,
-        &deadline,
-        &stamp,
+    let left = lends::abandon(nodes, clock, &heads, &tails, &dated, &deadline, &stamp);
+    let clock = left.clock;
+    let answer = left.answer;
+    let after = Held {
+        heads,
+        tails,
+        nodes,
+        dated,
+        deadline,
+        stamp,
         clock,
-    )
+    };
+    Noting { after, answer }
 }
 
 // How many timers are armed.
@@ -305,28 +231,10 @@ pub fn armed_count(s: Held) -> Counted
 {
     let heads = s.heads;
     let tails = s.tails;
-    let next = s.next;
-    let prev = s.prev;
-    let bucket = s.bucket;
-    let entry = s.entry;
-    let generation = s.generation;
-    let serial = s.serial;
+    let nodes = s.nodes;
     let dated = s.dated;
     let deadline = s.deadline;
     let stamp = s.stamp;
     let clock = s.clock;
-    wheel::armed_count(
-        &heads,
-        &tails,
-        &next,
-        &prev,
-        &bucket,
-        &entry,
-        &generation,
-        &serial,
-        &dated,
-        &deadline,
-        &stamp,
-        clock,
-    )
+    lends::armed_count(nodes, clock, &heads, &tails, &dated, &deadline, &stamp)
 }

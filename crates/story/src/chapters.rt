@@ -3,7 +3,6 @@
 ghost use Rattle.story.specs.Held.{held};
 ghost use Rattle.story.specs.Story.{Reached, begun, Watched, cancelled, abandoned, tooEarly, steppedBack, handedOut};
 use crate::answers::is_count;
-use crate::answers::is_done;
 use crate::answers::is_end;
 use crate::answers::is_expired;
 use crate::answers::is_handle;
@@ -17,7 +16,6 @@ use crate::calls::pull;
 use crate::calls::schedule;
 use crate::calls::set;
 use crate::calls::start;
-use crate::clocks::clocked;
 use crate::held::Held;
 use crate::making::create;
 use crate::making::enable;
@@ -35,7 +33,7 @@ pub fn begin() -> Held
     let s = create(7);
     let t = enable(s);
     let answer = t.answer;
-    check::expect(is_done(answer));
+    check::expect(is_noted(answer));
     t.after
 }
 
@@ -69,7 +67,7 @@ pub fn cancel_another(s: Held) -> Held
     let s = arming.after;
     let timing = deschedule(s, 166, 8, 3);
     let done = timing.answer;
-    check::expect(is_done(done));
+    check::expect(is_noted(done));
     let s = timing.after;
     let again = deschedule(s, 166, 8, 3);
     let stale = again.answer;
@@ -82,12 +80,14 @@ pub fn abandon_one(s: Held) -> Held
     requires { ⌜ Reached cancelled (held s) ⌝ }
     ensures { λ r. ⌜ Reached abandoned (held r) ⌝ }
 {
-    let opened = start(s, 2 * TICK);
-    check::expect(is_done(opened));
-    let s = clocked(s, opened);
-    let left = abandon(s);
-    check::expect(is_done(left));
-    let s = clocked(s, left);
+    let opening = start(s, 2 * TICK);
+    let opened = opening.answer;
+    check::expect(is_noted(opened));
+    let s = opening.after;
+    let leaving = abandon(s);
+    let left = leaving.answer;
+    check::expect(is_noted(left));
+    let s = leaving.after;
     let clock = s.clock;
     check::expect(clock.reading == 0);
     s
@@ -98,9 +98,10 @@ pub fn come_too_early(s: Held) -> Held
     requires { ⌜ Reached abandoned (held s) ⌝ }
     ensures { λ r. ⌜ Reached tooEarly (held r) ⌝ }
 {
-    let opened = start(s, DUE - 1);
-    check::expect(is_done(opened));
-    let s = clocked(s, opened);
+    let opening = start(s, DUE - 1);
+    let opened = opening.answer;
+    check::expect(is_noted(opened));
+    let s = opening.after;
     let pulling = pull(s);
     let event = pulling.answer;
     check::expect(is_moved(event, 0, 7, 1));
@@ -116,9 +117,10 @@ pub fn step_back(s: Held) -> Held
     requires { ⌜ Reached tooEarly (held s) ⌝ }
     ensures { λ r. ⌜ Reached steppedBack (held r) ⌝ }
 {
-    let opened = start(s, 5);
-    check::expect(is_done(opened));
-    let s = clocked(s, opened);
+    let opening = start(s, 5);
+    let opened = opening.answer;
+    check::expect(is_noted(opened));
+    let s = opening.after;
     let ending = pull(s);
     let last = ending.answer;
     check::expect(is_end(last));
@@ -133,9 +135,10 @@ pub fn hand_out(s: Held) -> Held
     requires { ⌜ Reached steppedBack (held s) ⌝ }
     ensures { λ r. ⌜ Reached handedOut (held r) ⌝ }
 {
-    let opened = start(s, 2 * TICK);
-    check::expect(is_done(opened));
-    let s = clocked(s, opened);
+    let opening = start(s, 2 * TICK);
+    let opened = opening.answer;
+    check::expect(is_noted(opened));
+    let s = opening.after;
     let pulling = pull(s);
     let event = pulling.answer;
     check::expect(is_expired(event, 0, 7, DUE));

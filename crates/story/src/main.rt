@@ -4,8 +4,8 @@
 mod answers; // whether an answer is the one that is expected
 mod calls; // the calls on an enabled wheel
 mod chapters;
-mod clocks; // the clock that holds after a call
 mod held; // the records
+mod lends; // the face's calls on nodes and a clock held by value
 mod making; // create, enable
 
 use crate::chapters::abandon_one;

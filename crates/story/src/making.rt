@@ -1,11 +1,12 @@
 // Create and enable on held records, each with the wheel's own promise.
 ghost use mathlib.Core.Bool.{true};
 ghost use Rattle.rules.specs.Wheel.{create, enable, ok};
-ghost use Rattle.wheel_rules.specs.Promise.{timedSays, Promised};
+ghost use Rattle.wheel_rules.specs.Promise.{notedSays, Promised};
 ghost use Rattle.story.specs.Held.{held};
-use crate::calls::Timing;
-use crate::clocks::after_timed;
+use crate::calls::Noting;
 use crate::held::Held;
+use crate::lends;
+use face_rules::Node;
 
 // Begins a wheel with this first serial: the records are as a create leaves them.
 pub fn create(first: u64) -> Held
@@ -14,12 +15,15 @@ pub fn create(first: u64) -> Held
     let made = wheel::create(first);
     let heads = made.heads;
     let tails = made.tails;
-    let next = [0usize; 168];
-    let prev = [0usize; 168];
-    let bucket = [0usize; 168];
-    let entry = [0usize; 168];
-    let generation = [0u32; 168];
-    let serial = [0u64; 168];
+    let node = Node {
+        next: 0,
+        prev: 0,
+        bucket: 0,
+        entry: 0,
+        generation: 0,
+        serial: 0,
+    };
+    let nodes = [node; 168];
     let dated = [false; 2];
     let deadline = [0u64; 2];
     let stamp = [0u32; 2];
@@ -27,12 +31,7 @@ pub fn create(first: u64) -> Held
     Held {
         heads,
         tails,
-        next,
-        prev,
-        bucket,
-        entry,
-        generation,
-        serial,
+        nodes,
         dated,
         deadline,
         stamp,
@@ -41,49 +40,36 @@ pub fn create(first: u64) -> Held
 }
 
 // Enables the wheel over the held records.
-pub fn enable(s: Held) -> Timing
-    ensures { λ r. ⌜ Promised (enable 168 2 true) (held s) (held (r .after)) (timedSays (r .answer)) ⌝ }
+pub fn enable(s: Held) -> Noting
+    ensures { λ r. ⌜ Promised (enable 168 2 true) (held s) (held (r .after)) (notedSays (r .answer)) ⌝ }
 {
     let mut heads = s.heads;
     let mut tails = s.tails;
-    let mut next = s.next;
-    let mut prev = s.prev;
-    let mut bucket = s.bucket;
-    let mut entry = s.entry;
-    let mut generation = s.generation;
-    let mut serial = s.serial;
+    let nodes = s.nodes;
     let mut dated = s.dated;
     let mut deadline = s.deadline;
     let mut stamp = s.stamp;
     let clock = s.clock;
-    let answer = wheel::enable(
+    let left = lends::enable(
+        nodes,
+        clock,
         &mut heads,
         &mut tails,
-        &mut next,
-        &mut prev,
-        &mut bucket,
-        &mut entry,
-        &mut generation,
-        &mut serial,
         &mut dated,
         &mut deadline,
         &mut stamp,
-        clock,
     );
-    let clock = after_timed(clock, answer);
+    let nodes = left.nodes;
+    let clock = left.clock;
+    let answer = left.answer;
     let after = Held {
         heads,
         tails,
-        next,
-        prev,
-        bucket,
-        entry,
-        generation,
-        serial,
+        nodes,
         dated,
         deadline,
         stamp,
         clock,
     };
-    Timing { after, answer }
+    Noting { after, answer }
 }

@@ -43,7 +43,7 @@ use denote.Triple.Table.{entered, cited}
 use denote.Triple.Walked.{says, Stays, walkOf, Walks, ends-at, walked, walk-meets}
 use Rattle.nodes.proofs.Passing.{passed-on}
 use Rattle.nodes.proofs.Lending.{Lease, lft-of}
-use Rattle.held.proofs.Lending.{ref-of, Shared, shares-array, array-room, Here, LentValue, lends-value, value-back}
+use Rattle.story.proofs.Locals.{ref-of, Shared, shares-array, array-room, Here, LentValue, lends-value, value-back}
 use Rattle.face_rules.specs.declared.Node.{Node}
 use Rattle.wheel_rules.specs.declared.calls.Clock.{Clock}
 use Rattle.wheel_rules.specs.declared.calls.Noted.{Noted}
@@ -62,10 +62,10 @@ use Rattle.face.proofs.advancing.abandon as calls
 use Rattle.face.proofs.advancing.abandon.Symbol as call-def
 use Rattle.face.proofs.advancing.abandon.Symbol.{name as #call}
 use Rattle.face.proofs.advancing.abandon.Met as call-thm
-use Rattle.held.proofs.abandon.Key.{name as #held}
-use Rattle.held.proofs.abandon as held
-use Rattle.held.proofs.abandon.Statement as stated
-use Rattle.held.proofs.abandon.Code as code
+use Rattle.story.proofs.lends.abandon.Key.{name as #held}
+use Rattle.story.proofs.lends.abandon as held
+use Rattle.story.proofs.lends.abandon.Statement as stated
+use Rattle.story.proofs.lends.abandon.Code as code
 
 abbrev stayed : Stays (held.ended .signature .params) (held.ended .kept)
 stayed = (passed-on _ _, (passed-on _ _, (passed-on _ _, (passed-on _ _, (passed-on _ _, (passed-on _ _, (passed-on _ _, tt)))))))
@@ -88,15 +88,28 @@ module _ {M : Type 1} (𝓤 : URA M) (H : Heap 𝓤) (A : Atoms 𝓤) (W : Given
     (q₀ q₁ q₂ q₃ q₄ : Share)
     (x₁ : List Node) (x₂ : Clock) (x₃ : RefT (List ℕ)) (x₄ : RefT (List ℕ)) (x₅ : RefT (List Bool)) (x₆ : RefT (List ℕ)) (x₇ : RefT (List ℕ))
     (was₁ : Is (Array T.the-row 168) x₁ (many x₁)) (was₂ : Is K.the-row x₂ (vals x₂)) (room₃ : Room usize (length (x₃ .now)))
-        (room₄ : Room usize (length (x₄ .now))) (room₅ : Room bool (length (x₅ .now))) (room₆ : Room u64 (length (x₆ .now)))
-        (room₇ : Room u32 (length (x₇ .now))) where
+    (room₄ : Room usize (length (x₄ .now))) (room₅ : Room bool (length (x₅ .now))) (room₆ : Room u64 (length (x₆ .now)))
+    (room₇ : Room u32 (length (x₇ .now))) where
   abbrev x : (List Node × (Clock × (RefT (List ℕ) × (RefT (List ℕ) × (RefT (List Bool) × (RefT (List ℕ) × (RefT (List ℕ) × Unit {0})))))))
   x = (x₁, (x₂, (x₃, (x₄, (x₅, (x₆, (x₇, tt)))))))
 
   abbrev at : (List Val × (List Val × (List Val × (List Val × (List Val × (List Val × (List Val × Unit {0})))))))
-  at = (many x₁, (vals x₂, (sliceVal (x₃ .ptr) (length (x₃ .now)) ∷ [],
-      (sliceVal (x₄ .ptr) (length (x₄ .now)) ∷ [], (sliceVal (x₅ .ptr) (length (x₅ .now)) ∷ [],
-      (sliceVal (x₆ .ptr) (length (x₆ .now)) ∷ [], (sliceVal (x₇ .ptr) (length (x₇ .now)) ∷ [], tt)))))))
+  at = (
+    many x₁,
+    (
+      vals x₂,
+      (
+        sliceVal (x₃ .ptr) (length (x₃ .now)) ∷ [],
+        (
+          sliceVal (x₄ .ptr) (length (x₄ .now)) ∷ [],
+          (
+            sliceVal (x₅ .ptr) (length (x₅ .now)) ∷ [],
+            (sliceVal (x₆ .ptr) (length (x₆ .now)) ∷ [], (sliceVal (x₇ .ptr) (length (x₇ .now)) ∷ [], tt)),
+          ),
+        ),
+      ),
+    ),
+  )
 
   typed₁ : Holds (hasTy (tyArray T′.mir 168) (only (many x₁))) × WT (only (many x₁))
   typed₁ = array-lawful 𝓤 H A W T.the-row (LL.lawful T.the-type T′.the-laws 𝓤 H A W) 168 .typed x₁ _ was₁ .0
@@ -118,9 +131,19 @@ module _ {M : Type 1} (𝓤 : URA M) (H : Heap 𝓤) (A : Atoms 𝓤) (W : Given
     given = (ref-of b₁ (w₁ .name) x₁, (ref-of b₂ (w₂ .name) x₂, (x₃, (x₄, (x₅, (x₆, (x₇, tt)))))))
 
     abbrev given-at : (List Val × (List Val × (List Val × (List Val × (List Val × (List Val × (List Val × Unit {0})))))))
-    given-at = (sliceVal (b₁, 0) 168 ∷ [], (vptr b₂ 0 ∷ [],
-        (sliceVal (x₃ .ptr) (length (x₃ .now)) ∷ [], (sliceVal (x₄ .ptr) (length (x₄ .now)) ∷ [],
-        (sliceVal (x₅ .ptr) (length (x₅ .now)) ∷ [], (sliceVal (x₆ .ptr) (length (x₆ .now)) ∷ [], (sliceVal (x₇ .ptr) (length (x₇ .now)) ∷ [], tt)))))))
+    given-at = (
+      sliceVal (b₁, 0) 168 ∷ [],
+      (
+        vptr b₂ 0 ∷ [],
+        (
+          sliceVal (x₃ .ptr) (length (x₃ .now)) ∷ [],
+          (
+            sliceVal (x₄ .ptr) (length (x₄ .now)) ∷ [],
+            (sliceVal (x₅ .ptr) (length (x₅ .now)) ∷ [], (sliceVal (x₆ .ptr) (length (x₆ .now)) ∷ [], (sliceVal (x₇ .ptr) (length (x₇ .now)) ∷ [], tt))),
+          ),
+        ),
+      ),
+    )
 
     abbrev Tokens : Item 𝓤
     Tokens = ‵ (flft (lft-of w₁) fullShare) ⊛ ‵ (flft (lft-of w₂) fullShare) ⊛ ‵ (flft κ₀ q₀) ⊛ ‵ (flft κ₁ q₁) ⊛ ‵ (flft κ₂ q₂) ⊛ ‵ (flft κ₃ q₃) ⊛ ‵
@@ -153,17 +176,19 @@ module _ {M : Type 1} (𝓤 : URA M) (H : Heap 𝓤) (A : Atoms 𝓤) (W : Given
     exits ws u does v₂ is₂ z is =
         qed W (‵ ftrue ∷ ‵ ftrue ∷ ‵ ftrue ∷ ‵ ftrue ∷ ‵ ftrue ∷ ‵ (flft κ₀ q₀) ∷ ‵ (flft κ₁ q₁) ∷ ‵ (flft κ₂ q₂) ∷ ‵ (flft κ₃ q₃) ∷ ‵ (flft κ₄ q₄) ∷ []) ∵
         suffices ! _ (ends-at 𝓤 H A held.ended stayed (held.clauses 𝓤 H A at-mem run) W
-            (((κ₀, (κ₁, (κ₂, (κ₃, (κ₄, tt))))), (q₀, (q₁, (q₂, (q₃, (q₄, tt))))), tt, x, at), tt) (vstruct (ofList (v₂ ∷ z ∷ [])))
-            (record { clock = ws .1 .0; answer = u }) (tt,
-            (tt, (ws .1 .1 .0, (ws .1 .1 .1 .0, (ws .1 .1 .1 .1 .0, (ws .1 .1 .1 .1 .1 .0, (ws .1 .1 .1 .1 .1 .1 .0, tt)))))))
-            (tt, (tt, (tt, (tt, (tt, (tt, (tt, tt)))))))) $
+        (((κ₀, (κ₁, (κ₂, (κ₃, (κ₄, tt))))), (q₀, (q₁, (q₂, (q₃, (q₄, tt))))), tt, x, at), tt) (vstruct (ofList (v₂ ∷ z ∷ [])))
+        (record { clock = ws .1 .0; answer = u }) (
+          tt,
+          (tt, (ws .1 .1 .0, (ws .1 .1 .1 .0, (ws .1 .1 .1 .1 .0, (ws .1 .1 .1 .1 .1 .0, (ws .1 .1 .1 .1 .1 .1 .0, tt)))))),
+        )
+        (tt, (tt, (tt, (tt, (tt, (tt, (tt, tt)))))))) $
         says ! does $
         nothing ! $ move ! (10 ∷ 0 ∷ []) $ join ! $ move ! (9 ∷ 0 ∷ []) $ join ! $ move ! (8 ∷ 0 ∷ []) $ join ! $ move ! (7 ∷ 0 ∷ []) $ join ! $ move !
-            (6 ∷ 0 ∷ []) $ join ! $ frame ! $
+        (6 ∷ 0 ∷ []) $ join ! $ frame ! $
         nothing ! $ move ! (5 ∷ 0 ∷ []) $ fjoin ! $ move ! (4 ∷ 0 ∷ []) $ fjoin ! $ move ! (3 ∷ 0 ∷ []) $ fjoin ! $ move ! (2 ∷ 0 ∷ []) $ fjoin ! $ move !
-            (1 ∷ 0 ∷ []) $ fjoin ! $ nothing ! $ fjoin ! $ nothing ! $ fjoin ! $
+        (1 ∷ 0 ∷ []) $ fjoin ! $ nothing ! $ fjoin ! $ nothing ! $ fjoin ! $
         owned ! U.the-row (Is U.the-row) (LL.makes U.the-type U′.the-plain 𝓤 H A) (record { clock = ws .1 .0; answer = u }) _ (is-result ws u v₂ is₂ z is) $
-            move ! (1 ∷ 0 ∷ []) $ done !
+        move ! (1 ∷ 0 ∷ []) $ done !
 
   module _ (C : Calls 𝓤 H) (Λ : Loops 𝓤 H) (fm : FmC 𝓤 H (W .laws) C) (known-call : Triple 𝓤 (C #call) (Call 𝓤 H A at-mem run)) where
     walk : ent 𝓤 (onEntry 𝓤 H A held.signature (κ₀, (κ₁, (κ₂, (κ₃, (κ₄, tt))))) (q₀, (q₁, (q₂, (q₃, (q₄, tt))))) x at)
@@ -171,75 +196,75 @@ module _ {M : Type 1} (𝓤 : URA M) (H : Heap 𝓤) (A : Atoms 𝓤) (W : Given
         (x₅ .ptr) (length (x₅ .now)) ∷ sliceVal (x₆ .ptr) (length (x₆ .now)) ∷ sliceVal (x₇ .ptr) (length (x₇ .now)) ∷ []) Post)
     walk =
         qed W ((‵ (flft κ₀ q₀) ⊛ ‵ (flft κ₁ q₁) ⊛ ‵ (flft κ₂ q₂) ⊛ ‵ (flft κ₃ q₃) ⊛ ‵ (flft κ₄ q₄) ⊛ ‵ ftrue) ∷ ‵
-            (owns (Array T.the-row 168 ∷ K.the-row ∷ ShrSlice (named 0) κ₀ usize ∷ ShrSlice (named 1) κ₁ usize ∷ ShrSlice (named 2) κ₂ bool ∷ ShrSlice
-            (named 3) κ₃ u64 ∷ ShrSlice (named 4) κ₄ u32 ∷ []) x at) ∷ []) ∵ enter ! C Λ code.function
-            (only (many x₁) ∷ only (vals x₂) ∷ sliceVal (x₃ .ptr) (length (x₃ .now)) ∷ sliceVal (x₄ .ptr) (length (x₄ .now)) ∷ sliceVal (x₅ .ptr)
-            (length (x₅ .now)) ∷ sliceVal (x₆ .ptr) (length (x₆ .now)) ∷ sliceVal (x₇ .ptr) (length (x₇ .now)) ∷ []) _ $
+        (owns (Array T.the-row 168 ∷ K.the-row ∷ ShrSlice (named 0) κ₀ usize ∷ ShrSlice (named 1) κ₁ usize ∷ ShrSlice (named 2) κ₂ bool ∷ ShrSlice
+        (named 3) κ₃ u64 ∷ ShrSlice (named 4) κ₄ u32 ∷ []) x at) ∷ []) ∵ enter ! C Λ code.function
+        (only (many x₁) ∷ only (vals x₂) ∷ sliceVal (x₃ .ptr) (length (x₃ .now)) ∷ sliceVal (x₄ .ptr) (length (x₄ .now)) ∷ sliceVal (x₅ .ptr)
+        (length (x₅ .now)) ∷ sliceVal (x₆ .ptr) (length (x₆ .now)) ∷ sliceVal (x₇ .ptr) (length (x₇ .now)) ∷ []) _ $
         alloc1 ! (λ l₀. alloc1 ! (λ l₁. alloc1 ! (λ l₂. alloc1 !
-            (λ l₃. alloc1 ! (λ l₄. alloc1 ! (λ l₅. alloc1 !
-            (λ l₆. alloc1 ! (λ l₇. alloc1 ! (λ l₈. alloc1 !
-            (λ l₉. alloc1 ! (λ l₁₀. alloc1 ! (λ l₁₁. alloc1 ! (λ l₁₂. alloc1 ! (λ l₁₃. alloc1 ! (λ l₁₄. alloc0 ! $ params1 ! $
+        (λ l₃. alloc1 ! (λ l₄. alloc1 ! (λ l₅. alloc1 !
+        (λ l₆. alloc1 ! (λ l₇. alloc1 ! (λ l₈. alloc1 !
+        (λ l₉. alloc1 ! (λ l₁₀. alloc1 ! (λ l₁₁. alloc1 ! (λ l₁₂. alloc1 ! (λ l₁₃. alloc1 ! (λ l₁₄. alloc0 ! $ params1 ! $
         pass1 ! (init ! 26 refl typed₁) $ pass1 ! (init ! 24 refl typed₂) $ pass1 ! (init ! 22 refl (tt, (tt, (record { fits = room₃ .0 }, tt)))) $ pass1 !
-            (init ! 20 refl (tt, (tt, (record { fits = room₄ .0 }, tt)))) $ pass1 ! (init ! 18 refl (tt, (tt, (record { fits = room₅ .0 }, tt)))) $ pass1 !
-            (init ! 16 refl (tt, (tt, (record { fits = room₆ .0 }, tt)))) $ pass1 ! (init ! 14 refl (tt, (tt, (record { fits = room₇ .0 }, tt)))) $ pass0 ! $
+        (init ! 20 refl (tt, (tt, (record { fits = room₄ .0 }, tt)))) $ pass1 ! (init ! 18 refl (tt, (tt, (record { fits = room₅ .0 }, tt)))) $ pass1 !
+        (init ! 16 refl (tt, (tt, (record { fits = room₆ .0 }, tt)))) $ pass1 ! (init ! 14 refl (tt, (tt, (record { fits = room₇ .0 }, tt)))) $ pass0 ! $
         assigns ! (of-opd ! (load ! (from ! (stop !)) (look ! 26 refl))) (from ! (stop !)) (init ! 12 refl typed₁) $
         assigns ! (of-opd ! (load ! (from ! (stop !)) (look ! 24 refl))) (from ! (stop !)) (init ! 10 refl typed₂) $
         -- the nodes and the clock are lent, each for a lifetime of its own
         assigns ! (addr ! (from ! (stop !))) (from ! (stop !)) (init ! 6 refl (tt, tt)) $
         assigns ! (agg ! (and-then ! (load ! (from ! (stop !)) (look ! 6 refl)) (and-then ! (lit ! tt) (no-more !)))) (from ! (stop !))
-            (init ! 4 refl (tt, (tt, (record { fits = lit< tt }, tt)))) $
+        (init ! 4 refl (tt, (tt, (record { fits = lit< tt }, tt)))) $
         assigns ! (addr ! (from ! (stop !))) (from ! (stop !)) (init ! 2 refl (tt, tt)) $
         move ! (31 ∷ []) $ fsplit ! $ move ! (1 ∷ []) $ fsplit ! $ move ! (1 ∷ []) $ fsplit ! $ move ! (1 ∷ []) $ fsplit ! $ move ! (1 ∷ []) $ fsplit ! $ move
-            ! (1 ∷ []) $ fsplit ! $ move ! (1 ∷ []) $ fsplit ! $ move ! (1 ∷ []) $ drop ! $
+        ! (1 ∷ []) $ fsplit ! $ move ! (1 ∷ []) $ fsplit ! $ move ! (1 ∷ []) $ drop ! $
         move ! (37 ∷ []) $ split ! $ move ! (1 ∷ []) $ split ! $ move ! (1 ∷ []) $ split ! $ move ! (1 ∷ []) $ split ! $ move ! (1 ∷ []) $ split ! $ move !
-            (1 ∷ []) $ drop ! $
+        (1 ∷ []) $ drop ! $
         move ! (24 ∷ 11 ∷ []) $ use2 W (later (some (Shared 𝓤 H A W T.the-row 168 l₈ tt room (named 0) x₁ (was₁ .1 .0 .1))))
-            (shares-array 𝓤 H A W T.the-row 168 l₈ tt room (named 0) x₁ (was₁ .1 .0 .1) _) $ await ! tt $ pick ! (λ w₁. split ! $ move ! (1 ∷ []) $ split ! $
+        (shares-array 𝓤 H A W T.the-row 168 l₈ tt room (named 0) x₁ (was₁ .1 .0 .1) _) $ await ! tt $ pick ! (λ w₁. split ! $ move ! (1 ∷ []) $ split ! $
         move ! (24 ∷ 13 ∷ []) $ use2 W (later (some (LentValue 𝓤 H A W K.the-row refl (named 1) l₉ x₂))) (lends-value 𝓤 H A W K.the-row refl (named 1) l₉ x₂ _)
-            $ await ! tt $ pick ! (λ w₂. split ! $ move ! (1 ∷ []) $ split ! $
+        $ await ! tt $ pick ! (λ w₂. split ! $ move ! (1 ∷ []) $ split ! $
         -- `abandon`
         nothing ! $ move ! (12 ∷ 0 ∷ []) $ fjoin ! $ move ! (12 ∷ 0 ∷ []) $ fjoin ! $ move ! (12 ∷ 0 ∷ []) $ fjoin ! $ move ! (12 ∷ 0 ∷ []) $ fjoin ! $ move !
-            (12 ∷ 0 ∷ []) $ fjoin ! $ move ! (1 ∷ 0 ∷ []) $ fjoin ! $ move ! (3 ∷ 0 ∷ []) $ fjoin ! $
+        (12 ∷ 0 ∷ []) $ fjoin ! $ move ! (1 ∷ 0 ∷ []) $ fjoin ! $ move ! (3 ∷ 0 ∷ []) $ fjoin ! $
         nothing ! $ move ! (6 ∷ 0 ∷ []) $ join ! $ move ! (6 ∷ 0 ∷ []) $ join ! $ move ! (6 ∷ 0 ∷ []) $ join ! $ move ! (6 ∷ 0 ∷ []) $ join ! $ move !
-            (6 ∷ 0 ∷ []) $ join ! $ move ! (3 ∷ 0 ∷ []) $ join ! $ move ! (4 ∷ 0 ∷ []) $ join ! $
+        (6 ∷ 0 ∷ []) $ join ! $ move ! (3 ∷ 0 ∷ []) $ join ! $ move ! (4 ∷ 0 ∷ []) $ join ! $
         use2 W (raw (Call 𝓤 H A at-mem run .pre (to-call l₈ w₁ l₉ w₂))) (goes-call l₈ w₁ l₉ w₂) $
         calls-at ! fm (Call 𝓤 H A at-mem run) known-call (to-call l₈ w₁ l₉ w₂)
         (and-then ! (load ! (from ! (stop !)) (look ! 7 refl))
-            (and-then ! (load ! (from ! (stop !)) (look ! 5 refl))
-            (and-then ! (load ! (from ! (stop !)) (look ! 23 refl))
-            (and-then ! (load ! (from ! (stop !)) (look ! 21 refl))
-            (and-then ! (load ! (from ! (stop !)) (look ! 19 refl))
-            (and-then ! (load ! (from ! (stop !)) (look ! 17 refl)) (and-then ! (load ! (from ! (stop !)) (look ! 15 refl)) (no-more !)))))))) (λ z.
+        (and-then ! (load ! (from ! (stop !)) (look ! 5 refl))
+        (and-then ! (load ! (from ! (stop !)) (look ! 23 refl))
+        (and-then ! (load ! (from ! (stop !)) (look ! 21 refl))
+        (and-then ! (load ! (from ! (stop !)) (look ! 19 refl))
+        (and-then ! (load ! (from ! (stop !)) (look ! 17 refl)) (and-then ! (load ! (from ! (stop !)) (look ! 15 refl)) (no-more !)))))))) (λ z.
         use1 W (later (some (λ (u : Noted). (Tokens l₈ w₁ l₉ w₂ ⊛ ‵ (E.the-row .own u (z ∷ []))) ⊛ raw
-            (ensured 𝓤 H A calls.ended (calls.clauses 𝓤 H A at-mem run) (lives l₈ w₁ l₉ w₂) (given l₈ w₁ l₉ w₂) tt u)))) (id⊢ 𝓤 _) $ await ! tt $ pick ! (λ u.
+        (ensured 𝓤 H A calls.ended (calls.clauses 𝓤 H A at-mem run) (lives l₈ w₁ l₉ w₂) (given l₈ w₁ l₉ w₂) tt u)))) (id⊢ 𝓤 _) $ await ! tt $ pick ! (λ u.
         split ! $ move ! (1 ∷ []) $ use1 W (some (λ (ws : Last l₈ w₁ l₉ w₂). ‵ (lasts calls.ended (lives l₈ w₁ l₉ w₂) (given l₈ w₁ l₉ w₂) ws) ⊛ raw
-            (fact 𝓤 (Does l₈ w₁ l₉ w₂ ws u)))) (id⊢ 𝓤 _) $ pick ! (λ ws. split ! $
+        (fact 𝓤 (Does l₈ w₁ l₉ w₂ ws u)))) (id⊢ 𝓤 _) $ pick ! (λ ws. split ! $
         move ! (1 ∷ []) $ heard ! (Does l₈ w₁ l₉ w₂ ws u) (λ does.
         move ! (1 ∷ []) $ split ! $
         move ! (1 ∷ []) $ peeks ! E.the-row (Is E.the-row) (shows 𝓤 H A E.the-row) u (z ∷ []) (λ is. drop ! $
         land ! (from ! (stop !)) (init ! 12 refl (EL.lawful E.the-type E′.the-laws 𝓤 H A W tt .typed u _ is .0)) $
         split ! $ move ! (1 ∷ []) $ split ! $ move ! (1 ∷ []) $ split ! $ move ! (1 ∷ []) $ split ! $ move ! (1 ∷ []) $ split ! $ move ! (1 ∷ []) $ split ! $
-            move ! (1 ∷ []) $ split ! $ move ! (1 ∷ []) $ drop ! $
+        move ! (1 ∷ []) $ split ! $ move ! (1 ∷ []) $ drop ! $
         move ! (7 ∷ []) $ fsplit ! $ move ! (1 ∷ []) $ fsplit ! $ move ! (1 ∷ []) $ fsplit ! $ move ! (1 ∷ []) $ fsplit ! $ move ! (1 ∷ []) $ fsplit ! $ move !
-            (1 ∷ []) $ fsplit ! $ move ! (1 ∷ []) $ fsplit ! $ move ! (1 ∷ []) $ drop ! $
+        (1 ∷ []) $ fsplit ! $ move ! (1 ∷ []) $ fsplit ! $ move ! (1 ∷ []) $ drop ! $
         -- they are back
         move ! (13 ∷ 15 ∷ []) $ use2 W (later (‵ (froom (tyArray (lone (T.the-row .mir)) 168) l₈ 0)))
-            (array-room 𝓤 H A W T.the-row 168 l₈ tt room (named 0) x₁ (was₁ .1 .0 .1) w₁) $ await ! tt $
+        (array-room 𝓤 H A W T.the-row 168 l₈ tt room (named 0) x₁ (was₁ .1 .0 .1) w₁) $ await ! tt $
         move ! (13 ∷ 14 ∷ 6 ∷ []) $ use3 W (later (some (Here 𝓤 H A W K.the-row refl (named 1) l₉ (ws .1 .0))))
-            (value-back 𝓤 H A W K.the-row refl (named 1) l₉ w₂ (ws .1 .0)) $ await ! tt $ pick ! (λ v₂. split ! $ move ! (1 ∷ []) $
+        (value-back 𝓤 H A W K.the-row refl (named 1) l₉ w₂ (ws .1 .0)) $ await ! tt $ pick ! (λ v₂. split ! $ move ! (1 ∷ []) $
         peeks ! K.the-row (Is K.the-row) (shows 𝓤 H A K.the-row) (ws .1 .0) (v₂ ∷ []) (λ is₂. drop ! $
         assigns ! (of-opd ! (load ! (from ! (stop !)) (look ! 0 refl))) (from ! (stop !))
-            (init ! 13 refl (LL.lawful K.the-type K′.the-laws 𝓤 H A W .typed (ws .1 .0) _ is₂ .0)) $
+        (init ! 13 refl (LL.lawful K.the-type K′.the-laws 𝓤 H A W .typed (ws .1 .0) _ is₂ .0)) $
         assigns ! (agg ! (and-then ! (load ! (from ! (stop !)) (look ! 13 refl)) (and-then ! (load ! (from ! (stop !)) (look ! 21 refl)) (no-more !))))
-            (from ! (stop !)) (init ! 39 refl (LL.lawful U.the-type U′.the-laws 𝓤 H A W .typed (record { clock = ws .1 .0; answer = u }) _
-            (is-result l₈ w₁ l₉ w₂ ws u v₂ is₂ z is) .0)) $
+        (from ! (stop !)) (init ! 39 refl (LL.lawful U.the-type U′.the-laws 𝓤 H A W .typed (record { clock = ws .1 .0; answer = u }) _
+        (is-result l₈ w₁ l₉ w₂ ws u v₂ is₂ z is) .0)) $
         returns ! (look ! 39 refl) $
         forget ! 39 refl $ forget ! 37 refl $ forget ! 35 refl $ forget ! 33 refl $ forget ! 31 refl $ forget ! 29 refl $ forget ! 27 refl $ forget ! 25 refl $
-            forget ! 0 refl $ forget ! 21 refl $ forget ! 19 refl $ forget ! 17 refl $ forget ! 15 refl $ forget ! 13 refl $
+        forget ! 0 refl $ forget ! 21 refl $ forget ! 19 refl $ forget ! 17 refl $ forget ! 15 refl $ forget ! 13 refl $
         move ! (39 ∷ 40 ∷ []) $ free1 ! $ move ! (37 ∷ 38 ∷ []) $ free1 ! $ move ! (35 ∷ 36 ∷ []) $ free1 ! $ move ! (33 ∷ 34 ∷ []) $ free1 ! $ move !
-            (31 ∷ 32 ∷ []) $ free1 ! $ move ! (29 ∷ 30 ∷ []) $ free1 ! $ move ! (27 ∷ 28 ∷ []) $ free1 ! $ move ! (25 ∷ 26 ∷ []) $ free1 ! $ move !
-            (1 ∷ 24 ∷ []) $ free1 ! $ move ! (0 ∷ 22 ∷ []) $ free1 ! $ move ! (19 ∷ 20 ∷ []) $ free1 ! $ move ! (17 ∷ 18 ∷ []) $ free1 ! $ move !
-            (15 ∷ 16 ∷ []) $ free1 ! $ move ! (13 ∷ 14 ∷ []) $ free1 ! $ move ! (11 ∷ 12 ∷ []) $ free1 ! $ free0 ! $
+        (31 ∷ 32 ∷ []) $ free1 ! $ move ! (29 ∷ 30 ∷ []) $ free1 ! $ move ! (27 ∷ 28 ∷ []) $ free1 ! $ move ! (25 ∷ 26 ∷ []) $ free1 ! $ move !
+        (1 ∷ 24 ∷ []) $ free1 ! $ move ! (0 ∷ 22 ∷ []) $ free1 ! $ move ! (19 ∷ 20 ∷ []) $ free1 ! $ move ! (17 ∷ 18 ∷ []) $ free1 ! $ move !
+        (15 ∷ 16 ∷ []) $ free1 ! $ move ! (13 ∷ 14 ∷ []) $ free1 ! $ move ! (11 ∷ 12 ∷ []) $ free1 ! $ free0 ! $
         keep ! (4 ∷ 3 ∷ 2 ∷ 1 ∷ 0 ∷ 10 ∷ 9 ∷ 8 ∷ 7 ∷ 6 ∷ []) $
         by ! (exits l₈ w₁ l₉ w₂ ws u does v₂ is₂ z is)))))))))))))))))))))))))
 
@@ -248,28 +273,51 @@ module _ {M : Type 1} (𝓤 : URA M) (H : Heap 𝓤) (A : Atoms 𝓤) (W : Given
       → Walks 𝓤 H A held.ended stayed (WpFn 𝓤 H C Λ code.function) (held.clauses 𝓤 H A at-mem run)
   held-walks C Λ fm known-call = walked 𝓤 H A held.ended stayed (held.clauses 𝓤 H A at-mem run) (WpFn 𝓤 H C Λ code.function)
       (λ κs. (many, (vals, (slice-vals, (slice-vals, (slice-vals, (slice-vals, (slice-vals, tt))))))))
-      (λ κs. (array-tells T.the-row (LL.vals T.the-type T′.the-laws) (LL.tells T.the-type T′.the-laws) 168,
-          (LL.tells K.the-type K′.the-laws, (shr-slice-tells (named 0) (κs .0) usize,
-          (shr-slice-tells (named 1) (κs .1 .0) usize,
-          (shr-slice-tells (named 2) (κs .1 .1 .0) bool,
-          (shr-slice-tells (named 3) (κs .1 .1 .1 .0) u64, (shr-slice-tells (named 4) (κs .1 .1 .1 .1 .0) u32, tt))))))))
+      (λ κs. (
+        array-tells T.the-row (LL.vals T.the-type T′.the-laws) (LL.tells T.the-type T′.the-laws) 168,
+        (
+          LL.tells K.the-type K′.the-laws,
+          (
+            shr-slice-tells (named 0) (κs .0) usize,
+            (
+              shr-slice-tells (named 1) (κs .1 .0) usize,
+              (
+                shr-slice-tells (named 2) (κs .1 .1 .0) bool,
+                (shr-slice-tells (named 3) (κs .1 .1 .1 .0) u64, (shr-slice-tells (named 4) (κs .1 .1 .1 .1 .0) u32, tt)),
+              ),
+            ),
+          ),
+        ),
+      ))
       (λ κs qs bounds a g are. via 𝓤 _ (fst∗ 𝓤 _ (emp 𝓤))
-          (walk 𝓤 H A W at-mem run (κs .0) (κs .1 .0) (κs .1 .1 .0) (κs .1 .1 .1 .0) (κs .1 .1 .1 .1 .0) (qs .0) (qs .1 .0) (qs .1 .1 .0) (qs .1 .1 .1 .0)
-          (qs .1 .1 .1 .1 .0)
+      (walk 𝓤 H A W at-mem run (κs .0) (κs .1 .0) (κs .1 .1 .0) (κs .1 .1 .1 .0) (κs .1 .1 .1 .1 .0) (qs .0) (qs .1 .0) (qs .1 .1 .0) (qs .1 .1 .1 .0)
+      (qs .1 .1 .1 .1 .0)
       (a .0) (a .1 .0) (a .1 .1 .0) (a .1 .1 .1 .0) (a .1 .1 .1 .1 .0) (a .1 .1 .1 .1 .1 .0) (a .1 .1 .1 .1 .1 .1 .0)
       (are .0) (are .1 .0) (are .1 .1 .0 .0 .1) (are .1 .1 .1 .0 .0 .1) (are .1 .1 .1 .1 .0 .0 .1) (are .1 .1 .1 .1 .1 .0 .0 .1)
-          (are .1 .1 .1 .1 .1 .1 .0 .0 .1) C Λ fm known-call))
+      (are .1 .1 .1 .1 .1 .1 .0 .0 .1) C Λ fm known-call))
 
 held-meets : {M : Type 1} (𝓤 : URA M) (H : Heap 𝓤) (A : Atoms 𝓤) → Given 𝓤 H A → (at-mem : Memory → SProp 𝓤) (run : Routine → Fun 𝓤) (𝓣 : Tables 𝓤 H) → Triple
     𝓤 (𝓣 .C #call) (Call 𝓤 H A at-mem run)
     → Meets 𝓤 H A held.signature (WpFn 𝓤 H (𝓣 .C) (𝓣 .Λ) code.function) (held.spec 𝓤 H A at-mem run)
 held-meets 𝓤 H A W at-mem run 𝓣 known-call =
-    walk-meets 𝓤 H A held.ended stayed W (λ κs y f vs fits. W .laws .⇛-intro _,
-        (λ κs y f vs fits. W .laws .⇛-intro _, (λ κs y f vs fits. W .laws .⇛-intro _,
-        (λ κs y f vs fits. W .laws .⇛-intro _, (λ κs y f vs fits. W .laws .⇛-intro _,
-        (λ κs y f vs fits. W .laws .⇛-intro _, (λ κs y f vs fits. W .laws .⇛-intro _, tt))))))) (held.clauses 𝓤 H A at-mem run)
+    walk-meets 𝓤 H A held.ended stayed W (
+      λ κs y f vs fits. W .laws .⇛-intro _,
+      (
+        λ κs y f vs fits. W .laws .⇛-intro _,
+        (
+          λ κs y f vs fits. W .laws .⇛-intro _,
+          (
+            λ κs y f vs fits. W .laws .⇛-intro _,
+            (
+              λ κs y f vs fits. W .laws .⇛-intro _,
+              (λ κs y f vs fits. W .laws .⇛-intro _, (λ κs y f vs fits. W .laws .⇛-intro _, tt)),
+            ),
+          ),
+        ),
+      ),
+    ) (held.clauses 𝓤 H A at-mem run)
     (WpFn 𝓤 H (𝓣 .C) (𝓣 .Λ) code.function) (WpFn-mono 𝓤 H (W .laws) 𝓣 code.function)
-        (held-walks 𝓤 H A W at-mem run (𝓣 .C) (𝓣 .Λ) (fmOf 𝓤 H (W .laws) 𝓣) known-call)
+    (held-walks 𝓤 H A W at-mem run (𝓣 .C) (𝓣 .Λ) (fmOf 𝓤 H (W .laws) 𝓣) known-call)
 
 pub abandon-spec : {M : Type 1} → stated.statement M
 unfolding code.routine tablesOf
