@@ -36,10 +36,6 @@ module _ (c : Call) {cs : List Call} {R : Records} (R′ : Records) (a : Answer)
         leads = leads-on (r .leads) (then p done);
       }
 
-  -- the same, where the records are given by an equation
-  pub on-as : (S : Records) → S ≡ R′ → Reached (cs ++ (c ∷ [])) S
-  on-as S e = subst (λ (X : Records). Reached (cs ++ (c ∷ [])) X) (sym e) on
-
   -- what is answered: x, where the rules answer x
   pub says : (x : Answer) → answer wheel01 (after wheel01 nothing cs) c ≡ x → a ≡ x
   says x e = step-is c R R′ a (after wheel01 nothing cs .wheel) (r .tells) p .0 ∙ e

@@ -15,12 +15,12 @@ create-requires c κs = search needs
 enable-requires : tie.Need-enable-requires
 enable-requires c κs = search needs
 
-is-done-requires : tie.Need-is-done-requires
-is-done-requires c κs = search needs
+is-noted-requires : tie.Need-is-noted-requires
+is-noted-requires c κs = search needs
 
 expect-requires : tie.Need-expect-requires
 unfolding tick
-expect-requires c κs = c .is-done .ensures .yes (says (enable 168 2 true) _ _
+expect-requires c κs = c .is-noted .ensures .yes (says (enable 168 2 true) _ _
     (beginning 7 (held (c .before .before .create .result)) _ (c .before .before .create .ensures)) (c .before .enable .ensures) _ refl)
 
 returns : tie.Need-returns
@@ -29,4 +29,4 @@ returns c = on (enable 168 2 true) _ _ (beginning 7 (held (c .before .before .be
 
 pub begin-spec : {M : Type 1} → statement M
 begin-spec =
-    tie.close (tie.spec create-requires enable-requires is-done-requires expect-requires returns)
+    tie.close (tie.spec create-requires enable-requires is-noted-requires expect-requires returns)

@@ -52,12 +52,12 @@ expect-requires-2 c κs = c .is-handle .ensures .yes (says (schedule 1 3) _ _ (r
 deschedule-requires : tie.Need-deschedule-requires
 deschedule-requires c κs = search needs
 
-is-done-requires : tie.Need-is-done-requires
-is-done-requires c κs = search needs
+is-noted-requires-2 : tie.Need-is-noted-requires-2
+is-noted-requires-2 c κs = search needs
 
 expect-requires-3 : tie.Need-expect-requires-3
 unfolding tick
-expect-requires-3 c κs = c .is-done .ensures .yes (says (deschedule 166 8 3) _ _ (reached2 (c .before .before .before .before .before))
+expect-requires-3 c κs = c .is-noted2 .ensures .yes (says (deschedule 166 8 3) _ _ (reached2 (c .before .before .before .before .before))
     (c .before .deschedule .ensures) _ refl)
 
 deschedule-requires-2 : tie.Need-deschedule-requires-2
@@ -86,7 +86,7 @@ cancel-another-spec =
     is-handle-requires
     expect-requires-2
     deschedule-requires
-    is-done-requires
+    is-noted-requires-2
     expect-requires-3
     deschedule-requires-2
     is-refused-requires
