@@ -91,7 +91,7 @@ class Held:
             yield 'U', self.fn.answer, self.fn.declared(self.fn.answer)
 
     def imports(self):
-        cited = {'Rattle.face_rules.specs.Face': {'recordsOf'}}
+        cited = {}
         for module, name in self.call.cited():
             cited.setdefault(module, set()).add(name)
         lines = ['use %s.declared.%s.{%s}' % (self.specs(crate), path, name) for _, name, (crate, path) in self.types()]

@@ -4,10 +4,10 @@ ghost use Rattle.face_rules.specs.Face.{scheduledSays, pulledSays};
 ghost use Rattle.wheel_rules.specs.Promise.{notedSays, countedSays};
 ghost use Rattle.rules.specs.Wheel as rules;
 ghost use Rattle.story.specs.Tests.{Whether, Agree};
-use face_rules::Pulled;
-use face_rules::Scheduled;
-use wheel_rules::calls::Counted;
-use wheel_rules::calls::Noted;
+use face::Counted;
+use face::Noted;
+use face::Pulled;
+use face::Scheduled;
 
 pub fn is_refused(answer: Noted, n: u64) -> bool
     ensures { λ r. ⌜ Whether (notedSays answer) (rules.refused n) r ⌝ }

@@ -6,10 +6,10 @@ ghost use Rattle.wheel_rules.specs.Promise.{notedSays, countedSays, Promised};
 ghost use Rattle.story.specs.Held.{held};
 use crate::held::Held;
 use crate::lends;
-use face_rules::Pulled;
-use face_rules::Scheduled;
-use wheel_rules::calls::Counted;
-use wheel_rules::calls::Noted;
+use face::Counted;
+use face::Noted;
+use face::Pulled;
+use face::Scheduled;
 
 // The records after a call, and its answer.
 pub struct Noting {

@@ -1,6 +1,6 @@
 // The records of one wheel of 168 nodes and 2 entries, held by value.
-use face_rules::Node;
-use wheel_rules::calls::Clock;
+use face::Clock;
+use face::Node;
 
 pub struct Held {
     pub heads: [usize; 165],

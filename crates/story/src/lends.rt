@@ -6,13 +6,18 @@ ghost use Rattle.rules.specs.Wheel.{setEntry, schedule, deschedule, start, pull
 ghost use Rattle.face_rules.specs.Face.{scheduledSays, pulledSays};
 ghost use Rattle.wheel_rules.specs.Promise.{enabling, notedSays, countedSays, Promised};
 ghost use Rattle.story.specs.Held.{before, after};
-use face_rules::Node;
-use face_rules::NotedTurn;
-use face_rules::Pulled;
-use face_rules::Scheduled;
-use wheel_rules::calls::Clock;
-use wheel_rules::calls::Counted;
-use wheel_rules::calls::Noted;
+use face::Clock;
+use face::Counted;
+use face::Node;
+use face::Noted;
+use face::Pulled;
+use face::Scheduled;
+
+// The clock after a call, and its answer.
+pub struct ClockLeft {
+    pub clock: Clock,
+    pub answer: Noted,
+}
 
 // The nodes and the clock after a call, and its answer.
 pub struct NotedLeft {
@@ -163,13 +168,13 @@ pub fn start(
     deadline: &[u64],
     stamp: &[u32],
     q: u64,
-) -> NotedTurn
+) -> ClockLeft
     ensures { λ r. ⌜ Promised (start q)
         (before heads tails nodes dated deadline stamp clock)
         (after heads tails nodes dated deadline stamp (r .clock)) (notedSays (r .answer)) ⌝ }
 {
     let answer = face::start(&nodes, &mut clock, heads, tails, dated, deadline, stamp, q);
-    NotedTurn { clock, answer }
+    ClockLeft { clock, answer }
 }
 
 pub fn pull(
@@ -201,13 +206,13 @@ pub fn abandon(
     dated: &[bool],
     deadline: &[u64],
     stamp: &[u32],
-) -> NotedTurn
+) -> ClockLeft
     ensures { λ r. ⌜ Promised abandon
         (before heads tails nodes dated deadline stamp clock)
         (after heads tails nodes dated deadline stamp (r .clock)) (notedSays (r .answer)) ⌝ }
 {
     let answer = face::abandon(&nodes, &mut clock, heads, tails, dated, deadline, stamp);
-    NotedTurn { clock, answer }
+    ClockLeft { clock, answer }
 }
 
 pub fn armed_count(

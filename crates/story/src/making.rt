@@ -6,13 +6,13 @@ ghost use Rattle.story.specs.Held.{held};
 use crate::calls::Noting;
 use crate::held::Held;
 use crate::lends;
-use face_rules::Node;
+use face::Node;
 
 // Begins a wheel with this first serial: the records are as a create leaves them.
 pub fn create(first: u64) -> Held
     ensures { λ r. ⌜ Promised (create first) (held r) (held r) ok ⌝ }
 {
-    let made = wheel::create(first);
+    let made = face::create(first);
     let heads = made.heads;
     let tails = made.tails;
     let node = Node {

@@ -56,8 +56,8 @@ use Rattle.wheel_rules.proofs.calls.Clock as K
 use Rattle.wheel_rules.proofs.calls.Clock.Laws as K′
 use Rattle.wheel_rules.proofs.calls.Noted as E
 use Rattle.wheel_rules.proofs.calls.Noted.Laws as E′
-use Rattle.face_rules.proofs.NotedTurn as U
-use Rattle.face_rules.proofs.NotedTurn.Laws as U′
+use Rattle.story.proofs.lends.ClockLeft as U
+use Rattle.story.proofs.lends.ClockLeft.Laws as U′
 use Rattle.face.proofs.advancing.abandon as calls
 use Rattle.face.proofs.advancing.abandon.Symbol as call-def
 use Rattle.face.proofs.advancing.abandon.Symbol.{name as #call}
