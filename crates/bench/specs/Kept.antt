@@ -1,4 +1,4 @@
--- What a workload keeps: the first places of its arrays show a sound wheel.
+-- inner to the programs: what a workload keeps: the first places of its arrays show a sound wheel.
 use Prim.Native.Nat.{ℕ, _-_, _≤_}
 use mathlib.Core.Path.{_≡_}
 use lib.ListN.{length, take}

@@ -1,4 +1,4 @@
--- What the workloads keep from call to call: the records stand for one deque.
+-- inner to the programs: what the workloads keep from call to call: the records stand for one deque.
 use Prim.Native.Nat.{ℕ, _≤_}
 use mathlib.Core.Path.{_≡_}
 use mathlib.Core.Bool.{Bool, true}

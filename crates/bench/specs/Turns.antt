@@ -1,4 +1,4 @@
--- Which turns of a workload the records allow.
+-- inner to the programs: which turns of a workload the records allow.
 use Prim.Native.Nat.{ℕ, _-_, _^_, _≤_, _<_}
 use mathlib.Core.Path.{_≡_}
 use mathlib.Core.Bool.{Bool, true}

@@ -1,4 +1,4 @@
--- A buffer in which answers wait: what `append` and `append_decimal` promise.
+-- inner to the programs: a buffer in which answers wait: what `append` and `append_decimal` promise.
 use Prim.Native.Nat.{ℕ, _+_, _≤_, _<_}
 use mathlib.Core.Path.{_≡_}
 use mathlib.Core.Bool.{cond}

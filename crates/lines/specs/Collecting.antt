@@ -1,4 +1,4 @@
--- Lines as they come out of blocks: what the functions of `collecting` promise.
+-- inner to the programs: lines as they come out of blocks: what the functions of `collecting` promise.
 use Prim.Native.Nat.{ℕ, _+_, _-_, _≤_, _<_}
 use mathlib.Core.Path.{_≡_}
 use mathlib.Core.Bool.{Bool, true, false, cond}

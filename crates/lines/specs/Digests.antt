@@ -1,4 +1,4 @@
--- The digest of a run of numbers: FNV-1a on 64-bit words.
+-- inner to the programs: the digest of a run of numbers: FNV-1a on 64-bit words.
 use Prim.Native.Nat.{ℕ, _*_, _%_, _^_}
 use mathlib.Core.List.{List, [], _∷_}
 use lib.Bits.{bitXor}

@@ -1,4 +1,4 @@
--- A line of a trace and its parts: a word and fields, separated by single spaces.
+-- inner to the programs: a line of a trace and its parts: a word and fields, separated by single spaces.
 use Prim.Native.Nat.{ℕ, zero, suc, _+_}
 use mathlib.Core.Bool.{Bool, true, false, cond}
 use mathlib.Core.List.{List, [], _∷_}

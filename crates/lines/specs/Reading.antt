@@ -1,4 +1,4 @@
--- A part of a line as a number: decimal digits, at most 2^64 - 1, or `-` for none.
+-- inner to the programs: a part of a line as a number: decimal digits, at most 2^64 - 1, or `-` for none.
 use Prim.Native.Nat.{ℕ, _+_, _-_, _*_, _^_}
 use mathlib.Core.Bool.{Bool, true, false, cond}
 use mathlib.Core.List.{List, [], _∷_}

@@ -1,4 +1,4 @@
--- The records that a story holds, as the wheel's promises speak of them.
+-- inner to the programs: the records that a story holds, as the wheel's promises speak of them.
 use mathlib.Core.List.{List}
 use denote.Ref.{now}
 use Rattle.numbers.specs.Shared.{Numbers, Flags}

@@ -1,4 +1,4 @@
--- The story: what is called, chapter by chapter, and what it means to have come that far.
+-- inner to the programs: the story: what is called, chapter by chapter, and what it means to have come that far.
 use Prim.Native.Nat.{_+_, _^_}
 use mathlib.Core.Bool.{true}
 use mathlib.Core.Option.{some}

@@ -1,4 +1,4 @@
--- What a test of an answer says.
+-- inner to the programs: what a test of an answer says.
 use Prim.Native.Nat.{ℕ}
 use mathlib.Core.Path.{_≡_}
 use mathlib.Core.Bool.{Bool, true}

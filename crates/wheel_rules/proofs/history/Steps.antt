@@ -133,7 +133,13 @@ module _ (w : Wheel) where
   fourless (create n) = tt
   fourless (enable m j f) = (λ i. absurd (omega (arith, i)), (λ i. absurd (omega (arith, i)), tt))
   fourless (setEntry e o h) = (λ i. absurd (omega (arith, i)), (λ i. refl, (λ i. absurd (omega (arith, i)), (λ i. absurd (omega (arith, i)), tt))))
-  fourless (schedule e h) = (λ i. absurd (omega (arith, i)), (λ i. refl, (λ i. absurd (omega (arith, i)), (λ i. absurd (omega (arith, i)), (λ i. absurd (omega (arith, i)), (λ i. absurd (omega (arith, i)), (λ i. absurd (omega (arith, i)), (λ i. absurd (omega (arith, i)), tt))))))))
+  fourless (schedule e h) = (
+    λ i. absurd (omega (arith, i)),
+    (λ i. refl, (λ i. absurd (omega (arith, i)), (λ i. absurd (omega (arith, i)), (λ i. absurd (omega (arith, i)), rest)))),
+  )
+    where
+      rest : NoFour ((testsOf wheel01 true w .dated e, 9) ∷ (testsOf wheel01 true w .room, 10) ∷ (testsOf wheel01 true w .serial, 11) ∷ [])
+      rest = (λ i. absurd (omega (arith, i)), (λ i. absurd (omega (arith, i)), (λ i. absurd (omega (arith, i)), tt)))
   fourless (reschedule x n h) = (λ i. absurd (omega (arith, i)), (λ i. refl, (λ i. absurd (omega (arith, i)), (λ i. absurd (omega (arith, i)), (λ i. absurd (omega (arith, i)), tt)))))
   fourless (deschedule x n h) = (λ i. absurd (omega (arith, i)), (λ i. refl, (λ i. absurd (omega (arith, i)), (λ i. absurd (omega (arith, i)), (λ i. absurd (omega (arith, i)), tt)))))
   fourless (start q) = (λ i. absurd (omega (arith, i)), (λ i. refl, (λ i. absurd (omega (arith, i)), tt)))
