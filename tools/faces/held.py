@@ -48,7 +48,7 @@ class Held:
             theirs += written.startswith('&')
             self.passed.append(p)
         self.kappas, self.shares = ['κ' + low(k) for k in range(own)], ['q' + low(k) for k in range(own)]
-        if [x for x in given[2:]] != [p.name for p in self.passed] or [t for _, t in self.call.params[2:]] != [t for _, t in self.fn.params[2:]]:
+        if given[2:] != [p.name for p in self.passed] or [t for _, t in self.call.params[2:]] != [t for _, t in self.fn.params[2:]]:
             sys.exit('held.py: %s and %s take other parameters' % (self.fn.name, self.call.name))
 
     def read_locals(self):
@@ -180,7 +180,7 @@ class Held:
         return 'LL.makes U.the-type U′.the-plain 𝓤 H A' if self.mut_clock else 'EL.makes E.the-type E′.the-plain 𝓤 H A'
 
     def ends(self):
-        return nest(['tt', 'tt'] + ['ws' + down(2 + i) for i in range(len(self.passed))])
+        return nest(['tt', 'tt'] + ['ws' + down(2 + i) if p.mut else 'tt' for i, p in enumerate(self.passed)])
 
     def last(self, p):
         """What the callee says of a parameter at exit."""
@@ -224,16 +224,16 @@ class Held:
         if self.mut_clock:
             w.copy(w.look(2), self.clock, 'typed₂')
 
-    def reference(self, w, of, ref):
+    def reference(self, w, ref):
         w.say('assigns ! (addr ! (from ! (stop !))) (from ! (stop !)) %s $' % w.init(ref, '(tt, tt)'))
 
     def lends(self, w):
         w.note('the nodes%s are lent, each for a lifetime of its own' % (' and the clock' if self.mut_clock else ''))
-        self.reference(w, self.nodes, self.nodes_ref)
+        self.reference(w, self.nodes_ref)
         parts = '(and-then ! %s (and-then ! (lit ! tt) (no-more !)))' % w.look(self.nodes_ref)
         w.say('assigns ! (agg ! %s) (from ! (stop !)) %s $' % (parts, w.init(self.nodes_slice, '(tt, (tt, (record { fits = lit< tt }, tt)))')))
         if self.mut_clock:
-            self.reference(w, self.clock, self.clock_ref)
+            self.reference(w, self.clock_ref)
         for p in self.passed:
             if p.mut:
                 w.lend_on(p.local, p.ref, p.pair, p.fits)

@@ -28,5 +28,5 @@ module _ (s : Held) (eh : length (s .heads) ≡ 165) (et : length (s .tails) ≡
         em,
       ) refl
 
-  pub enabling-so : (S : Records) (a : Answer) → Promised (enabling (held s)) (held s) S a → Promised (enable 168 2 true) (held s) S a
-  enabling-so S a M = subst (λ (x : Call). Promised x (held s) S a) lengths-fit M
+  pub enabling-so : {S : Records} {a : Answer} → Promised (enabling (held s)) (held s) S a → Promised (enable 168 2 true) (held s) S a
+  enabling-so {S = S} {a = a} M = subst (λ (x : Call). Promised x (held s) S a) lengths-fit M

@@ -71,13 +71,18 @@ module _ {M : Type 1} (𝓤 : URA M) (H : Heap 𝓤) (A : Atoms 𝓤) (W : Given
               (λ α. move ! (1 ∷ []) $
               use1 W (later (some (λ (γ : GName). ‵ (MutSlice ℓ (α ∷ []) R .own (ref-of b γ xs) (sliceVal (b, 0) (length xs) ∷ [])) ⊛ ‵
               (flent (α ∷ []) (Held R (length xs) b 0 γ))))) (lends-slice 𝓤 H A W R ℓ (α ∷ []) xs b 0 g) $
-              await ! tt $ pick ! (λ γ. split ! $ move ! (2 ∷ 0 ∷ 1 ∷ []) $ at-once ! $ show ! (at-length (length xs)) (record { life = α; name = γ }) $ done !))
+              await ! tt $ pick !
+              (λ γ. split ! $ move ! (2 ∷ 0 ∷ 1 ∷ []) $ at-once ! $ show ! (at-length (length xs)) (record { life = α; name = γ }) $ done !))
+
+      -- what a call says of it at exit: its last elements, as many
+      abbrev pub Last : Lease → List (R .Denot) → Fml
+      Last w zs = fsep (finally R (w .name) zs) (feq ℕ (length zs) (length xs))
 
       pub array-back : (w : Lease) (zs : List (R .Denot))
-          → ent 𝓤 (sep 𝓤 (A .lft (lft-of w) fullShare) (sep 𝓤 (A .lent (lft-of w) (Held R n b 0 (w .name))) (sem 𝓤 H A (fsep (finally R (w .name) zs) (feq ℕ (length zs) (length xs))))))
+          → ent 𝓤 (sep 𝓤 (A .lft (lft-of w) fullShare) (sep 𝓤 (A .lent (lft-of w) (Held R n b 0 (w .name))) (sem 𝓤 H A (Last w zs))))
           (H .⇛ (ex 𝓤 (λ (v : Val). mean 𝓤 H A (Local zs v))))
       array-back w zs =
-          qed W (‵ (flft (lft-of w) fullShare) ∷ ‵ (flent (lft-of w) (Held R n b 0 (w .name))) ∷ ‵ (fsep (finally R (w .name) zs) (feq ℕ (length zs) (length xs))) ∷ []) ∵
+          qed W (‵ (flft (lft-of w) fullShare) ∷ ‵ (flent (lft-of w) (Held R n b 0 (w .name))) ∷ ‵ (Last w zs) ∷ []) ∵
           updating ! $ lft-end ! tt $ move ! (2 ∷ []) $ fsplit ! $ move ! (2 ∷ 3 ∷ 0 ∷ []) $
           use3 W (later (‵ (Arr (mem R) n .lies zs b 0))) (slice-back 𝓤 H A W R (lft-of w) (w .name) zs n b 0) $ await ! tt $ fsplit ! $ drop ! $ use1 W
           (‵ (row R fullShare zs b 0)) (whole-out 𝓤 H A W R zs b 0) $
@@ -105,7 +110,8 @@ module _ {M : Type 1} (𝓤 : URA M) (H : Heap 𝓤) (A : Atoms 𝓤) (W : Given
               (λ α. move ! (1 ∷ []) $ feqI ! ℕ (length xs) (length xs) refl $ fjoin ! $
               use1 W (later (some (λ (γ : GName). ‵ (ShrSlice ℓ (α ∷ []) R .own (ref-of b γ xs) (sliceVal (b, 0) (length xs) ∷ [])) ⊛ ‵
               (flent (α ∷ []) (arr-parts (shares R) (length xs) .part fullShare xs b 0))))) (lends-shr-slice 𝓤 H A W R ℓ (α ∷ []) fullShare xs b 0 g) $
-              await ! tt $ pick ! (λ γ. split ! $ move ! (2 ∷ 0 ∷ 1 ∷ []) $ at-once ! $ show ! (at-length (length xs)) (record { life = α; name = γ }) $ done !))
+              await ! tt $ pick !
+              (λ γ. split ! $ move ! (2 ∷ 0 ∷ 1 ∷ []) $ at-once ! $ show ! (at-length (length xs)) (record { life = α; name = γ }) $ done !))
 
       pub array-room : (w : Lease)
           → ent 𝓤 (sep 𝓤 (A .lft (lft-of w) fullShare) (A .lent (lft-of w) (arr-parts (shares R) n .part fullShare xs b 0)))
@@ -133,7 +139,9 @@ module _ {M : Type 1} (𝓤 : URA M) (H : Heap 𝓤) (A : Atoms 𝓤) (W : Given
         (λ α. move ! (1 ∷ []) $
         use1 W (later (some (λ (γ : GName). ‵ (MutRef ℓ (α ∷ []) R .own (ref-of b γ h) (vptr b 0 ∷ [])) ⊛ ‵ (flent (α ∷ []) (Body (mem R) b 0 γ)))))
         (lends-ref 𝓤 H A W R ℓ (α ∷ []) h b 0) $
-        await ! tt $ pick ! (λ γ. split ! $ move ! (2 ∷ 0 ∷ 1 ∷ []) $ at-once ! $ show ! (λ (w : Lease). mean 𝓤 H A (LentValue h w)) (record { life = α; name = γ }) $ done !))
+        await ! tt $ pick !
+        (λ γ. split ! $ move ! (2 ∷ 0 ∷ 1 ∷ []) $ at-once ! $ show ! (λ (w : Lease). mean 𝓤 H A (LentValue h w)) (record { life = α; name = γ }) $
+        done !))
 
     pub value-back : (w : Lease) (h : R .Denot)
         → ent 𝓤 (sep 𝓤 (A .lft (lft-of w) fullShare) (sep 𝓤 (A .lent (lft-of w) (Body (mem R) b 0 (w .name))) (A .res (w .name) (R .coded .code h))))

@@ -39,7 +39,8 @@ is-noted-requires-2 c κs = search needs
 
 expect-requires-2 : tie.Need-expect-requires-2
 unfolding tick
-expect-requires-2 c κs = c .is-noted2 .ensures .yes (says abandon _ _ (reached1 (c .before .before .before .before .before)) (c .before .abandon .ensures) _ refl)
+expect-requires-2 c κs = c .is-noted2 .ensures .yes (says abandon _ _ (reached1 (c .before .before .before .before .before))
+    (c .before .abandon .ensures) _ refl)
 
 expect-requires-3 : tie.Need-expect-requires-3
 unfolding tick

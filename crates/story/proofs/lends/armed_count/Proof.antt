@@ -172,8 +172,7 @@ module _ {M : Type 1} (𝓤 : URA M) (H : Heap 𝓤) (A : Atoms 𝓤) (W : Given
     exits ws u does z is =
         qed W (‵ ftrue ∷ ‵ ftrue ∷ ‵ ftrue ∷ ‵ ftrue ∷ ‵ ftrue ∷ ‵ (flft κ₀ q₀) ∷ ‵ (flft κ₁ q₁) ∷ ‵ (flft κ₂ q₂) ∷ ‵ (flft κ₃ q₃) ∷ ‵ (flft κ₄ q₄) ∷ []) ∵
         suffices ! _ (ends-at 𝓤 H A held.ended stayed (held.clauses 𝓤 H A at-mem run) W
-        (((κ₀, (κ₁, (κ₂, (κ₃, (κ₄, tt))))), (q₀, (q₁, (q₂, (q₃, (q₄, tt))))), tt, x, at), tt) z u
-        (tt, (tt, (ws .1 .1 .0, (ws .1 .1 .1 .0, (ws .1 .1 .1 .1 .0, (ws .1 .1 .1 .1 .1 .0, (ws .1 .1 .1 .1 .1 .1 .0, tt)))))))
+        (((κ₀, (κ₁, (κ₂, (κ₃, (κ₄, tt))))), (q₀, (q₁, (q₂, (q₃, (q₄, tt))))), tt, x, at), tt) z u (tt, (tt, (tt, (tt, (tt, (tt, (tt, tt)))))))
         (tt, (tt, (tt, (tt, (tt, (tt, (tt, tt)))))))) $
         says ! does $
         nothing ! $ move ! (10 ∷ 0 ∷ []) $ join ! $ move ! (9 ∷ 0 ∷ []) $ join ! $ move ! (8 ∷ 0 ∷ []) $ join ! $ move ! (7 ∷ 0 ∷ []) $ join ! $ move !

@@ -209,28 +209,7 @@ module _ {M : Type 1} (𝓤 : URA M) (H : Heap 𝓤) (A : Atoms 𝓤) (W : Given
         ftrue ∷ ‵ ftrue ∷ ‵ (flft κ₀ q₀) ∷ ‵ (flft κ₁ q₁) ∷ ‵ (flft κ₂ q₂) ∷ ‵ (flft κ₃ q₃) ∷ ‵ (flft κ₄ q₄) ∷ []) ∵
         suffices ! _ (ends-at 𝓤 H A held.ended stayed (held.clauses 𝓤 H A at-mem run) W
         (((κ₀, (κ₁, (κ₂, (κ₃, (κ₄, tt))))), (q₀, (q₁, (q₂, (q₃, (q₄, tt))))), tt, x, at), tt) (vstruct (ofList (v₁ ∷ v₂ ∷ z ∷ [])))
-        (record { nodes = ws .0; clock = ws .1 .0; answer = u }) (
-          tt,
-          (
-            tt,
-            (
-              ws .1 .1 .0,
-              (
-                ws .1 .1 .1 .0,
-                (
-                  ws .1 .1 .1 .1 .0,
-                  (
-                    ws .1 .1 .1 .1 .1 .0,
-                    (
-                      ws .1 .1 .1 .1 .1 .1 .0,
-                      (ws .1 .1 .1 .1 .1 .1 .1 .0, (ws .1 .1 .1 .1 .1 .1 .1 .1 .0, (ws .1 .1 .1 .1 .1 .1 .1 .1 .1 .0, tt))),
-                    ),
-                  ),
-                ),
-              ),
-            ),
-          ),
-        )
+        (record { nodes = ws .0; clock = ws .1 .0; answer = u }) (tt, (tt, (ws .1 .1 .0, (ws .1 .1 .1 .0, (tt, (tt, (tt, (tt, (tt, (tt, tt))))))))))
         (tt, (tt, (tt, (tt, (tt, (tt, (tt, (tt, (tt, (tt, tt))))))))))) $
         says ! does $
         nothing ! $ move ! (13 ∷ 0 ∷ []) $ join ! $ move ! (12 ∷ 0 ∷ []) $ join ! $ move ! (11 ∷ 0 ∷ []) $ join ! $ move ! (10 ∷ 0 ∷ []) $ join ! $ move !

@@ -26,7 +26,8 @@ enable-requires c κs = search needs
 
 returns : tie.Need-returns
 returns c =
-    let b = c .before .before .before .before .before .before .before .before .before .before .before .before .before .before .before .before .before .before .before .before in
+    let b = c .before .before .before .before .before .before .before .before .before .before .before .before .before .before .before .before .before
+    .before .before .before in
     enabling-so (b .args .s)
     (search (needs, b .good))
     (search (needs, b .good))
@@ -34,7 +35,16 @@ returns c =
     (search (needs, b .good))
     (search (needs, b .good))
     (search (needs, b .good))
-    _ _ (c .before .before .before .before .before .before .before .enable .ensures)
+    (c .before .before .before .before .before .before .before .enable .ensures)
 
 pub enable-spec : {M : Type 1} → statement M
-enable-spec = tie.close (tie.spec slice-aggregate-enable slice-aggregate-enable-2 slice-aggregate-enable-3 slice-aggregate-enable-4 slice-aggregate-enable-5 enable-requires returns)
+enable-spec =
+    tie.close
+    (tie.spec
+    slice-aggregate-enable
+    slice-aggregate-enable-2
+    slice-aggregate-enable-3
+    slice-aggregate-enable-4
+    slice-aggregate-enable-5
+    enable-requires
+    returns)
