@@ -4,47 +4,47 @@ use lib.Seq.{length_front, take-set-lt}
 use Rattle.lines.proofs.Lent.{lent_back}
 use Rattle.wheel_rules.specs.Lent.{Nodes, Entries, nodes, entries}
 use Rattle.wheel_rules.specs.records.Settings.{settled}
-use Rattle.bench.specs.Kept.{nodesPart, NodesFit, entriesPart, EntriesFit}
+use Rattle.bench.specs.Kept.{nodes_part, NodesFit, entries_part, EntriesFit}
 
 -- ---- one array xs, of which a call was lent the first n places and left ys
 module _ {A : Type 0} (n : ℕ) (xs ys : List A) (fits : n ≤ length xs) (kept : length ys ≡ length (take n xs)) where
-  pub part-back : take n (ys ++ drop n xs) ≡ ys
-  part-back = lent_back xs ys n kept fits
+  pub part_back : take n (ys ++ drop n xs) ≡ ys
+  part_back = lent_back xs ys n kept fits
 
-  pub fits-back : n ≤ length (ys ++ drop n xs)
-  fits-back = subst (λ (k : ℕ). n ≤ k) (sym (length_front xs ys n kept)) fits
+  pub fits_back : n ≤ length (ys ++ drop n xs)
+  fits_back = subst (λ (k : ℕ). n ≤ k) (sym (length_front xs ys n kept)) fits
 
 -- an array of 4,168 places has so many
-pub few-fit : (n : ℕ) → n ≤ 4096 → n ≤ 4168
-few-fit n h = omega (arith, h)
+pub few_fit : (n : ℕ) → n ≤ 4096 → n ≤ 4168
+few_fit n h = omega (arith, h)
 
 wide : {A : Type 0} (n : ℕ) (xs : List A) → length xs ≡ 4168 → n ≤ 4096 → n ≤ length xs
 wide n xs l h = omega (arith, l, h)
 
-pub entries-few : (n k : ℕ) → n ≤ 4096 → n - k ≤ 4096
-entries-few n k h = omega (arith, h)
+pub entries_few : (n k : ℕ) → n ≤ 4096 → n - k ≤ 4096
+entries_few n k h = omega (arith, h)
 
 -- an array of m places or more has the place e below m
 pub reaches : (e m k : ℕ) → e < m → m ≤ k → e < k
 reaches e m k h f = omega (arith, h, f)
 
 -- and its place in bytes, where each element has 4 or 8, is a number of the machine
-pub scaled-by-4 : (e : ℕ) → e < 4168 → e * 4 < 2 ^ 64
-scaled-by-4 e f = omega (arith, f)
+pub scaled_by_4 : (e : ℕ) → e < 4168 → e * 4 < 2 ^ 64
+scaled_by_4 e f = omega (arith, f)
 
-pub scaled-by-8 : (e : ℕ) → e < 4168 → e * 8 < 2 ^ 64
-scaled-by-8 e f = omega (arith, f)
+pub scaled_by_8 : (e : ℕ) → e < 4168 → e * 8 < 2 ^ 64
+scaled_by_8 e f = omega (arith, f)
 
 -- ---- the arrays of the nodes: the first n places of each but heads and tails are lent
-abbrev pub nodesBack : ℕ → Nodes → Nodes → Nodes
-nodesBack n N N' =
+abbrev pub nodes_back : ℕ → Nodes → Nodes → Nodes
+nodes_back n N N' =
     nodes N'.links.heads N'.links.tails (N'.links.next ++ drop n N.links.next) (N'.links.prev ++ drop n N.links.prev)
     (N'.links.home ++ drop n N.links.home) (N'.entry ++ drop n N.entry) (N'.generation ++ drop n N.generation)
     (N'.serial ++ drop n N.serial)
 
-pub first-nodes : (n : ℕ) (h t x p b e g s : List ℕ) → n ≤ 4096 → length h ≡ 165 → length t ≡ 165 → length x ≡ 4168 → length p ≡ 4168 → length b ≡ 4168
+pub first_nodes : (n : ℕ) (h t x p b e g s : List ℕ) → n ≤ 4096 → length h ≡ 165 → length t ≡ 165 → length x ≡ 4168 → length p ≡ 4168 → length b ≡ 4168
     → length e ≡ 4168 → length g ≡ 4168 → length s ≡ 4168 → NodesFit n (nodes h t x p b e g s)
-first-nodes n h t x p b e g s f kh kt kx kp kb ke kg ks =
+first_nodes n h t x p b e g s f kh kt kx kp kb ke kg ks =
     record {
       heads = kh;
       tails = kt;
@@ -65,33 +65,33 @@ NodesKept n N N' =
     (length N'.generation ≡ length (take n N.generation)) × (length N'.serial ≡ length (take n N.serial))
 
 module _ (n : ℕ) (N N' : Nodes) (f : NodesFit n N) (k : NodesKept n N N') where
-  pub nodes-part-back : nodesPart n (nodesBack n N N') ≡ N'
-  nodes-part-back = λ i. nodes N'.links.heads N'.links.tails
-      (part-back n N.links.next N'.links.next f.next k.2 i) (part-back n N.links.prev N'.links.prev f.prev k.3 i)
-      (part-back n N.links.home N'.links.home f.bucket k.4 i) (part-back n N.entry N'.entry f.entry k.5 i)
-      (part-back n N.generation N'.generation f.generation k.6 i) (part-back n N.serial N'.serial f.serial k.7 i)
+  pub nodes_part_back : nodes_part n (nodes_back n N N') ≡ N'
+  nodes_part_back = λ i. nodes N'.links.heads N'.links.tails
+      (part_back n N.links.next N'.links.next f.next k.2 i) (part_back n N.links.prev N'.links.prev f.prev k.3 i)
+      (part_back n N.links.home N'.links.home f.bucket k.4 i) (part_back n N.entry N'.entry f.entry k.5 i)
+      (part_back n N.generation N'.generation f.generation k.6 i) (part_back n N.serial N'.serial f.serial k.7 i)
 
-  pub nodes-fit-back : NodesFit n (nodesBack n N N')
-  nodes-fit-back =
+  pub nodes_fit_back : NodesFit n (nodes_back n N N')
+  nodes_fit_back =
       record {
         heads = k.0 ∙ f.heads;
         tails = k.1 ∙ f.tails;
-        next = fits-back n N.links.next N'.links.next f.next k.2;
-        prev = fits-back n N.links.prev N'.links.prev f.prev k.3;
-        bucket = fits-back n N.links.home N'.links.home f.bucket k.4;
-        entry = fits-back n N.entry N'.entry f.entry k.5;
-        generation = fits-back n N.generation N'.generation f.generation k.6;
-        serial = fits-back n N.serial N'.serial f.serial k.7;
+        next = fits_back n N.links.next N'.links.next f.next k.2;
+        prev = fits_back n N.links.prev N'.links.prev f.prev k.3;
+        bucket = fits_back n N.links.home N'.links.home f.bucket k.4;
+        entry = fits_back n N.entry N'.entry f.entry k.5;
+        generation = fits_back n N.generation N'.generation f.generation k.6;
+        serial = fits_back n N.serial N'.serial f.serial k.7;
       }
 
 -- ---- the arrays of the entries: the first n places of each are lent
-abbrev pub entriesBack : ℕ → Entries → Entries → Entries
-entriesBack n E E' =
+abbrev pub entries_back : ℕ → Entries → Entries → Entries
+entries_back n E E' =
     entries (E'.dated ++ drop n E.dated) (E'.deadline ++ drop n E.deadline) (E'.generation ++ drop n E.generation)
 
-pub first-entries : (n : ℕ) (t : List Bool) (d g : List ℕ) → n ≤ 4096 → length t ≡ 4168 → length d ≡ 4168 → length g ≡ 4168
+pub first_entries : (n : ℕ) (t : List Bool) (d g : List ℕ) → n ≤ 4096 → length t ≡ 4168 → length d ≡ 4168 → length g ≡ 4168
     → EntriesFit n (entries t d g)
-first-entries n t d g f kt kd kg = record { dated = wide n t kt f; deadline = wide n d kd f; stamp = wide n g kg f }
+first_entries n t d g f kt kd kg = record { dated = wide n t kt f; deadline = wide n d kd f; stamp = wide n g kg f }
 
 abbrev pub EntriesKept : ℕ → Entries → Entries → Type 0
 EntriesKept n E E' =
@@ -99,25 +99,25 @@ EntriesKept n E E' =
     (length E'.generation ≡ length (take n E.generation))
 
 module _ (n : ℕ) (E E' : Entries) (f : EntriesFit n E) (k : EntriesKept n E E') where
-  pub entries-part-back : entriesPart n (entriesBack n E E') ≡ E'
-  entries-part-back = λ i. entries (part-back n E.dated E'.dated f.dated k.0 i)
-      (part-back n E.deadline E'.deadline f.deadline k.1 i) (part-back n E.generation E'.generation f.stamp k.2 i)
+  pub entries_part_back : entries_part n (entries_back n E E') ≡ E'
+  entries_part_back = λ i. entries (part_back n E.dated E'.dated f.dated k.0 i)
+      (part_back n E.deadline E'.deadline f.deadline k.1 i) (part_back n E.generation E'.generation f.stamp k.2 i)
 
-  pub entries-fit-back : EntriesFit n (entriesBack n E E')
-  entries-fit-back =
+  pub entries_fit_back : EntriesFit n (entries_back n E E')
+  entries_fit_back =
       record {
-        dated = fits-back n E.dated E'.dated f.dated k.0;
-        deadline = fits-back n E.deadline E'.deadline f.deadline k.1;
-        stamp = fits-back n E.generation E'.generation f.stamp k.2;
+        dated = fits_back n E.dated E'.dated f.dated k.0;
+        deadline = fits_back n E.deadline E'.deadline f.deadline k.1;
+        stamp = fits_back n E.generation E'.generation f.stamp k.2;
       }
 
 -- an entry that is set in the arrays is set in their parts
 module _ (n : ℕ) (E : Entries) (e : ℕ) (t : Bool) (d h : ℕ) where
-  pub settled-part : e < n → entriesPart n (settled e t d h E) ≡ settled e t d h (entriesPart n E)
-  settled-part i = λ k. entries (take-set-lt n E.dated e t i k) (take-set-lt n E.deadline e d i k) (take-set-lt n E.generation e h i k)
+  pub settled_part : e < n → entries_part n (settled e t d h E) ≡ settled e t d h (entries_part n E)
+  settled_part i = λ k. entries (take-set-lt n E.dated e t i k) (take-set-lt n E.deadline e d i k) (take-set-lt n E.generation e h i k)
 
-  pub settled-fit : EntriesFit n E → EntriesFit n (settled e t d h E)
-  settled-fit f =
+  pub settled_fit : EntriesFit n E → EntriesFit n (settled e t d h E)
+  settled_fit f =
       record {
         dated = subst (λ (k : ℕ). n ≤ k) (sym (length-set E.dated e t)) f.dated;
         deadline = subst (λ (k : ℕ). n ≤ k) (sym (length-set E.deadline e d)) f.deadline;

@@ -11,8 +11,8 @@ abbrev pub Works : Records → Type 0
 Works R = Ready wheel01 R
 
 -- ---- the arrays of the nodes: the first n places of each but heads and tails are records of the wheel
-abbrev pub nodesPart : ℕ → Nodes → Nodes
-nodesPart n N =
+abbrev pub nodes_part : ℕ → Nodes → Nodes
+nodes_part n N =
     nodes N.links.heads N.links.tails (take n N.links.next) (take n N.links.prev) (take n N.links.home) (take n N.entry)
     (take n N.generation) (take n N.serial)
 
@@ -28,8 +28,8 @@ pub record NodesFit (n : ℕ) (N : Nodes) : Type 0 where
   pub serial : n ≤ length N.serial
 
 -- ---- the arrays of the entries: the first n places of each
-abbrev pub entriesPart : ℕ → Entries → Entries
-entriesPart n E = entries (take n E.dated) (take n E.deadline) (take n E.generation)
+abbrev pub entries_part : ℕ → Entries → Entries
+entries_part n E = entries (take n E.dated) (take n E.deadline) (take n E.generation)
 
 pub record EntriesFit (n : ℕ) (E : Entries) : Type 0 where
   pub dated : n ≤ length E.dated
@@ -39,7 +39,7 @@ pub record EntriesFit (n : ℕ) (E : Entries) : Type 0 where
 -- ---- both
 -- The first n places of the arrays N and the first m of the arrays E show a sound wheel with the clock c.
 pub record Keeps (n m : ℕ) (N : Nodes) (E : Entries) (c : Clock) : Type 0 where
-  pub works : Works (records (nodesPart n N) (entriesPart m E) c)
+  pub works : Works (records (nodes_part n N) (entries_part m E) c)
   pub nodes : NodesFit n N
   pub entries : EntriesFit m E
 

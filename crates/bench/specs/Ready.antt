@@ -25,14 +25,14 @@ pub record Tested (a : State) (free : ℕ) (good : Bool) : Type 0 where
 -- one deque, and at most as many nodes as the arrays have room for
 pub record Sized (n : ℕ) (heads tails lens cursors next prev home element : List ℕ) : Type 0 where
   pub nodes : n ≤ 4096
-  pub heads-len : length heads ≡ 1
-  pub tails-len : length tails ≡ 1
-  pub lens-len : length lens ≡ 1
-  pub cursors-len : length cursors ≡ 1
-  pub next-len : length next ≡ 4096
-  pub prev-len : length prev ≡ 4096
-  pub home-len : length home ≡ 4096
-  pub element-len : length element ≡ 4096
+  pub heads_len : length heads ≡ 1
+  pub tails_len : length tails ≡ 1
+  pub lens_len : length lens ≡ 1
+  pub cursors_len : length cursors ≡ 1
+  pub next_len : length next ≡ 4096
+  pub prev_len : length prev ≡ 4096
+  pub home_len : length home ≡ 4096
+  pub element_len : length element ≡ 4096
 
 -- the arrays are as long as that, and the flag says whether their first n numbers are ready
 pub record Laid (n : ℕ) (r : Records) : Type 0 where

@@ -2,7 +2,7 @@
 // time.
 ghost use Rattle.deque_rules.specs.Change.{CanPut, Puts, Linkable, LinksBack, Held, CutsOut, Pushable, PushesBack, Removes, Movable, MovesBack, HeldBy, Ahead};
 ghost use Rattle.deque_rules.specs.Change.{Turns};
-ghost use Rattle.deque_rules.specs.Lending.{linksBefore, linksAfter};
+ghost use Rattle.deque_rules.specs.Lending.{links_before, links_after};
 ghost use Rattle.deque_rules.specs.Links.{links};
 
 use crate::NONE;
@@ -31,7 +31,7 @@ fn link_back(
     s: usize,
 )
     requires { Linkable (links heads.old tails.old next.old prev.old home.old) d s }
-    ensures { LinksBack (linksBefore heads tails next prev home) (linksAfter heads tails next prev home) d s }
+    ensures { LinksBack (links_before heads tails next prev home) (links_after heads tails next prev home) d s }
 {
     let t = tails[d];
     tails[d] = s;
@@ -51,7 +51,7 @@ fn unlink(
     s: usize,
 )
     requires { Held (links heads.old tails.old next.old prev.old home.old) s }
-    ensures { CutsOut (linksBefore heads tails next prev home) (linksAfter heads tails next prev home) s }
+    ensures { CutsOut (links_before heads tails next prev home) (links_after heads tails next prev home) s }
 {
     let d = home[s];
     let p = prev[s];
@@ -72,7 +72,7 @@ pub fn push(
     d: usize,
 ) -> usize
     requires { Pushable (links heads.old tails.old next.old prev.old home.old) free d }
-    ensures { PushesBack (linksBefore heads tails next prev home) (linksAfter heads tails next prev home) free d result }
+    ensures { PushesBack (links_before heads tails next prev home) (links_after heads tails next prev home) free d result }
 {
     let rest = take(next, free);
     link_back(heads, tails, next, prev, home, d, free);
@@ -90,7 +90,7 @@ pub fn remove(
     s: usize,
 )
     requires { Held (links heads.old tails.old next.old prev.old home.old) s }
-    ensures { Removes (linksBefore heads tails next prev home) (linksAfter heads tails next prev home) free s }
+    ensures { Removes (links_before heads tails next prev home) (links_after heads tails next prev home) free s }
 {
     unlink(heads, tails, next, prev, home, s);
     give_back(next, prev, s, free);
@@ -107,7 +107,7 @@ pub fn move_back(
     s: usize,
 )
     requires { Movable (links heads.old tails.old next.old prev.old home.old) d s }
-    ensures { MovesBack (linksBefore heads tails next prev home) (linksAfter heads tails next prev home) d s }
+    ensures { MovesBack (links_before heads tails next prev home) (links_after heads tails next prev home) d s }
 {
     unlink(heads, tails, next, prev, home, s);
     link_back(heads, tails, next, prev, home, d, s);
@@ -125,7 +125,7 @@ pub fn move_to_back(
     s: usize,
 )
     requires { Ahead (links heads.old tails.old next.old prev.old home.now) d s }
-    ensures { MovesBack (linksBefore heads tails next prev home) (linksAfter heads tails next prev home) d s }
+    ensures { MovesBack (links_before heads tails next prev home) (links_after heads tails next prev home) d s }
 {
     let p = prev[s];
     let q = next[s];
@@ -150,7 +150,7 @@ pub fn turn(
     s: usize,
 )
     requires { HeldBy (links heads.old tails.old next.old prev.old home.now) d s }
-    ensures { Turns (linksBefore heads tails next prev home) (linksAfter heads tails next prev home) d s }
+    ensures { Turns (links_before heads tails next prev home) (links_after heads tails next prev home) d s }
 {
     let q = next[s];
     if next.len() <= q {

@@ -3,7 +3,7 @@
 // made of them.
 ghost use Rattle.std.specs.Prelude.{◌<◌, length};
 ghost use Rattle.deque_rules.specs.Layout.{Sizes};
-ghost use Rattle.deque_rules.specs.Lending.{linksBefore};
+ghost use Rattle.deque_rules.specs.Lending.{links_before};
 ghost use Rattle.deque_rules.specs.Links.{links};
 ghost use Rattle.deque_rules.specs.Sound.{Walked, WalkedFree, SizesFree};
 
@@ -23,7 +23,7 @@ pub fn walk(
     d: usize,
 ) -> usize
     requires { Sizes (links heads.now tails.now next.now prev.now home.now) × (d < length heads.now) }
-    ensures { Walked (linksBefore heads tails next prev home) d result }
+    ensures { Walked (links_before heads tails next prev home) d result }
 {
     let n = next.len();
     let mut b = NONE;

@@ -1,6 +1,6 @@
 // The public calls that look, count or move a cursor: refusals in order, then the work. None asks anything of its
 // input. A refused call leaves every record as found.
-ghost use Rattle.deque_rules.specs.Deque.{DequePromised, lookFront, lookBack, length_of, nextByCursor, resetCursor, before, after};
+ghost use Rattle.deque_rules.specs.Deque.{DequePromised, look_front, look_back, length_of, next_by_cursor, reset_cursor, before, after};
 
 use crate::NONE;
 use crate::looks::{back, front, step};
@@ -20,7 +20,7 @@ pub fn look_front(
     free: usize,
     d: usize,
 ) -> Looked
-    ensures { DequePromised (lookFront d)
+    ensures { DequePromised (look_front d)
         (before heads tails lens cursors next prev home element) free
         (after heads tails lens cursors next prev home element) result }
 {
@@ -48,7 +48,7 @@ pub fn look_back(
     free: usize,
     d: usize,
 ) -> Looked
-    ensures { DequePromised (lookBack d)
+    ensures { DequePromised (look_back d)
         (before heads tails lens cursors next prev home element) free
         (after heads tails lens cursors next prev home element) result }
 {
@@ -104,7 +104,7 @@ pub fn next_by_cursor(
     free: usize,
     d: usize,
 ) -> Looked
-    ensures { DequePromised (nextByCursor d)
+    ensures { DequePromised (next_by_cursor d)
         (before heads tails lens cursors next prev home element) free
         (after heads tails lens cursors next prev home element) result }
 {
@@ -132,7 +132,7 @@ pub fn reset_cursor(
     free: usize,
     d: usize,
 ) -> Done
-    ensures { DequePromised (resetCursor d)
+    ensures { DequePromised (reset_cursor d)
         (before heads tails lens cursors next prev home element) free
         (after heads tails lens cursors next prev home element) result }
 {

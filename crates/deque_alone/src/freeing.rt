@@ -1,6 +1,6 @@
 // The public calls that take a node out and free it: refusals in order, then the work. None asks anything of its input.
 // A refused call leaves every record as found.
-ghost use Rattle.deque_rules.specs.Deque.{DequePromised, popFront, unlinkAndDrop, before, after};
+ghost use Rattle.deque_rules.specs.Deque.{DequePromised, pop_front, unlink_and_drop, before, after};
 
 use crate::refuse::{deque_refusal, node_refusal};
 use crate::unchecked::{pop, release};
@@ -20,7 +20,7 @@ pub fn pop_front(
     free: usize,
     d: usize,
 ) -> Popped
-    ensures { DequePromised (popFront d)
+    ensures { DequePromised (pop_front d)
         (before heads tails lens cursors next prev home element) free
         (after heads tails lens cursors next prev home element) result }
 {
@@ -49,7 +49,7 @@ pub fn unlink_and_drop(
     d: usize,
     s: usize,
 ) -> Dropped
-    ensures { DequePromised (unlinkAndDrop d s)
+    ensures { DequePromised (unlink_and_drop d s)
         (before heads tails lens cursors next prev home element) free
         (after heads tails lens cursors next prev home element) result }
 {

@@ -1,6 +1,6 @@
 // The public calls that put a node at the back: refusals in order, then the work. None asks anything of its input. A
 // refused call leaves every record as found.
-ghost use Rattle.deque_rules.specs.Deque.{DequePromised, pushBack, moveToBack, before, after};
+ghost use Rattle.deque_rules.specs.Deque.{DequePromised, push_back, move_to_back, before, after};
 
 use crate::refuse::{node_refusal, push_refusal};
 use crate::unchecked::{push, shift};
@@ -20,7 +20,7 @@ pub fn push_back(
     d: usize,
     e: u64,
 ) -> Pushed
-    ensures { DequePromised (pushBack d e)
+    ensures { DequePromised (push_back d e)
         (before heads tails lens cursors next prev home element) free
         (after heads tails lens cursors next prev home element) result }
 {
@@ -53,7 +53,7 @@ pub fn move_to_back(
     d: usize,
     s: usize,
 ) -> Done
-    ensures { DequePromised (moveToBack d s)
+    ensures { DequePromised (move_to_back d s)
         (before heads tails lens cursors next prev home element) free
         (after heads tails lens cursors next prev home element) result }
 {

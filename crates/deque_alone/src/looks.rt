@@ -1,7 +1,7 @@
 // For proved code only, unchecked: looks at the ends and the cursor, on records known to be sound. A caller shows that
 // the records are sound (or tests it once).
 ghost use Rattle.std.specs.Prelude.{◌<◌, ◌≡◌, length};
-ghost use Rattle.deque_rules.specs.Deque.{state, movedOn, start_at, before, after};
+ghost use Rattle.deque_rules.specs.Deque.{state, moved_on, start_at, before, after};
 ghost use Rattle.deque_rules.specs.alone.Ready.{DequeReady};
 ghost use Rattle.deque_rules.specs.alone.Work.{LooksFront, LooksBack, Steps};
 
@@ -11,7 +11,7 @@ use deque_rules::alone::Looked;
 // Where the cursor goes from the node s: to the node after it, or past the end.
 pub fn moved_on(next: &[usize], s: usize) -> usize
     requires { s < length next.now }
-    ensures { result ≡ movedOn next.now s }
+    ensures { result ≡ moved_on next.now s }
 {
     let q = next[s];
     if q == NONE {

@@ -1,7 +1,7 @@
 // For proved code only, unchecked: the work of the calls that link and unlink nodes, on records known to be sound. A
 // caller shows that the records are sound (or tests it once).
 ghost use Rattle.std.specs.Prelude.{◌<◌, ◌≡◌, length};
-ghost use Rattle.deque_rules.specs.Deque.{state, stepOff, before, after};
+ghost use Rattle.deque_rules.specs.Deque.{state, step_off, before, after};
 ghost use Rattle.deque_rules.specs.alone.Ready.{DequeReady, PushReady, NodeReady};
 ghost use Rattle.deque_rules.specs.alone.Work.{Pushes, Drops, Moves, Pops};
 
@@ -13,7 +13,7 @@ use deque_rules::alone::Popped;
 // Moves the cursor of the deque d on if it stands at s.
 fn step_off(cursors: &mut [usize], next: &[usize], d: usize, s: usize)
     requires { (d < length cursors.old) × (s < length next.now) }
-    ensures { cursors.new ≡ stepOff cursors.old next.now d s }
+    ensures { cursors.new ≡ step_off cursors.old next.now d s }
 {
     if cursors[d] != s {
         return;

@@ -47,79 +47,79 @@ module _ (z : ℕ) (f : ℕ → ℕ) where
       let e : length xs ≡ length r.0 = ap length (alike b xs r.0 p (λ v k. p v (r.3 v k)) h r.1) in
       omega (arith, r.2, e)
 
-  pub way-once : (b : ℕ) (xs : List ℕ) → Way z f b xs → Real z xs → Once xs
-  way-once b [] h p = tt
-  way-once b (x ∷ xs) h p = (way_apart x xs h.1 (λ v m. p v (inr m)), way-once x xs h.1 (λ v m. p v (inr m)))
+  pub way_once : (b : ℕ) (xs : List ℕ) → Way z f b xs → Real z xs → Once xs
+  way_once b [] h p = tt
+  way_once b (x ∷ xs) h p = (way_apart x xs h.1 (λ v m. p v (inr m)), way_once x xs h.1 (λ v m. p v (inr m)))
 
 module _ (f : ℕ → ℕ) where
-  pub path-way : (x : ℕ) (xs : List ℕ) → Path f (x ∷ xs) → Way none f x xs
-  path-way x [] h = h.0
-  path-way x (y ∷ ys) h = (h.0, path-way y ys h.1)
+  pub path_way : (x : ℕ) (xs : List ℕ) → Path f (x ∷ xs) → Way none f x xs
+  path_way x [] h = h.0
+  path_way x (y ∷ ys) h = (h.0, path_way y ys h.1)
 
-  pub path-alike : (xs ys : List ℕ) → Real none xs → Real none ys → first xs ≡ first ys → Path f xs → Path f ys → xs ≡ ys
-  path-alike [] [] p q e h k = refl
-  path-alike [] (y ∷ ys) p q e h k = absurd (q y (inl refl) (sym e))
-  path-alike (x ∷ xs) [] p q e h k = absurd (p x (inl refl) e)
-  path-alike (x ∷ xs) (y ∷ ys) p q e h k =
-      let i : xs ≡ ys = path-alike xs ys (λ v m. p v (inr m)) (λ v m. q v (inr m)) (sym h.0 ∙ ap f e ∙ k.0) h.1 k.1 in
+  pub path_alike : (xs ys : List ℕ) → Real none xs → Real none ys → first xs ≡ first ys → Path f xs → Path f ys → xs ≡ ys
+  path_alike [] [] p q e h k = refl
+  path_alike [] (y ∷ ys) p q e h k = absurd (q y (inl refl) (sym e))
+  path_alike (x ∷ xs) [] p q e h k = absurd (p x (inl refl) e)
+  path_alike (x ∷ xs) (y ∷ ys) p q e h k =
+      let i : xs ≡ ys = path_alike xs ys (λ v m. p v (inr m)) (λ v m. q v (inr m)) (sym h.0 ∙ ap f e ∙ k.0) h.1 k.1 in
       cc
 
-  pub path-once : (xs : List ℕ) → Path f xs → Real none xs → Once xs
-  path-once [] h p = tt
-  path-once (x ∷ xs) h p =
-      let w = path-way x xs h in
-      (way_apart none f x xs w (λ v m. p v (inr m)), way-once none f x xs w (λ v m. p v (inr m)))
+  pub path_once : (xs : List ℕ) → Path f xs → Real none xs → Once xs
+  path_once [] h p = tt
+  path_once (x ∷ xs) h p =
+      let w = path_way x xs h in
+      (way_apart none f x xs w (λ v m. p v (inr m)), way_once none f x xs w (λ v m. p v (inr m)))
 
-pub path-agree : (f f' : ℕ → ℕ) (xs : List ℕ) → ((x : ℕ) → In x xs → f' x ≡ f x) → Path f xs → Path f' xs
-path-agree f f' [] p h = tt
-path-agree f f' (x ∷ xs) p h = (p x (inl refl) ∙ h.0, path-agree f f' xs (λ y m. p y (inr m)) h.1)
+pub path_agree : (f f' : ℕ → ℕ) (xs : List ℕ) → ((x : ℕ) → In x xs → f' x ≡ f x) → Path f xs → Path f' xs
+path_agree f f' [] p h = tt
+path_agree f f' (x ∷ xs) p h = (p x (inl refl) ∙ h.0, path_agree f f' xs (λ y m. p y (inr m)) h.1)
 
 module _ (z : ℕ) (f g : ℕ → ℕ) where
-  pub chain-way : (b : ℕ) (xs : List ℕ) → Chain z f g b xs → Way z f b xs
-  chain-way b [] h = h.0
-  chain-way b (x ∷ xs) h = (h.0, chain-way x xs h.2)
+  pub chain_way : (b : ℕ) (xs : List ℕ) → Chain z f g b xs → Way z f b xs
+  chain_way b [] h = h.0
+  chain_way b (x ∷ xs) h = (h.0, chain_way x xs h.2)
 
-  pub chain-apart : (b : ℕ) (xs : List ℕ) → Chain z f g b xs → Real z xs → In b xs → ⊥
-  chain-apart b xs h p m = way_apart z f b xs (chain-way b xs h) p m
+  pub chain_apart : (b : ℕ) (xs : List ℕ) → Chain z f g b xs → Real z xs → In b xs → ⊥
+  chain_apart b xs h p m = way_apart z f b xs (chain_way b xs h) p m
 
-  pub chain-once : (b : ℕ) (xs : List ℕ) → Chain z f g b xs → Real z xs → Once xs
-  chain-once b xs h p = way-once z f b xs (chain-way b xs h) p
+  pub chain_once : (b : ℕ) (xs : List ℕ) → Chain z f g b xs → Real z xs → Once xs
+  chain_once b xs h p = way_once z f b xs (chain_way b xs h) p
 
   -- f leads to the first, or to z where there is none
-  pub chain-start : (b : ℕ) (xs : List ℕ) → Chain z f g b xs → (f b ≡ z) ⊎ In (f b) xs
-  chain-start b [] h = inl h.0
-  chain-start b (x ∷ xs) h = inr (inl h.0)
+  pub chain_start : (b : ℕ) (xs : List ℕ) → Chain z f g b xs → (f b ≡ z) ⊎ In (f b) xs
+  chain_start b [] h = inl h.0
+  chain_start b (x ∷ xs) h = inr (inl h.0)
 
   -- g leads from z to the last
-  pub chain-last : (b : ℕ) (xs : List ℕ) → Chain z f g b xs → g z ≡ last_or b xs
-  chain-last b [] h = h.1
-  chain-last b (x ∷ xs) h = chain-last x xs h.2
+  pub chain_last : (b : ℕ) (xs : List ℕ) → Chain z f g b xs → g z ≡ last_or b xs
+  chain_last b [] h = h.1
+  chain_last b (x ∷ xs) h = chain_last x xs h.2
 
-  pub chain-end : (b : ℕ) (xs : List ℕ) → Chain z f g b xs → (g z ≡ b) ⊎ In (g z) xs
-  chain-end b [] h = inl h.1
-  chain-end b (x ∷ xs) h = ⊎_elim (λ e. inr (inl e)) (λ m. inr (inr m)) (chain-end x xs h.2)
+  pub chain_end : (b : ℕ) (xs : List ℕ) → Chain z f g b xs → (g z ≡ b) ⊎ In (g z) xs
+  chain_end b [] h = inl h.1
+  chain_end b (x ∷ xs) h = ⊎_elim (λ e. inr (inl e)) (λ m. inr (inr m)) (chain_end x xs h.2)
 
   -- f and g undo one another at the start, at a member, and at z
-  pub undo-start : (b : ℕ) (xs : List ℕ) → Chain z f g b xs → g (f b) ≡ b
-  undo-start b [] h = ap g h.0 ∙ h.1
-  undo-start b (x ∷ xs) h = ap g h.0 ∙ h.1
+  pub undo_start : (b : ℕ) (xs : List ℕ) → Chain z f g b xs → g (f b) ≡ b
+  undo_start b [] h = ap g h.0 ∙ h.1
+  undo_start b (x ∷ xs) h = ap g h.0 ∙ h.1
 
   pub undo : (b : ℕ) (xs : List ℕ) → Chain z f g b xs → (s : ℕ) → In s xs → (f (g s) ≡ s) × (g (f s) ≡ s)
-  undo b (x ∷ xs) h s (inl e) = (rw e (ap f h.1 ∙ h.0), rw e (undo-start x xs h.2))
+  undo b (x ∷ xs) h s (inl e) = (rw e (ap f h.1 ∙ h.0), rw e (undo_start x xs h.2))
   undo b (x ∷ xs) h s (inr m) = undo x xs h.2 s m
 
-  pub undo-end : (b : ℕ) (xs : List ℕ) → Chain z f g b xs → f (g z) ≡ z
-  undo-end b [] h = ap f h.1 ∙ h.0
-  undo-end b (x ∷ xs) h = undo-end x xs h.2
+  pub undo_end : (b : ℕ) (xs : List ℕ) → Chain z f g b xs → f (g z) ≡ z
+  undo_end b [] h = ap f h.1 ∙ h.0
+  undo_end b (x ∷ xs) h = undo_end x xs h.2
 
   -- the slot before a member is b or a member, the slot after it z or a member
-  pub prev-in : (b : ℕ) (xs : List ℕ) → Chain z f g b xs → (s : ℕ) → In s xs → (g s ≡ b) ⊎ In (g s) xs
-  prev-in b (x ∷ xs) h s (inl e) = inl (ap g e ∙ h.1)
-  prev-in b (x ∷ xs) h s (inr m) = ⊎_elim (λ e. inr (inl e)) (λ k. inr (inr k)) (prev-in x xs h.2 s m)
+  pub prev_in : (b : ℕ) (xs : List ℕ) → Chain z f g b xs → (s : ℕ) → In s xs → (g s ≡ b) ⊎ In (g s) xs
+  prev_in b (x ∷ xs) h s (inl e) = inl (ap g e ∙ h.1)
+  prev_in b (x ∷ xs) h s (inr m) = ⊎_elim (λ e. inr (inl e)) (λ k. inr (inr k)) (prev_in x xs h.2 s m)
 
-  pub next-in : (b : ℕ) (xs : List ℕ) → Chain z f g b xs → (s : ℕ) → In s xs → (f s ≡ z) ⊎ In (f s) xs
-  next-in b (x ∷ xs) h s (inl e) = ⊎_elim (λ k. inl (ap f e ∙ k)) (λ k. inr (inr (rw e k))) (chain-start x xs h.2)
-  next-in b (x ∷ xs) h s (inr m) = ⊎_elim (λ e. inl e) (λ k. inr (inr k)) (next-in x xs h.2 s m)
+  pub next_in : (b : ℕ) (xs : List ℕ) → Chain z f g b xs → (s : ℕ) → In s xs → (f s ≡ z) ⊎ In (f s) xs
+  next_in b (x ∷ xs) h s (inl e) = ⊎_elim (λ k. inl (ap f e ∙ k)) (λ k. inr (inr (rw e k))) (chain_start x xs h.2)
+  next_in b (x ∷ xs) h s (inr m) = ⊎_elim (λ e. inl e) (λ k. inr (inr k)) (next_in x xs h.2 s m)
 
   -- a chain through s is one up to s and one from s on
   pub parts : (b : ℕ) (us : List ℕ) (s : ℕ) (ws : List ℕ) → Chain z f g b (us ++ (s ∷ ws)) → Chain s f g b us × Chain z f g s ws
@@ -157,7 +157,7 @@ pub bend : (z z' : ℕ) (f g f' g' : ℕ → ℕ) (b : ℕ) (xs : List ℕ) → 
     ((x : ℕ) → (x ≡ b) ⊎ In x xs → (x ≡ g z → ⊥) → f' x ≡ f x) → ((x : ℕ) → In x xs → g' x ≡ g x) → Chain z f g b xs → Chain z' f' g' b xs
 bend z z' f g f' g' b [] p a c i j h = (ap f' (sym h.1) ∙ a, c ∙ h.1)
 bend z z' f g f' g' b (x ∷ xs) p a c i j h = (
-  i b (inl refl) (λ e. p x (inl refl) (sym h.0 ∙ ap f e ∙ undo-end z f g b (x ∷ xs) h)) ∙ h.0,
+  i b (inl refl) (λ e. p x (inl refl) (sym h.0 ∙ ap f e ∙ undo_end z f g b (x ∷ xs) h)) ∙ h.0,
   j x (inl refl) ∙ h.1,
   bend z z' f g f' g' x xs (λ v m. p v (inr m)) a c (λ v m. i v (inr m)) (λ v m. j v (inr m)) h.2,
 )
@@ -178,10 +178,10 @@ module _ (z : ℕ) (f g f' g' : ℕ → ℕ) (s : ℕ) (f-last : f' (g z) ≡ s)
 module _ (z : ℕ) (f g f' g' : ℕ → ℕ) (s : ℕ) (f-at : f' (g s) ≡ f s) (g-at : g' (f s) ≡ g s)
     (f-other : (x : ℕ) → (x ≡ g s → ⊥) → f' x ≡ f x) (g-other : (x : ℕ) → (x ≡ f s → ⊥) → g' x ≡ g x) where
   -- where s comes next, after b
-  cut-here : (b : ℕ) (xs : List ℕ) → Real z xs → f b ≡ s → g s ≡ b → (In b xs → ⊥) → Chain z f g s xs → Chain z f' g' b xs
-  cut-here b [] p q r m h = (ap f' (sym r) ∙ f-at ∙ h.0, ap g' (sym h.0) ∙ g-at ∙ r)
-  cut-here b (v ∷ w) p q r m h =
-      let a : In v w → ⊥ = chain-apart z f g v w h.2 (λ v k. p v (inr k)) in (
+  cut_here : (b : ℕ) (xs : List ℕ) → Real z xs → f b ≡ s → g s ≡ b → (In b xs → ⊥) → Chain z f g s xs → Chain z f' g' b xs
+  cut_here b [] p q r m h = (ap f' (sym r) ∙ f-at ∙ h.0, ap g' (sym h.0) ∙ g-at ∙ r)
+  cut_here b (v ∷ w) p q r m h =
+      let a : In v w → ⊥ = chain_apart z f g v w h.2 (λ v k. p v (inr k)) in (
         ap f' (sym r) ∙ f-at ∙ h.0,
         ap g' (sym h.0) ∙ g-at ∙ r,
         agree z f g f' g' v w
@@ -193,10 +193,10 @@ module _ (z : ℕ) (f g f' g' : ℕ → ℕ) (s : ℕ) (f-at : f' (g s) ≡ f s)
 
   pub cut : (b : ℕ) (xs : List ℕ) → Real z xs → (b ≡ s → ⊥) → In s xs → Chain z f g b xs → Chain z f' g' b (remove s xs)
   cut b (x ∷ xs) p n m h =
-      let a : In b (x ∷ xs) → ⊥ = chain-apart z f g b (x ∷ xs) h p in
+      let a : In b (x ∷ xs) → ⊥ = chain_apart z f g b (x ∷ xs) h p in
       let u : (f (g s) ≡ s) × (g (f s) ≡ s) = undo z f g b (x ∷ xs) h s m in
       ⊎_elim
-      (λ (e : s ≡ x). simp (eq-eqb s x e) (cut-here b xs (λ v k. p v (inr k)) (h.0 ∙ sym e) (ap g e ∙ h.1) (λ k. a (inr k)) (rw e h.2)))
+      (λ (e : s ≡ x). simp (eq-eqb s x e) (cut_here b xs (λ v k. p v (inr k)) (h.0 ∙ sym e) (ap g e ∙ h.1) (λ k. a (inr k)) (rw e h.2)))
       (λ (d : s ≡ x → ⊥).
       simp (ne_eqb s x d) (
         f-other b (λ k. d (sym u.0 ∙ ap f (sym k) ∙ h.0)) ∙ h.0,

@@ -7,31 +7,31 @@ use mathlib.Core.List.{List, ◌∷◌}
 use lib.ListN.{length, get_or, set, length-set}
 use lib.Seq.{get_or-set_same, get_or-set_other}
 use borrow.Author.Tests.{ne_eqb}
-use Rattle.deque_rules.specs.Links.{Path, first, Links, Deques as Lists, links, deq, slotAfter as step, Rep}
+use Rattle.deque_rules.specs.Links.{Path, first, Links, Deques as Lists, links, deq, slot_after as step, Rep}
 use Rattle.numbers.specs.Lists.{rest}
 use Rattle.numbers.specs.Shared.{no_slot as none, In, Once}
 use Rattle.deque_rules.specs.Lists.{taken, freed}
 use Rattle.deque_rules.specs.Free.{Takes, GivesBack}
 use Rattle.numbers.proofs.Members.{in-at, in-same}
 use Rattle.deque_rules.proofs.Slots.{some_first}
-use Rattle.deque_rules.proofs.Chains.{agree, path-agree, path-once}
+use Rattle.deque_rules.proofs.Chains.{agree, path_agree, path_once}
 use Rattle.deque_rules.proofs.Swap.{free_real}
 
 -- the first free slot is loose: the records stay
 pub take_rep : (a : Links) (v : Lists) (loose : List ℕ) (s : ℕ) → Rep a v loose → v.free ≡ s ∷ rest v.free → Rep a (taken v) (s ∷ loose)
 take_rep a v loose s r e =
     let p : Path (λ (x : ℕ). get_or a.next x 0) (s ∷ rest v.free) = rw e at r.chained in
-    let o : Once (s ∷ rest v.free) = subst (λ (xs : List ℕ). Once xs) e (path-once _ v.free r.chained (free_real a v loose r)) in
+    let o : Once (s ∷ rest v.free) = subst (λ (xs : List ℕ). Once xs) e (path_once _ v.free r.chained (free_real a v loose r)) in
     let there : (x : ℕ) → In x (s ∷ rest v.free) → In x v.free = λ x m. in-same x (sym e) m in
     record {
-      heads-len = r.heads-len;
-      tails-len = r.tails-len;
-      next-len = r.next-len;
-      prev-len = r.prev-len;
-      home-len = r.home-len;
+      heads_len = r.heads_len;
+      tails_len = r.tails_len;
+      next_len = r.next_len;
+      prev_len = r.prev_len;
+      home_len = r.home_len;
       few = r.few;
       small = r.small;
-      held-len = r.held-len;
+      held_len = r.held_len;
       linked = r.linked;
       member = r.member;
       homed = r.homed;
@@ -48,31 +48,31 @@ take_rep a v loose s r e =
     }
 
 -- what `take` ensures
-pub take-does : (next : List ℕ) (free : ℕ) → free < length next → Takes next free (get_or next free 0)
-take-does next free l =
+pub take_does : (next : List ℕ) (free : ℕ) → free < length next → Takes next free (get_or next free 0)
+take_does next free l =
     record {
       is = refl;
       does = λ h t p o v loose r i.
-          let e : v.free ≡ free ∷ rest v.free = some_first v.free free i (λ k. omega (arith, l, r.next-len, r.small, k)) in
+          let e : v.free ≡ free ∷ rest v.free = some_first v.free free i (λ k. omega (arith, l, r.next_len, r.small, k)) in
           let c : Path (λ (x : ℕ). get_or next x 0) (free ∷ rest v.free) = rw e at r.chained in
           (take_rep (links h t next p o) v loose free r e, sym c.0, e);
     }
 
 -- a loose slot is free: only its own next and prev change
-pub give-rep : (h t n p o : List ℕ) (v : Lists) (loose : List ℕ) (s free w : ℕ) → Rep (links h t n p o) v (s ∷ loose) → first v.free ≡ free → Rep
+pub give_rep : (h t n p o : List ℕ) (v : Lists) (loose : List ℕ) (s free w : ℕ) → Rep (links h t n p o) v (s ∷ loose) → first v.free ≡ free → Rep
     (links h t (set n s free) (set p s w) o) (freed s v) loose
-give-rep h t n p o v loose s free w r f =
+give_rep h t n p o v loose s free w r f =
     let l = r.apart s (inl refl) in
-    let not-s : (x : ℕ) → x ≡ s → In x v.free → ⊥ = λ x e m. l.2 (in-at v.free e m) in
+    let not_s : (x : ℕ) → x ≡ s → In x v.free → ⊥ = λ x e m. l.2 (in-at v.free e m) in
     record {
-      heads-len = r.heads-len;
-      tails-len = r.tails-len;
-      next-len = simp length-set r.next-len;
-      prev-len = simp length-set r.prev-len;
-      home-len = r.home-len;
+      heads_len = r.heads_len;
+      tails_len = r.tails_len;
+      next_len = simp length-set r.next_len;
+      prev_len = simp length-set r.prev_len;
+      home_len = r.home_len;
       few = r.few;
       small = r.small;
-      held-len = r.held-len;
+      held_len = r.held_len;
       linked = λ e he.
           agree none (step h n e) (step t p e) _ _ none (deq v e) refl
           (λ x m.
@@ -84,8 +84,8 @@ give-rep h t n p o v loose s free w r f =
       member = r.member;
       homed = r.homed;
       chained = (
-        get_or-set_same n s free 0 (rw r.next-len l.0) ∙ sym f,
-        path-agree (λ (x : ℕ). get_or n x 0) _ v.free (λ x m. get_or-set_other n s x free 0 (λ e. not-s x e m)) r.chained,
+        get_or-set_same n s free 0 (rw r.next_len l.0) ∙ sym f,
+        path_agree (λ (x : ℕ). get_or n x 0) _ v.free (λ x m. get_or-set_other n s x free 0 (λ e. not_s x e m)) r.chained,
       );
       spare = λ x m. ⊎_elim (λ (e : x ≡ s). (rw e l.0, rw e l.1)) (λ k. r.spare x k) m;
       apart = λ x m.
@@ -96,5 +96,5 @@ give-rep h t n p o v loose s free w r f =
     }
 
 -- what `give_back` ensures
-pub give-does : (n p : List ℕ) (s free : ℕ) → GivesBack n p (set n s free) (set p s none) s free
-give-does n p s free = record { next-is = refl; prev-is = refl; does = λ h t o v loose r f. give-rep h t n p o v loose s free none r f }
+pub give_does : (n p : List ℕ) (s free : ℕ) → GivesBack n p (set n s free) (set p s none) s free
+give_does n p s free = record { next_is = refl; prev_is = refl; does = λ h t o v loose r f. give_rep h t n p o v loose s free none r f }

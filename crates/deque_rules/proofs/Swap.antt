@@ -8,25 +8,25 @@ use mathlib.Core.List.{List, []}
 use lib.ListN.{length, get_or, length-set}
 use lib.Seq.{get_or-set_same, get_or-set_other}
 use borrow.Author.Tests.{ne_eqb}
-use Rattle.deque_rules.specs.Links.{Chain, Links, Deques as Lists, slotAfter as step, home_of, deq, Rep}
+use Rattle.deque_rules.specs.Links.{Chain, Links, Deques as Lists, slot_after as step, home_of, deq, Rep}
 use Rattle.numbers.specs.Shared.{no_slot as none, In, Once}
-use Rattle.deque_rules.specs.Lists.{withDeque}
+use Rattle.deque_rules.specs.Lists.{with_deque}
 use Rattle.numbers.proofs.Cases.{same?}
 use Rattle.numbers.proofs.Members.{in-at}
-use Rattle.deque_rules.proofs.Chains.{agree, path-agree, chain-once}
+use Rattle.deque_rules.proofs.Chains.{agree, path_agree, chain_once}
 
 -- the records b differ from a in the ends of the deque d, in the links of its slots and of s, and in the home of s at
 -- most
 pub record Local (a b : Links) (d s : ℕ) : Type 0 where
-  pub heads-len : length b.heads ≡ length a.heads
-  pub tails-len : length b.tails ≡ length a.tails
-  pub next-len : length b.next ≡ length a.next
-  pub prev-len : length b.prev ≡ length a.prev
-  pub home-len : length b.home ≡ length a.home
-  pub heads-off : (e : ℕ) → (e ≡ d → ⊥) → get_or b.heads e 0 ≡ get_or a.heads e 0
-  pub tails-off : (e : ℕ) → (e ≡ d → ⊥) → get_or b.tails e 0 ≡ get_or a.tails e 0
-  pub next-off : (x : ℕ) → x < length a.next → (home_of a x ≡ d → ⊥) → (x ≡ s → ⊥) → get_or b.next x 0 ≡ get_or a.next x 0
-  pub prev-off : (x : ℕ) → x < length a.prev → (home_of a x ≡ d → ⊥) → (x ≡ s → ⊥) → get_or b.prev x 0 ≡ get_or a.prev x 0
+  pub heads_len : length b.heads ≡ length a.heads
+  pub tails_len : length b.tails ≡ length a.tails
+  pub next_len : length b.next ≡ length a.next
+  pub prev_len : length b.prev ≡ length a.prev
+  pub home_len : length b.home ≡ length a.home
+  pub heads_off : (e : ℕ) → (e ≡ d → ⊥) → get_or b.heads e 0 ≡ get_or a.heads e 0
+  pub tails_off : (e : ℕ) → (e ≡ d → ⊥) → get_or b.tails e 0 ≡ get_or a.tails e 0
+  pub next_off : (x : ℕ) → x < length a.next → (home_of a x ≡ d → ⊥) → (x ≡ s → ⊥) → get_or b.next x 0 ≡ get_or a.next x 0
+  pub prev_off : (x : ℕ) → x < length a.prev → (home_of a x ≡ d → ⊥) → (x ≡ s → ⊥) → get_or b.prev x 0 ≡ get_or a.prev x 0
   pub home_off : (x : ℕ) → (x ≡ s → ⊥) → home_of b x ≡ home_of a x
 
 -- what is known of s and of the new list
@@ -45,80 +45,80 @@ pub record Suits (a b : Links) (v : Lists) (loose loose' : List ℕ) (d s : ℕ)
 module _ (a b : Links) (v : Lists) (loose loose' : List ℕ) (d s : ℕ) (xs : List ℕ) (r : Rep a v loose) (l : Local a b d s)
     (t : Suits a b v loose loose' d s xs) where
   -- d is no none, so neither is any deque's number
-  real-d : (e : ℕ) → e < v.count → e ≡ none → ⊥
-  real-d e h i = omega (arith, h, r.few, i)
+  real_d : (e : ℕ) → e < v.count → e ≡ none → ⊥
+  real_d e h i = omega (arith, h, r.few, i)
 
   -- a slot of another deque is not s, and a free slot is not s
   far : (e x : ℕ) → e < v.count → (e ≡ d → ⊥) → home_of a x ≡ e → x ≡ s → ⊥
   far e x h n i j =
       ⊎_elim
       (λ (k : home_of a s ≡ d). n (sym i ∙ ap (home_of a) j ∙ k))
-      (λ (k : home_of a s ≡ none). real-d e h (sym i ∙ ap (home_of a) j ∙ k))
+      (λ (k : home_of a s ≡ none). real_d e h (sym i ∙ ap (home_of a) j ∙ k))
       t.near
 
-  free-far : (x : ℕ) → In x v.free → x ≡ s → ⊥
-  free-far x m e = t.not_free (in-at v.free e m)
+  free_far : (x : ℕ) → In x v.free → x ≡ s → ⊥
+  free_far x m e = t.not_free (in-at v.free e m)
 
-  at-d : deq (withDeque d xs v) d ≡ xs
-  at-d = get_or-set_same v.held d xs [] (rw r.held-len t.deque)
+  at_d : deq (with_deque d xs v) d ≡ xs
+  at_d = get_or-set_same v.held d xs [] (rw r.held_len t.deque)
 
-  off-d : (e : ℕ) → (e ≡ d → ⊥) → deq (withDeque d xs v) e ≡ deq v e
-  off-d e n = get_or-set_other v.held d e xs [] n
+  off_d : (e : ℕ) → (e ≡ d → ⊥) → deq (with_deque d xs v) e ≡ deq v e
+  off_d e n = get_or-set_other v.held d e xs [] n
 
-  linked-e : (e : ℕ) → e < v.count → (e ≡ d → ⊥) → Chain none (step b.heads b.next e) (step b.tails b.prev e) none (deq v e)
-  linked-e e h n =
+  linked_e : (e : ℕ) → e < v.count → (e ≡ d → ⊥) → Chain none (step b.heads b.next e) (step b.tails b.prev e) none (deq v e)
+  linked_e e h n =
       agree none (step a.heads a.next e) (step a.tails a.prev e) _ _ none (deq v e)
-      (l.heads-off e n)
+      (l.heads_off e n)
       (λ x m.
       let i = r.member e x h m in
       let c : home_of a x ≡ d → ⊥ = λ j. n (sym i.1 ∙ j) in
       let k : x ≡ none → ⊥ = λ j. omega (arith, i.0, r.small, j) in (
-        simp (ne_eqb x none k) (l.next-off x (rw r.next-len i.0) c (far e x h n i.1)),
+        simp (ne_eqb x none k) (l.next_off x (rw r.next_len i.0) c (far e x h n i.1)),
         simp (ne_eqb x none k)
-            (l.prev-off x (rw r.prev-len i.0) c (far e x h n i.1)),
+            (l.prev_off x (rw r.prev_len i.0) c (far e x h n i.1)),
       ))
-      (l.tails-off e n)
+      (l.tails_off e n)
       (r.linked e h)
 
   -- a slot whose home is another deque now has had it before
-  home-e : (x : ℕ) → (home_of b x ≡ d → ⊥) → (home_of b x ≡ none → ⊥) → home_of b x ≡ home_of a x
-  home-e x n m =
+  home_e : (x : ℕ) → (home_of b x ≡ d → ⊥) → (home_of b x ≡ none → ⊥) → home_of b x ≡ home_of a x
+  home_e x n m =
       l.home_off x (λ e. ⊎_elim (λ (k : home_of b s ≡ d). n (ap (home_of b) e ∙ k)) (λ (k : home_of b s ≡ none). m (ap (home_of b) e ∙ k)) t.now)
 
-  pub swapped : Rep b (withDeque d xs v) loose'
+  pub swapped : Rep b (with_deque d xs v) loose'
   swapped =
       record {
-        heads-len = l.heads-len ∙ r.heads-len;
-        tails-len = l.tails-len ∙ r.tails-len;
-        next-len = l.next-len ∙ r.next-len;
-        prev-len = l.prev-len ∙ r.prev-len;
-        home-len = l.home-len ∙ r.home-len;
+        heads_len = l.heads_len ∙ r.heads_len;
+        tails_len = l.tails_len ∙ r.tails_len;
+        next_len = l.next_len ∙ r.next_len;
+        prev_len = l.prev_len ∙ r.prev_len;
+        home_len = l.home_len ∙ r.home_len;
         few = r.few;
         small = r.small;
-        held-len = simp length-set r.held-len;
-        linked = λ e h. ⊎_elim (λ (i : e ≡ d). rw (i, at-d) t.linked) (λ (n : e ≡ d → ⊥). rw (off-d e n) (linked-e e h n)) (same? e d);
+        held_len = simp length-set r.held_len;
+        linked = λ e h. ⊎_elim (λ (i : e ≡ d). rw (i, at_d) t.linked) (λ (n : e ≡ d → ⊥). rw (off_d e n) (linked_e e h n)) (same? e d);
         member = λ e x h m.
             ⊎_elim
-            (λ (i : e ≡ d). let u = t.member x (rw (i, at-d) at m) in (u.0, u.1 ∙ sym i))
+            (λ (i : e ≡ d). let u = t.member x (rw (i, at_d) at m) in (u.0, u.1 ∙ sym i))
             (λ (n : e ≡ d → ⊥).
-            let u = r.member e x h (rw (off-d e n) at m) in
+            let u = r.member e x h (rw (off_d e n) at m) in
             (u.0, l.home_off x (far e x h n u.1) ∙ u.1))
             (same? e d);
         homed = λ x h n.
             ⊎_elim
-            (λ (i : home_of b x ≡ d). rw (i, at-d) (t.deque, t.homed x h i))
+            (λ (i : home_of b x ≡ d). rw (i, at_d) (t.deque, t.homed x h i))
             (λ (i : home_of b x ≡ d → ⊥).
-            let e = home-e x i n in
+            let e = home_e x i n in
             let u = r.homed x h (λ k. n (e ∙ k)) in
-            rw (off-d (home_of b x) i, e) u)
+            rw (off_d (home_of b x) i, e) u)
             (same? (home_of b x) d);
         chained =
-            path-agree (λ (x : ℕ). get_or a.next x 0) _ v.free
+            path_agree (λ (x : ℕ). get_or a.next x 0) _ v.free
             (λ x m.
             let u = r.spare x m in
-            l.next-off x (rw r.next-len u.0) (λ k. real-d d t.deque (sym k ∙ u.1)) (free-far x m))
+            l.next_off x (rw r.next_len u.0) (λ k. real_d d t.deque (sym k ∙ u.1)) (free_far x m))
             r.chained;
-        spare = λ x m. let u = r.spare x m in (u.0, l.home_off x (free-far x m) ∙ u.1);
+        spare = λ x m. let u = r.spare x m in (u.0, l.home_off x (free_far x m) ∙ u.1);
         apart = t.apart;
         once = t.once;
         covered = λ x h e.
@@ -130,11 +130,11 @@ module _ (a b : Links) (v : Lists) (loose loose' : List ℕ) (d s : ℕ) (xs : L
 
 -- ---- what every law of a deque's slots starts from
 module _ (a : Links) (v : Lists) (loose : List ℕ) (r : Rep a v loose) where
-  pub slot-real : (d : ℕ) → d < v.count → (x : ℕ) → In x (deq v d) → x ≡ none → ⊥
-  slot-real d h x m e = omega (arith, (r.member d x h m).0, r.small, e)
+  pub slot_real : (d : ℕ) → d < v.count → (x : ℕ) → In x (deq v d) → x ≡ none → ⊥
+  slot_real d h x m e = omega (arith, (r.member d x h m).0, r.small, e)
 
   pub free_real : (x : ℕ) → In x v.free → x ≡ none → ⊥
   free_real x m e = omega (arith, (r.spare x m).0, r.small, e)
 
-  pub deq-once : (d : ℕ) → d < v.count → Once (deq v d)
-  deq-once d h = chain-once none _ _ none (deq v d) (r.linked d h) (slot-real d h)
+  pub deq_once : (d : ℕ) → d < v.count → Once (deq v d)
+  deq_once d h = chain_once none _ _ none (deq v d) (r.linked d h) (slot_real d h)

@@ -6,13 +6,13 @@ use mathlib.Core.Bool.{Bool, true, false, false≢true, not}
 use mathlib.Core.List.{List}
 use lib.ListN.{length}
 use lib.Dec.{eqb}
-use borrow.Author.Tests.{eq-eqb, eqb-true, not-true, not-false}
+use borrow.Author.Tests.{eq-eqb, eqb-true, not_true, not-false}
 use Rattle.numbers.specs.Shared.{no_slot as none}
 use Rattle.deque_rules.specs.Links.{Links, links, Whole}
 use Rattle.deque_rules.specs.Layout.{Sizes}
 use Rattle.deque_rules.specs.Sound.{Verdict, Sized, Walked, WalkedFree}
 use Rattle.numbers.proofs.Cases.{same?}
-use Rattle.deque_rules.proofs.Judging.{Upto, begin, whole-sizes, no_walk, no-walk-free, too_few, is_whole}
+use Rattle.deque_rules.proofs.Judging.{Upto, begin, whole_sizes, no_walk, no_walk_free, too_few, is_whole}
 
 module _ (a : Links) where
   -- the lengths
@@ -27,14 +27,14 @@ module _ (a : Links) where
     nay : (Whole a free → ⊥) → Verdict a free false
     nay n = record { sound = λ e. absurd (false≢true e); complete = λ w. absurd (n w) }
 
-    pub not-sized : (r : Bool) → Sized a r → not r ≡ true → Verdict a free false
-    not-sized r z e = nay (λ w. false≢true (sym (not-true r e) ∙ z.complete (whole-sizes a free w)))
+    pub not_sized : (r : Bool) → Sized a r → not r ≡ true → Verdict a free false
+    not_sized r z e = nay (λ w. false≢true (sym (not_true r e) ∙ z.complete (whole_sizes a free w)))
 
     pub fails : (d total c : ℕ) → Upto a d total → d < length a.heads → Walked a d c → none < c → Verdict a free false
     fails d total c u h k l = nay (no_walk a free d c h k l)
 
-    pub fails-free : (c : ℕ) → WalkedFree a.next a.home free c → none < c → Verdict a free false
-    fails-free c k l = nay (no-walk-free a free c k l)
+    pub fails_free : (c : ℕ) → WalkedFree a.next a.home free c → none < c → Verdict a free false
+    fails_free c k l = nay (no_walk_free a free c k l)
 
     pub counts : (d total c : ℕ) → Upto a d total → length a.heads ≤ d → WalkedFree a.next a.home free c → c ≤ none → Verdict a free
         (eqb (total + c) (length a.next))
@@ -46,13 +46,13 @@ module _ (a : Links) where
         }
 
 -- the last test of the lengths
-pub sized-by : (h t n p o : List ℕ) → length h ≤ none → length n ≤ none → length t ≡ length h → length p ≡ length n → Sized (links h t n p o)
+pub sized_by : (h t n p o : List ℕ) → length h ≤ none → length n ≤ none → length t ≡ length h → length p ≡ length n → Sized (links h t n p o)
     (eqb (length o) (length n))
-sized-by h t n p o i j k l =
+sized_by h t n p o i j k l =
     record {
-      sound = λ e. record { tails-len = k; prev-len = l; home-len = eqb-true (length o) (length n) e; few = i; small = j };
-      complete = λ z. eq-eqb (length o) (length n) z.home-len;
+      sound = λ e. record { tails_len = k; prev_len = l; home_len = eqb-true (length o) (length n) e; few = i; small = j };
+      complete = λ z. eq-eqb (length o) (length n) z.home_len;
     }
 
 -- the laws of the ways out of the loop, and after it
-pub ruleset exits = (not-sized, fails, fails-free, counts)
+pub ruleset exits = (not_sized, fails, fails_free, counts)

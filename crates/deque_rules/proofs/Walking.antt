@@ -6,11 +6,11 @@ use mathlib.Core.Logic.{inl, inr, ⊎_elim}
 use mathlib.Core.List.{List, [], ◌∷◌}
 use lib.ListN.{length, get_or}
 use Rattle.numbers.specs.Shared.{no_slot as none, In}
-use Rattle.deque_rules.specs.Links.{Links, slotAfter as step, home_of}
+use Rattle.deque_rules.specs.Links.{Links, slot_after as step, home_of}
 use Rattle.deque_rules.specs.Layout.{Sizes}
 use Rattle.deque_rules.specs.Sound.{Runs, Walked}
-use Rattle.deque_rules.proofs.Chains.{chain-once}
-use Rattle.deque_rules.proofs.Arrays.{step-slot}
+use Rattle.deque_rules.proofs.Chains.{chain_once}
+use Rattle.deque_rules.proofs.Arrays.{step_slot}
 use Rattle.numbers.proofs.Counting.{at_most}
 
 -- b is the slot passed last, x the one after it, and k have been passed: the lists that the records link from the start
@@ -29,7 +29,7 @@ module _ (a : Links) (d : ℕ) (z : Sizes a × (d < length a.heads)) where
   real b xs h y m e = omega (arith, (h.1 y m).0, z.0.small, e)
 
   short : (b : ℕ) (xs : List ℕ) → Runs a d b xs → length xs ≤ length a.next
-  short b xs h = at_most (length a.next) xs (chain-once none _ _ b xs h.0 (real b xs h)) (λ y m. (h.1 y m).0)
+  short b xs h = at_most (length a.next) xs (chain_once none _ _ b xs h.0 (real b xs h)) (λ y m. (h.1 y m).0)
 
   module _ (b x k : ℕ) (g : Going a d b x k) where
     -- what a list from b on says of x
@@ -43,7 +43,7 @@ module _ (a : Links) (d : ℕ) (z : Sizes a × (d < length a.heads)) where
           refl,
           rw e (h.1 y (inl refl)).0,
           rw e (h.1 y (inl refl)).1,
-          sym (step-slot a.tails a.prev d x n) ∙ ap (step a.tails a.prev d) e ∙ h.0.1,
+          sym (step_slot a.tails a.prev d x n) ∙ ap (step a.tails a.prev d) e ∙ h.0.1,
         )
 
     -- where there is no list from b on there is none from the start on
@@ -70,12 +70,12 @@ module _ (a : Links) (d : ℕ) (z : Sizes a × (d < length a.heads)) where
         (get_or a.next x 0) (k + 1)
     goes n l i p o =
         record {
-          here = step-slot a.heads a.next d x n;
+          here = step_slot a.heads a.next d x n;
           few = omega (arith, g.few, l);
           whole = λ ys h.
               let w =
               g.whole (x ∷ ys) (
-                (g.here, step-slot a.tails a.prev d x n ∙ p, h.0),
+                (g.here, step_slot a.tails a.prev d x n ∙ p, h.0),
                 λ v m. ⊎_elim (λ (e : v ≡ x). (rw e i, rw e o)) (λ j. h.1 v j) m,
               )
               in
@@ -97,8 +97,8 @@ module _ (a : Links) (d : ℕ) (z : Sizes a × (d < length a.heads)) where
     ended [] e h = h.0.1
     ended (y ∷ ys) e h = absurd (real b (y ∷ ys) h y (inl refl) (sym h.0.0 ∙ g.here ∙ e))
 
-    pub other-tail : x ≡ none → (get_or a.tails d 0 ≡ b → ⊥) → Walked a d 4097
-    other-tail e t = stuck (λ ys h. t (ended ys e h))
+    pub other_tail : x ≡ none → (get_or a.tails d 0 ≡ b → ⊥) → Walked a d 4097
+    other_tail e t = stuck (λ ys h. t (ended ys e h))
 
 -- the laws of the ways out
-pub ruleset exits = (full, beyond, unlinked, stranger, other-tail, done)
+pub ruleset exits = (full, beyond, unlinked, stranger, other_tail, done)

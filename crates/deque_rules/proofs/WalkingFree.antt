@@ -7,7 +7,7 @@ use mathlib.Core.List.{List, [], ◌∷◌}
 use lib.ListN.{length, get_or}
 use Rattle.numbers.specs.Shared.{no_slot as none, In}
 use Rattle.deque_rules.specs.Sound.{Spares, WalkedFree, SizesFree}
-use Rattle.deque_rules.proofs.Chains.{path-once}
+use Rattle.deque_rules.proofs.Chains.{path_once}
 use Rattle.numbers.proofs.Counting.{at_most}
 
 -- x is the slot to be passed next, and k have been passed
@@ -24,7 +24,7 @@ module _ (next home : List ℕ) (free : ℕ) (z : SizesFree next home) where
   real b xs h y m e = omega (arith, (h.2 y m).0, z.small, e)
 
   short : (b : ℕ) (xs : List ℕ) → Spares next home b xs → length xs ≤ length next
-  short b xs h = at_most (length next) xs (path-once _ xs h.1 (real b xs h)) (λ y m. (h.2 y m).0)
+  short b xs h = at_most (length next) xs (path_once _ xs h.1 (real b xs h)) (λ y m. (h.2 y m).0)
 
   module _ (x k : ℕ) (g : GoingFree next home free x k) where
     passed : (x ≡ none → ⊥) → (ys : List ℕ) → Spares next home x ys → (zs : List ℕ) × Spares next home (get_or next x 0) zs × (length ys ≡ suc (length zs)) ×

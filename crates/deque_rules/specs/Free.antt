@@ -12,7 +12,7 @@ pub record Takes (next : List ℕ) (free r : ℕ) : Type 0 where
 
 -- the loose slot s is the first free one: its next is the former first, its prev none (its home is none already)
 pub record GivesBack (n p n' p' : List ℕ) (s free : ℕ) : Type 0 where
-  pub next-is : n' ≡ set n s free
-  pub prev-is : p' ≡ set p s no_slot
+  pub next_is : n' ≡ set n s free
+  pub prev_is : p' ≡ set p s no_slot
   pub does : (h t o : List ℕ) (v : Deques) (loose : List ℕ) → Rep (links h t n p o) v (s ∷ loose) → first v.free ≡ free → Rep (links h t n' p' o) (freed s v)
       loose

@@ -2,8 +2,8 @@
 use Rattle.deque_rules.specs.Links.{Links, links}
 use Rattle.numbers.specs.Shared.{Numbers}
 
-abbrev pub linksBefore : Numbers → Numbers → Numbers → Numbers → Numbers → Links
-linksBefore h t n p o = links h.entry.now t.entry.now n.entry.now p.entry.now o.entry.now
+abbrev pub links_before : Numbers → Numbers → Numbers → Numbers → Numbers → Links
+links_before h t n p o = links h.entry.now t.entry.now n.entry.now p.entry.now o.entry.now
 
-abbrev pub linksAfter : Numbers → Numbers → Numbers → Numbers → Numbers → Links
-linksAfter h t n p o = links h.exit.now t.exit.now n.exit.now p.exit.now o.exit.now
+abbrev pub links_after : Numbers → Numbers → Numbers → Numbers → Numbers → Links
+links_after h t n p o = links h.exit.now t.exit.now n.exit.now p.exit.now o.exit.now

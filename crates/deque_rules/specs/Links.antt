@@ -34,8 +34,8 @@ abbrev pub links : List ℕ → List ℕ → List ℕ → List ℕ → List ℕ 
 links h t n p o = record { heads = h; tails = t; next = n; prev = p; home = o }
 
 -- the slot after x in the deque d, where none is followed by the head; with tails and prev it is the slot before x
-abbrev pub slotAfter : List ℕ → List ℕ → ℕ → ℕ → ℕ
-slotAfter ends next d x = cond (eqb x no_slot) (get_or ends d 0) (get_or next x 0)
+abbrev pub slot_after : List ℕ → List ℕ → ℕ → ℕ → ℕ
+slot_after ends next d x = cond (eqb x no_slot) (get_or ends d 0) (get_or next x 0)
 
 -- the deque that names x its own, or none
 abbrev pub home_of : Links → ℕ → ℕ
@@ -56,16 +56,16 @@ deq v d = get_or v.held d []
 -- The records a stand for the lists v, where the slots of the list loose are for the moment neither in a deque nor
 -- free.
 pub record Rep (a : Links) (v : Deques) (loose : List ℕ) : Type 0 where
-  pub heads-len : length a.heads ≡ v.count
-  pub tails-len : length a.tails ≡ v.count
-  pub next-len : length a.next ≡ v.slots
-  pub prev-len : length a.prev ≡ v.slots
-  pub home-len : length a.home ≡ v.slots
+  pub heads_len : length a.heads ≡ v.count
+  pub tails_len : length a.tails ≡ v.count
+  pub next_len : length a.next ≡ v.slots
+  pub prev_len : length a.prev ≡ v.slots
+  pub home_len : length a.home ≡ v.slots
   pub few : v.count ≤ no_slot
   pub small : v.slots ≤ no_slot
-  pub held-len : length v.held ≡ v.count
+  pub held_len : length v.held ≡ v.count
   -- each deque's links run from head to tail and back over its slots
-  pub linked : (d : ℕ) → d < v.count → Chain no_slot (slotAfter a.heads a.next d) (slotAfter a.tails a.prev d) no_slot (deq v d)
+  pub linked : (d : ℕ) → d < v.count → Chain no_slot (slot_after a.heads a.next d) (slot_after a.tails a.prev d) no_slot (deq v d)
   -- its slots name that deque, and each slot that names a deque is in it
   pub member : (d x : ℕ) → d < v.count → In x (deq v d) → (x < v.slots) × (home_of a x ≡ d)
   pub homed : (x : ℕ) → x < v.slots → (home_of a x ≡ no_slot → ⊥) → (home_of a x < v.count) × In x (deq v (home_of a x))
@@ -84,15 +84,15 @@ list_from zero next x = []
 list_from (suc k) next x = cond (eqb x no_slot) [] (x ∷ list_from k next (get_or next x 0))
 
 -- the deques with these heads
-abbrev pub listEach : ℕ → List ℕ → List ℕ → List (List ℕ)
-listEach n next [] = []
-listEach n next (h ∷ hs) = list_from n next h ∷ listEach n next hs
+abbrev pub list_each : ℕ → List ℕ → List ℕ → List (List ℕ)
+list_each n next [] = []
+list_each n next (h ∷ hs) = list_from n next h ∷ list_each n next hs
 
 -- all of it, where free is the first free slot
 abbrev pub listed : Links → ℕ → Deques
 listed a free =
     let n = length a.next in
-    record { count = length a.heads; slots = n; held = listEach n a.next a.heads; free = list_from n a.next free }
+    record { count = length a.heads; slots = n; held = list_each n a.next a.heads; free = list_from n a.next free }
 
 -- ======== sound links
 
@@ -100,13 +100,13 @@ listed a free =
 pub record Whole (a : Links) (free : ℕ) : Type 0 where
   pub v : Deques
   pub rep : Rep a v []
-  pub free-is : first v.free ≡ free
+  pub free_is : first v.free ≡ free
 
 -- ======== what the changes write
 
 -- what giving the slot s back writes, where free was the first free slot
-unfoldable pub handBack : Links → ℕ → ℕ → Links
-handBack a s free = links a.heads a.tails (set a.next s free) (set a.prev s no_slot) a.home
+unfoldable pub hand_back : Links → ℕ → ℕ → Links
+hand_back a s free = links a.heads a.tails (set a.next s free) (set a.prev s no_slot) a.home
 
 -- the slot after p in the deque d is q: the head, where p is none (the list of next has no place for none, so there it
 -- stays)
@@ -114,15 +114,15 @@ abbrev pub end_at : List ℕ → ℕ → ℕ → ℕ → List ℕ
 end_at ends d p q = cond (eqb p no_slot) (set ends d q) ends
 
 -- s is linked at the back of the deque d, after the old tail
-unfoldable pub linkBack : Links → ℕ → ℕ → Links
-linkBack a d s =
+unfoldable pub link_back : Links → ℕ → ℕ → Links
+link_back a d s =
     let t = get_or a.tails d 0 in
     links (end_at a.heads d t s) (set a.tails d s) (set (set a.next s no_slot) t s) (set a.prev s t) (set a.home s d)
 
 -- s is taken out of its deque: what stood before it and what stood after it are neighbours now. Its own next and prev
 -- stay as they are
-unfoldable pub cutOut : Links → ℕ → Links
-cutOut a s =
+unfoldable pub cut_out : Links → ℕ → Links
+cut_out a s =
     let d = home_of a s in
     let p = get_or a.prev s 0 in
     let q = get_or a.next s 0 in
@@ -130,11 +130,11 @@ cutOut a s =
 
 -- s is taken out of its deque and handed back, where free was the first free slot
 unfoldable pub removed : Links → ℕ → ℕ → Links
-removed a free s = handBack (cutOut a s) s free
+removed a free s = hand_back (cut_out a s) s free
 
 -- s is moved to the back of the deque d, from whichever deque it is in
-unfoldable pub moveBack : Links → ℕ → ℕ → Links
-moveBack a d s = linkBack (cutOut a s) d s
+unfoldable pub move_back : Links → ℕ → ℕ → Links
+move_back a d s = link_back (cut_out a s) d s
 
 -- ======== laid out
 

@@ -1,7 +1,7 @@
 -- inner: sound links and a sound free chain, and what the test of them answers.
 use Rattle.std.specs.Prelude.{ℕ, ◌≤◌, ◌<◌, Bool, true, List, ◌≡◌, length, get_or}
 use Rattle.deque_rules.specs.Layout.{Sizes}
-use Rattle.deque_rules.specs.Links.{Chain, Path, first, Links, slotAfter, home_of, Whole}
+use Rattle.deque_rules.specs.Links.{Chain, Path, first, Links, slot_after, home_of, Whole}
 use Rattle.numbers.specs.Shared.{no_slot, In}
 
 -- the test is exact
@@ -12,7 +12,7 @@ pub record Verdict (a : Links) (free : ℕ) (r : Bool) : Type 0 where
 -- ---- one deque, and the free chain, for tests that also look at something else of each deque
 -- xs is what the records link from b on in the deque d
 abbrev pub Runs : Links → ℕ → ℕ → List ℕ → Type 0
-Runs a d b xs = Chain no_slot (slotAfter a.heads a.next d) (slotAfter a.tails a.prev d) b xs × ((x : ℕ) → In x xs → (x < length a.next) × (home_of a x ≡ d))
+Runs a d b xs = Chain no_slot (slot_after a.heads a.next d) (slot_after a.tails a.prev d) b xs × ((x : ℕ) → In x xs → (x < length a.next) × (home_of a x ≡ d))
 
 -- r is how many slots the deque d has, or above none where the records link no list there
 pub record Walked (a : Links) (d r : ℕ) : Type 0 where
@@ -29,7 +29,7 @@ pub record WalkedFree (next home : List ℕ) (free r : ℕ) : Type 0 where
 
 -- the lengths that the walk of the free chain asks for: as many homes as links, and no more slots than 4,096
 pub record SizesFree (next home : List ℕ) : Type 0 where
-  pub home-len : length home ≡ length next
+  pub home_len : length home ≡ length next
   pub small : length next ≤ no_slot
 
 -- the test of the lent lengths

@@ -1,6 +1,6 @@
 // Armed count and next due, answered in numbers. They change no record. No `requires`.
 ghost use Rattle.face_rules.specs.Face.{Told, before, after};
-ghost use Rattle.rules.specs.Wheel.{armedCount, nextDue};
+ghost use Rattle.rules.specs.Wheel.{armed_count, next_due};
 
 use crate::words::{tell_counted, tell_due};
 use face::{armed_count, next_due};
@@ -19,7 +19,7 @@ pub extern "C" fn wheel_armed_count(
     stamp: &[u32],
     answer: &mut [u64; 5],
 ) -> u64
-    ensures { Told armedCount
+    ensures { Told armed_count
         (before heads tails nodes dated deadline stamp clock)
         (after heads tails nodes dated deadline stamp clock) answer.new result }
 {
@@ -39,7 +39,7 @@ pub extern "C" fn wheel_next_due(
     stamp: &[u32],
     answer: &mut [u64; 5],
 ) -> u64
-    ensures { Told nextDue
+    ensures { Told next_due
         (before heads tails nodes dated deadline stamp clock)
         (after heads tails nodes dated deadline stamp clock) answer.new result }
 {

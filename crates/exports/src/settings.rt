@@ -2,7 +2,7 @@
 ghost use Rattle.std.specs.Prelude.{cond};
 ghost use Rattle.std.proofs.Math.Option.{none, some};
 ghost use Rattle.face_rules.specs.Face.{Told, before, after};
-ghost use Rattle.rules.specs.Wheel.{setEntry};
+ghost use Rattle.rules.specs.Wheel.{set_entry};
 
 use crate::words::tell_noted;
 use face::set_entry;
@@ -25,7 +25,7 @@ pub extern "C" fn wheel_set_entry(
     h: u32,
     answer: &mut [u64; 5],
 ) -> u64
-    ensures { Told (setEntry e (cond has (some due) none) h)
+    ensures { Told (set_entry e (cond has (some due) none) h)
         (before heads tails nodes dated deadline stamp clock)
         (after heads tails nodes dated deadline stamp clock) answer.new result }
 {

@@ -1,7 +1,7 @@
 // Each answer of the wheel's calls over lent nodes, written to five lent numbers: the refusal's number, or 0; which
 // answer it is; and its values. The result is the first of them. No `requires`.
-ghost use Rattle.face_rules.specs.Face.{scheduledSays, rescheduledSays, pulledSays, words_of, Writes};
-ghost use Rattle.wheel_rules.specs.Promise.{notedSays, countedSays, dueSays};
+ghost use Rattle.face_rules.specs.Face.{scheduled_says, rescheduled_says, pulled_says, words_of, Writes};
+ghost use Rattle.wheel_rules.specs.Promise.{noted_says, counted_says, due_says};
 
 use face_rules::{Pulled, Rescheduled, Scheduled};
 use wheel_rules::calls::{Counted, Due, Noted};
@@ -14,7 +14,7 @@ fn write(words: [u64; 5], answer: &mut [u64; 5]) -> u64
 }
 
 pub fn tell_noted(r: Noted, answer: &mut [u64; 5]) -> u64
-    ensures { Writes (words_of (notedSays r)) answer.new result }
+    ensures { Writes (words_of (noted_says r)) answer.new result }
 {
     match r {
         Noted::Done => write([0, 0, 0, 0, 0], answer),
@@ -23,7 +23,7 @@ pub fn tell_noted(r: Noted, answer: &mut [u64; 5]) -> u64
 }
 
 pub fn tell_scheduled(r: Scheduled, answer: &mut [u64; 5]) -> u64
-    ensures { Writes (words_of (scheduledSays r)) answer.new result }
+    ensures { Writes (words_of (scheduled_says r)) answer.new result }
 {
     match r {
         Scheduled::Armed { slot, serial } => write([0, 1, slot as u64, serial, 0], answer),
@@ -32,7 +32,7 @@ pub fn tell_scheduled(r: Scheduled, answer: &mut [u64; 5]) -> u64
 }
 
 pub fn tell_rescheduled(r: Rescheduled, answer: &mut [u64; 5]) -> u64
-    ensures { Writes (words_of (rescheduledSays r)) answer.new result }
+    ensures { Writes (words_of (rescheduled_says r)) answer.new result }
 {
     match r {
         Rescheduled::Moved => write([0, 0, 0, 0, 0], answer),
@@ -42,7 +42,7 @@ pub fn tell_rescheduled(r: Rescheduled, answer: &mut [u64; 5]) -> u64
 }
 
 pub fn tell_pulled(r: Pulled, answer: &mut [u64; 5]) -> u64
-    ensures { Writes (words_of (pulledSays r)) answer.new result }
+    ensures { Writes (words_of (pulled_says r)) answer.new result }
 {
     match r {
         Pulled::Expired {
@@ -61,7 +61,7 @@ pub fn tell_pulled(r: Pulled, answer: &mut [u64; 5]) -> u64
 }
 
 pub fn tell_counted(r: Counted, answer: &mut [u64; 5]) -> u64
-    ensures { Writes (words_of (countedSays r)) answer.new result }
+    ensures { Writes (words_of (counted_says r)) answer.new result }
 {
     match r {
         Counted::Armed(count) => write([0, 6, count as u64, 0, 0], answer),
@@ -70,7 +70,7 @@ pub fn tell_counted(r: Counted, answer: &mut [u64; 5]) -> u64
 }
 
 pub fn tell_due(r: Due, answer: &mut [u64; 5]) -> u64
-    ensures { Writes (words_of (dueSays r)) answer.new result }
+    ensures { Writes (words_of (due_says r)) answer.new result }
 {
     match r {
         Due::At(deadline) => write([0, 7, deadline, 0, 0], answer),

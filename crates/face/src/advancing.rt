@@ -1,7 +1,7 @@
 // Start, pull and abandon over lent nodes. No `requires`. A refused call leaves every record as found.
-ghost use Rattle.face_rules.specs.Face.{pulledSays, before, after};
+ghost use Rattle.face_rules.specs.Face.{pulled_says, before, after};
 ghost use Rattle.rules.specs.Wheel.{start, pull, abandon};
-ghost use Rattle.wheel_rules.specs.Promise.{notedSays, Promised};
+ghost use Rattle.wheel_rules.specs.Promise.{noted_says, Promised};
 
 use face_rules::{Node, Pulled};
 use face_works::advancing::{abandon_work, start_work};
@@ -22,7 +22,7 @@ pub fn start(
 ) -> Noted
     ensures { Promised (start q)
         (before heads tails nodes dated deadline stamp clock.old)
-        (after heads tails nodes dated deadline stamp clock.new) (notedSays result) }
+        (after heads tails nodes dated deadline stamp clock.new) (noted_says result) }
 {
     let mut next = [0usize; ROOM];
     let mut prev = [0usize; ROOM];
@@ -71,7 +71,7 @@ pub fn pull(
 ) -> Pulled
     ensures { Promised pull
         (before heads tails nodes dated deadline stamp clock.old)
-        (after heads tails nodes dated deadline stamp clock.new) (pulledSays result) }
+        (after heads tails nodes dated deadline stamp clock.new) (pulled_says result) }
 {
     let mut next = [0usize; ROOM];
     let mut prev = [0usize; ROOM];
@@ -120,7 +120,7 @@ pub fn abandon(
 ) -> Noted
     ensures { Promised abandon
         (before heads tails nodes dated deadline stamp clock.old)
-        (after heads tails nodes dated deadline stamp clock.new) (notedSays result) }
+        (after heads tails nodes dated deadline stamp clock.new) (noted_says result) }
 {
     let mut next = [0usize; ROOM];
     let mut prev = [0usize; ROOM];

@@ -1,7 +1,7 @@
 // Armed count and next due over lent nodes. They change nothing. No `requires`.
 ghost use Rattle.face_rules.specs.Face.{before, after};
-ghost use Rattle.rules.specs.Wheel.{armedCount, nextDue};
-ghost use Rattle.wheel_rules.specs.Promise.{countedSays, dueSays, Promised};
+ghost use Rattle.rules.specs.Wheel.{armed_count, next_due};
+ghost use Rattle.wheel_rules.specs.Promise.{counted_says, due_says, Promised};
 
 use face_rules::Node;
 use face_works::counts::{armed_count_work, next_due_work};
@@ -18,9 +18,9 @@ pub fn armed_count(
     deadline: &[u64],
     stamp: &[u32],
 ) -> Counted
-    ensures { Promised armedCount
+    ensures { Promised armed_count
         (before heads tails nodes dated deadline stamp clock)
-        (after heads tails nodes dated deadline stamp clock) (countedSays result) }
+        (after heads tails nodes dated deadline stamp clock) (counted_says result) }
 {
     let mut next = [0usize; ROOM];
     let mut prev = [0usize; ROOM];
@@ -64,9 +64,9 @@ pub fn next_due(
     deadline: &[u64],
     stamp: &[u32],
 ) -> Due
-    ensures { Promised nextDue
+    ensures { Promised next_due
         (before heads tails nodes dated deadline stamp clock)
-        (after heads tails nodes dated deadline stamp clock) (dueSays result) }
+        (after heads tails nodes dated deadline stamp clock) (due_says result) }
 {
     let mut next = [0usize; ROOM];
     let mut prev = [0usize; ROOM];

@@ -1,6 +1,6 @@
 // Enable over lent nodes. No `requires`. A refused call leaves every record as found.
 ghost use Rattle.face_rules.specs.Face.{before, after};
-ghost use Rattle.wheel_rules.specs.Promise.{notedSays, enabling, Promised};
+ghost use Rattle.wheel_rules.specs.Promise.{noted_says, enabling, Promised};
 
 use face_rules::Node;
 use face_works::making::enable_work;
@@ -20,7 +20,7 @@ pub fn enable(
     ensures { Promised
         (enabling (before heads tails nodes dated deadline stamp clock.old))
         (before heads tails nodes dated deadline stamp clock.old)
-        (after heads tails nodes dated deadline stamp clock.new) (notedSays result) }
+        (after heads tails nodes dated deadline stamp clock.new) (noted_says result) }
 {
     let turn = enable_work(nodes.len(), *clock, heads, tails, dated, deadline, stamp);
     *clock = turn.clock;

@@ -2,8 +2,8 @@
 ghost use Rattle.std.specs.Prelude.{cond};
 ghost use Rattle.std.proofs.Math.Option.{none, some};
 ghost use Rattle.face_rules.specs.Face.{before, after};
-ghost use Rattle.rules.specs.Wheel.{setEntry};
-ghost use Rattle.wheel_rules.specs.Promise.{notedSays, Promised};
+ghost use Rattle.rules.specs.Wheel.{set_entry};
+ghost use Rattle.wheel_rules.specs.Promise.{noted_says, Promised};
 
 use face_rules::Node;
 use face_works::settings::set_entry_work;
@@ -24,9 +24,9 @@ pub fn set_entry(
     due: u64,
     h: u32,
 ) -> Noted
-    ensures { Promised (setEntry e (cond has (some due) none) h)
+    ensures { Promised (set_entry e (cond has (some due) none) h)
         (before heads tails nodes dated deadline stamp clock)
-        (after heads tails nodes dated deadline stamp clock) (notedSays result) }
+        (after heads tails nodes dated deadline stamp clock) (noted_says result) }
 {
     let mut next = [0usize; ROOM];
     let mut prev = [0usize; ROOM];

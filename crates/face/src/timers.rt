@@ -1,7 +1,7 @@
 // Schedule, reschedule and deschedule over lent nodes. No `requires`. A refused call leaves every record as found.
-ghost use Rattle.face_rules.specs.Face.{scheduledSays, rescheduledSays, before, after};
+ghost use Rattle.face_rules.specs.Face.{scheduled_says, rescheduled_says, before, after};
 ghost use Rattle.rules.specs.Wheel.{schedule, reschedule, deschedule};
-ghost use Rattle.wheel_rules.specs.Promise.{notedSays, Promised};
+ghost use Rattle.wheel_rules.specs.Promise.{noted_says, Promised};
 
 use face_rules::{Node, Rescheduled, Scheduled};
 use face_works::timers::{deschedule_work, reschedule_work, schedule_work};
@@ -22,7 +22,7 @@ pub fn schedule(
 ) -> Scheduled
     ensures { Promised (schedule e h)
         (before heads tails nodes dated deadline stamp clock.old)
-        (after heads tails nodes dated deadline stamp clock.new) (scheduledSays result) }
+        (after heads tails nodes dated deadline stamp clock.new) (scheduled_says result) }
 {
     let mut next = [0usize; ROOM];
     let mut prev = [0usize; ROOM];
@@ -77,7 +77,7 @@ pub fn reschedule(
 ) -> Rescheduled
     ensures { Promised (reschedule slot number h)
         (before heads tails nodes dated deadline stamp clock.old)
-        (after heads tails nodes dated deadline stamp clock.new) (rescheduledSays result) }
+        (after heads tails nodes dated deadline stamp clock.new) (rescheduled_says result) }
 {
     let mut next = [0usize; ROOM];
     let mut prev = [0usize; ROOM];
@@ -132,7 +132,7 @@ pub fn deschedule(
 ) -> Noted
     ensures { Promised (deschedule slot number h)
         (before heads tails nodes dated deadline stamp clock.old)
-        (after heads tails nodes dated deadline stamp clock.new) (notedSays result) }
+        (after heads tails nodes dated deadline stamp clock.new) (noted_says result) }
 {
     let mut next = [0usize; ROOM];
     let mut prev = [0usize; ROOM];

@@ -9,15 +9,15 @@ use Rattle.face_rules.specs.declared.Rescheduled.{Rescheduled}
 use Rattle.face_rules.specs.declared.Rescheduled.TheVariants.{Moved, Removed, Refused as RescheduledRefused}
 use Rattle.face_rules.specs.declared.Pulled.{Pulled}
 use Rattle.face_rules.specs.declared.Pulled.TheVariants.{Expired, Rescheduled as Placed, End, Refused as PulledRefused}
-use Rattle.face_rules.specs.Face.{scheduledSays, rescheduledSays, pulledSays}
+use Rattle.face_rules.specs.Face.{scheduled_says, rescheduled_says, pulled_says}
 
-pub scheduled : (r s : Scheduled) → scheduledSays r ≡ scheduledSays s → r ≡ s
+pub scheduled : (r s : Scheduled) → scheduled_says r ≡ scheduled_says s → r ≡ s
 scheduled (Armed x0 x1) (Armed y0 y1) e = cc
 scheduled (Armed x0 x1) (ScheduledRefused y0) e = let z : ◌≡◌ {A = ℕ} 0 1 = cc in absurd (omega arith)
 scheduled (ScheduledRefused x0) (Armed y0 y1) e = let z : ◌≡◌ {A = ℕ} 0 1 = cc in absurd (omega arith)
 scheduled (ScheduledRefused x0) (ScheduledRefused y0) e = cc
 
-pub rescheduled : (r s : Rescheduled) → rescheduledSays r ≡ rescheduledSays s → r ≡ s
+pub rescheduled : (r s : Rescheduled) → rescheduled_says r ≡ rescheduled_says s → r ≡ s
 rescheduled Moved Moved e = refl
 rescheduled Moved Removed e = let z : ◌≡◌ {A = ℕ} 0 1 = cc in absurd (omega arith)
 rescheduled Moved (RescheduledRefused y0) e = let z : ◌≡◌ {A = ℕ} 0 1 = cc in absurd (omega arith)
@@ -28,7 +28,7 @@ rescheduled (RescheduledRefused x0) Moved e = let z : ◌≡◌ {A = ℕ} 0 1 = 
 rescheduled (RescheduledRefused x0) Removed e = let z : ◌≡◌ {A = ℕ} 0 1 = cc in absurd (omega arith)
 rescheduled (RescheduledRefused x0) (RescheduledRefused y0) e = cc
 
-pub pulled : (r s : Pulled) → pulledSays r ≡ pulledSays s → r ≡ s
+pub pulled : (r s : Pulled) → pulled_says r ≡ pulled_says s → r ≡ s
 pulled (Expired x0 x1 x2) (Expired y0 y1 y2) e = cc
 pulled (Expired x0 x1 x2) (Placed y0 y1 y2) e = let z : ◌≡◌ {A = ℕ} 0 1 = cc in absurd (omega arith)
 pulled (Expired x0 x1 x2) End e = let z : ◌≡◌ {A = ℕ} 0 1 = cc in absurd (omega arith)

@@ -6,51 +6,51 @@ use mathlib.Core.Logic.{inl, inr}
 use mathlib.Core.Bool.{Bool, true, false, cond, false≢true}
 use mathlib.Core.List.{List}
 use lib.ListN.{length, length-map}
-use Rattle.rules.specs.Wheel.{Call, create, enable, setEntry, schedule, reschedule, deschedule, start, pull, abandon, armedCount, nextDue, refused}
+use Rattle.rules.specs.Wheel.{Call, create, enable, set_entry, schedule, reschedule, deschedule, start, pull, abandon, armed_count, next_due, refused}
 use Rattle.rules.specs.Calls.{rows}
 use Rattle.wheel_rules.specs.declared.calls.Clock.{Clock}
 use Rattle.wheel_rules.specs.Lent.{Records}
 use Rattle.numbers.specs.Rows.{given}
-use Rattle.wheel_rules.specs.refusals.Refuse.{standing, testsOn, rowsOn}
+use Rattle.wheel_rules.specs.refusals.Refuse.{standing, tests_on, rows_on}
 use Rattle.wheel_rules.specs.Promise.{Promised}
 use Rattle.wheel_rules.proofs.calls.Deciding.{LentTo, later}
 use Rattle.wheel_rules.proofs.calls.Calling.{no}
 use Rattle.face_rules.specs.declared.Node.{Node}
-use Rattle.face_rules.specs.Face.{recordsOf as shown}
-use Rattle.face_rules.specs.Crowded.{crowdedNumber}
+use Rattle.face_rules.specs.Face.{records_of as shown}
+use Rattle.face_rules.specs.Crowded.{crowded_number}
 
 -- the calls that 1 names: "all wheel calls but create, enable"
 abbrev pub OfOne : Call → Type 0
 OfOne (create n) = ⊥
 OfOne (enable m k f) = ⊥
-OfOne (setEntry e o h) = Unit {0}
+OfOne (set_entry e o h) = Unit {0}
 OfOne (schedule e h) = Unit {0}
 OfOne (reschedule x n h) = Unit {0}
 OfOne (deschedule x n h) = Unit {0}
 OfOne (start q) = Unit {0}
 OfOne pull = Unit {0}
 OfOne abandon = Unit {0}
-OfOne armedCount = Unit {0}
-OfOne nextDue = Unit {0}
+OfOne armed_count = Unit {0}
+OfOne next_due = Unit {0}
 
 -- their rows begin with 1 and 4, and no length is given to them
 module _ (R : Records) (k : ℕ) (f : (more : ℕ → Type 0) → standing R more k) where
   -- the rows after these
   abbrev more : Call → ℕ → Type 0
-  more c = given (later (rows (testsOn R) c))
+  more c = given (later (rows (tests_on R) c))
 
-  stops : (c : Call) → OfOne c → LentTo R c × rowsOn R c k
+  stops : (c : Call) → OfOne c → LentTo R c × rows_on R c k
   stops (create n) o = absurd o
   stops (enable m j i) o = absurd o
-  stops (setEntry e d h) o = (tt, f (more (setEntry e d h)))
+  stops (set_entry e d h) o = (tt, f (more (set_entry e d h)))
   stops (schedule e h) o = (tt, f (more (schedule e h)))
   stops (reschedule x n h) o = (tt, f (more (reschedule x n h)))
   stops (deschedule x n h) o = (tt, f (more (deschedule x n h)))
   stops (start q) o = (tt, f (more (start q)))
   stops pull o = (tt, f (more pull))
   stops abandon o = (tt, f (more abandon))
-  stops armedCount o = (tt, f (more armedCount))
-  stops nextDue o = (tt, f (more nextDue))
+  stops armed_count o = (tt, f (more armed_count))
+  stops next_due o = (tt, f (more next_due))
 
 -- ---- more nodes than a wheel may have
 module _ (h t : List ℕ) (ns : List Node) (d : List Bool) (l m : List ℕ) (c : Clock) (many : 4096 < length ns) where
@@ -61,22 +61,22 @@ module _ (h t : List ℕ) (ns : List Node) (d : List Bool) (l m : List ℕ) (c :
   too_many f = omega (arith, f, many, length-map ns (λ (v : Node). v.next))
 
   -- they are not sound
-  numbered : (more : ℕ → Type 0) (k : ℕ) → k ≡ crowdedNumber c → standing crowd more k
+  numbered : (more : ℕ → Type 0) (k : ℕ) → k ≡ crowded_number c → standing crowd more k
   numbered more k e = go c.enabled refl e
     where
       go : (b : Bool) → b ≡ c.enabled → k ≡ cond b 4 1 → standing crowd more k
       go true on i =
-          inr (sym on, inl ((λ s. too_many (omega (arith, s.lengths.nodes.next-len, s.lengths.ranges.nodes-most))), i))
+          inr (sym on, inl ((λ s. too_many (omega (arith, s.lengths.nodes.next_len, s.lengths.ranges.nodes_most))), i))
       go false off i = inl ((λ s. false≢true (off ∙ s)), i)
 
-  numbered-some : (k : ℕ) → k ≡ crowdedNumber c → k ≡ 0 → ⊥
-  numbered-some k e z = go c.enabled e
+  numbered_some : (k : ℕ) → k ≡ crowded_number c → k ≡ 0 → ⊥
+  numbered_some k e z = go c.enabled e
     where
       go : (b : Bool) → k ≡ cond b 4 1 → ⊥
       go true i = omega (arith, i, z)
       go false i = omega (arith, i, z)
 
-  pub crowd-no : (q : Call) → OfOne q → (k : ℕ) → k ≡ crowdedNumber c → Promised q crowd crowd (refused k)
-  crowd-no q o k e =
+  pub crowd_no : (q : Call) → OfOne q → (k : ℕ) → k ≡ crowded_number c → Promised q crowd crowd (refused k)
+  crowd_no q o k e =
       let u = stops crowd k (λ more. numbered more k e) q o in
-      no q crowd k u.0 u.1 (numbered-some k e)
+      no q crowd k u.0 u.1 (numbered_some k e)

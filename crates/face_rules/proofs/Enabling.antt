@@ -9,36 +9,36 @@ use Rattle.rules.specs.Places.{wheel01}
 use Rattle.rules.specs.Wheel.{refused, ok}
 use Rattle.wheel_rules.specs.declared.calls.Clock.{Clock}
 use Rattle.wheel_rules.specs.Lent.{Records, records, nodes, entries, NodesLengths}
-use Rattle.wheel_rules.specs.layout.Layout.{bareLinks, bareNodes, enabledWith, LayReady}
+use Rattle.wheel_rules.specs.layout.Layout.{bare_links, bare_nodes, enabled_with, LayReady}
 use Rattle.wheel_rules.specs.layout.Around.{AroundReady, LaysAround}
-use Rattle.wheel_rules.proofs.layout.Bare.{bare-lays}
+use Rattle.wheel_rules.proofs.layout.Bare.{bare_lays}
 use Rattle.wheel_rules.specs.refusals.Refuse.{LendableAround, RefusesAround, RefusesEnable}
 use Rattle.wheel_rules.proofs.refusals.Rows.{past}
-use Rattle.wheel_rules.proofs.refusals.Refusing.{enable-around}
-use Rattle.wheel_rules.proofs.calls.Acting.{lay-ready}
+use Rattle.wheel_rules.proofs.refusals.Refusing.{enable_around}
+use Rattle.wheel_rules.proofs.calls.Acting.{lay_ready}
 use Rattle.wheel_rules.proofs.calls.Calling as calling
-use Rattle.wheel_rules.specs.calls.Work.{laidOut}
+use Rattle.wheel_rules.specs.calls.Work.{laid_out}
 use Rattle.wheel_rules.specs.Promise.{enabling, Promised}
 use Rattle.face_rules.specs.declared.Node.{Node}
-use Rattle.face_rules.specs.Face.{nextSlots as nexts, prevSlots as prevs, entryNumbers, generations, serials, recordsOf as shown, bucketNumbers as homes}
-use Rattle.face_rules.specs.nodes.Columns.{columnsOf}
+use Rattle.face_rules.specs.Face.{next_slots as nexts, prev_slots as prevs, entry_numbers, generations, serials, records_of as shown, bucket_numbers as homes}
+use Rattle.face_rules.specs.nodes.Columns.{columns_of}
 use Rattle.face_rules.specs.nodes.Laid.{Laid}
-use Rattle.face_rules.proofs.nodes.InPlace.{columnsIn, laid-bare}
+use Rattle.face_rules.proofs.nodes.InPlace.{columns_in, laid_bare}
 use Rattle.face_rules.specs.Works.{Enabled}
 
 -- each field of the nodes is in a list as long as they are
-same-lengths : (ns : List Node)
-    → NodesLengths (length (nexts ns)) (length (nexts ns)) (length (prevs ns)) (length (homes ns)) (length (entryNumbers ns)) (length (generations ns))
+same_lengths : (ns : List Node)
+    → NodesLengths (length (nexts ns)) (length (nexts ns)) (length (prevs ns)) (length (homes ns)) (length (entry_numbers ns)) (length (generations ns))
     (length (serials ns))
-same-lengths ns =
+same_lengths ns =
     let long : length ns ≡ length (nexts ns) = sym (length-map ns (λ (v : Node). v.next)) in
     record {
-      next-len = refl;
-      prev-len = length-map ns (λ (v : Node). v.prev) ∙ long;
-      bucket-len = length-map ns (λ (v : Node). v.bucket) ∙ long;
-      entry-len = length-map ns (λ (v : Node). v.entry) ∙ long;
-      generation-len = length-map ns (λ (v : Node). v.generation) ∙ long;
-      serial-len = length-map ns (λ (v : Node). v.serial) ∙ long;
+      next_len = refl;
+      prev_len = length-map ns (λ (v : Node). v.prev) ∙ long;
+      bucket_len = length-map ns (λ (v : Node). v.bucket) ∙ long;
+      entry_len = length-map ns (λ (v : Node). v.entry) ∙ long;
+      generation_len = length-map ns (λ (v : Node). v.generation) ∙ long;
+      serial_len = length-map ns (λ (v : Node). v.serial) ∙ long;
     }
 
 module _ (n : ℕ) (c : Clock) (hs ts : List ℕ) (d : List Bool) (l m : List ℕ) (k : ℕ)
@@ -53,15 +53,15 @@ module _ (n : ℕ) (c : Clock) (hs ts : List ℕ) (d : List Bool) (l m : List �
 
     numbers : RefusesEnable before k
     numbers =
-        enable-around hs ts (nexts ns) (prevs ns) (homes ns) (entryNumbers ns) (generations ns) (serials ns) d l m c k
-        (subst (λ (i : ℕ). RefusesAround c.enabled (length hs) (length ts) i (length d) (length l) (length m) k) as_many f) (same-lengths ns)
+        enable_around hs ts (nexts ns) (prevs ns) (homes ns) (entry_numbers ns) (generations ns) (serials ns) d l m c k
+        (subst (λ (i : ℕ). RefusesAround c.enabled (length hs) (length ts) i (length d) (length l) (length m) k) as_many f) (same_lengths ns)
 
-  pub enable-refused : (k ≡ 0 → ⊥) → Enabled n c c hs ts hs ts d d l m l m false (refused k)
-  enable-refused x =
+  pub enable_refused : (k ≡ 0 → ⊥) → Enabled n c c hs ts hs ts d d l m l m false (refused k)
+  enable_refused x =
       record {
         meets = λ ns ns' e o.
             subst (λ (zs : List Node). Promised (enabling (before ns e)) (before ns e) (shown hs ts zs d l m c) (refused k)) (sym (o.stays refl))
-            (calling.enable-no _ _ c k (numbers ns e) x);
+            (calling.enable_no _ _ c k (numbers ns e) x);
       }
 
   module _ (z : k ≡ 0) where
@@ -70,12 +70,12 @@ module _ (n : ℕ) (c : Clock) (hs ts : List ℕ) (d : List Bool) (l m : List �
         let u = past 2 k f.by (λ i. omega (arith, z, i)) in
         (past 3 k u.1 (λ i. omega (arith, z, i))).0
 
-    pub enable-asks : AroundReady hs ts (entries d l m)
-    enable-asks =
+    pub enable_asks : AroundReady hs ts (entries d l m)
+    enable_asks =
         record {
-          tails-len = lendable.ends.tails-len ∙ sym lendable.ends.heads-len;
-          deadline-len = lendable.entries.deadline-len;
-          entries-generation-len = lendable.entries.generation-len;
+          tails_len = lendable.ends.tails_len ∙ sym lendable.ends.heads_len;
+          deadline_len = lendable.entries.deadline_len;
+          entries_generation_len = lendable.entries.generation_len;
         }
 
     module _ {hs' ts' : List ℕ} {d' : List Bool} {l' m' : List ℕ} {c' : Clock} (a : LaysAround hs ts (entries d l m) n c hs' ts' (entries d' l' m') c')
@@ -87,29 +87,29 @@ module _ (n : ℕ) (c : Clock) (hs ts : List ℕ) (d : List Bool) (l m : List �
       M = length (nexts ns)
 
       ready : LayReady wheel01 (before ns e).nodes (before ns e).entries
-      ready = lay-ready _ _ c k (numbers ns e) z
+      ready = lay_ready _ _ c k (numbers ns e) z
 
       -- the nodes' columns are those of the records that enabling lays out
-      written : columnsOf ns' ≡ columnsIn (bareNodes D M)
+      written : columns_of ns' ≡ columns_in (bare_nodes D M)
       written =
-          ap columnsOf (o.lays refl) ∙ laid-bare ns (omega (arith, e, lendable.ranges.nodes-most))
-          ∙ ap (λ (i : ℕ). columnsIn (bareNodes i (length ns))) (sym ready.heads-len)
-          ∙ ap (λ (i : ℕ). columnsIn (bareNodes D i)) (e ∙ as_many ns e)
+          ap columns_of (o.lays refl) ∙ laid_bare ns (omega (arith, e, lendable.ranges.nodes_most))
+          ∙ ap (λ (i : ℕ). columns_in (bare_nodes i (length ns))) (sym ready.heads_len)
+          ∙ ap (λ (i : ℕ). columns_in (bare_nodes D i)) (e ∙ as_many ns e)
 
-      laid_out : shown hs' ts' ns' d' l' m' c' ≡ laidOut (before ns e)
-      laid_out =
-          let h : hs' ≡ (bareLinks D M).heads = a.heads-are ∙ ap (λ (i : ℕ). (bareLinks D i).heads) (as_many ns e) in
-          let t : ts' ≡ (bareLinks D M).tails = a.tails-are ∙ ap (λ (i : ℕ). (bareLinks D i).tails) (as_many ns e) in
-          let b : c' ≡ enabledWith D M (length d) c = a.clock-is ∙ ap (λ (i : ℕ). enabledWith D i (length d) c) (as_many ns e) in
+      laid_out_lem : shown hs' ts' ns' d' l' m' c' ≡ laid_out (before ns e)
+      laid_out_lem =
+          let h : hs' ≡ (bare_links D M).heads = a.heads_are ∙ ap (λ (i : ℕ). (bare_links D i).heads) (as_many ns e) in
+          let t : ts' ≡ (bare_links D M).tails = a.tails_are ∙ ap (λ (i : ℕ). (bare_links D i).tails) (as_many ns e) in
+          let b : c' ≡ enabled_with D M (length d) c = a.clock_is ∙ ap (λ (i : ℕ). enabled_with D i (length d) c) (as_many ns e) in
           λ i.
           records (nodes (h i) (t i) (written i).next (written i).prev (written i).bucket (written i).entry (written i).generation (written i).serial)
-          (a.entries-are i) (b i)
+          (a.entries_are i) (b i)
 
       pub enables : Promised (enabling (before ns e)) (before ns e) (shown hs' ts' ns' d' l' m' c') ok
       enables =
-          subst (λ (R : Records). Promised (enabling (before ns e)) (before ns e) R ok) (sym laid_out)
-          (calling.enable-yes _ _ c k (numbers ns e) _ _ _ z (bare-lays _ _ c ready))
+          subst (λ (R : Records). Promised (enabling (before ns e)) (before ns e) R ok) (sym laid_out_lem)
+          (calling.enable_yes _ _ c k (numbers ns e) _ _ _ z (bare_lays _ _ c ready))
 
-    pub enable-done : {hs' ts' : List ℕ} {d' : List Bool} {l' m' : List ℕ} {c' : Clock} → LaysAround hs ts (entries d l m) n c hs' ts' (entries d' l' m') c'
+    pub enable_done : {hs' ts' : List ℕ} {d' : List Bool} {l' m' : List ℕ} {c' : Clock} → LaysAround hs ts (entries d l m) n c hs' ts' (entries d' l' m') c'
         → Enabled n c c' hs ts hs' ts' d d' l m l' m' true ok
-    enable-done a = record { meets = λ ns ns' e o. enables a ns ns' e o }
+    enable_done a = record { meets = λ ns ns' e o. enables a ns ns' e o }

@@ -8,10 +8,10 @@ use Rattle.wheel_rules.specs.declared.calls.Clock.{Clock}
 use Rattle.wheel_rules.specs.Lent.{Records}
 use Rattle.wheel_rules.specs.Promise.{Promised}
 use Rattle.face_rules.specs.nodes.Columns.{Columns, front}
-use Rattle.face_rules.specs.Crowded.{crowdedNumber}
+use Rattle.face_rules.specs.Crowded.{crowded_number}
 use Rattle.face_rules.specs.Works.{Stored, Loaded}
-use Rattle.face_rules.proofs.Loading.{held, reads, writes, stays, stays-stored}
-use Rattle.face_rules.proofs.Crowding.{OfOne, crowd-no}
+use Rattle.face_rules.proofs.Loading.{held, reads, writes, stays, stays_stored}
+use Rattle.face_rules.proofs.Crowding.{OfOne, crowd_no}
 
 -- the same promise of an answer that says the same
 said : (q : Call) (R R' : Records) (a b : Answer) → b ≡ a → Promised q R R' a → Promised q R R' b
@@ -19,25 +19,25 @@ said q R R' a b e p = subst (λ (x : Answer). Promised q R R' x) (sym e) p
 
 module _ {q : Call} {k : Columns} {n : ℕ} {c : Clock} {hs ts : List ℕ} {d : List Bool} {l m : List ℕ} where
   -- ---- works that store the nodes back
-  pub stored-crowded : {i : ℕ} {k' : Columns} → OfOne q → 4096 < n → i ≡ crowdedNumber c → Stored q k k' n c c hs ts hs ts d l m (refused i)
-  stored-crowded {i} o many z =
+  pub stored_crowded : {i : ℕ} {k' : Columns} → OfOne q → 4096 < n → i ≡ crowded_number c → Stored q k k' n c c hs ts hs ts d l m (refused i)
+  stored_crowded {i} o many z =
       record {
         meets =
-            stays-stored (λ R R'. Promised q R R' (refused i)) k n hs ts d l m c many (λ ns f. crowd-no hs ts ns d l m c f q o i z);
+            stays_stored (λ R R'. Promised q R R' (refused i)) k n hs ts d l m c many (λ ns f. crowd_no hs ts ns d l m c f q o i z);
       }
 
   -- as the call over columns answers a, with the clock b; a' says the same, and c' is that clock
-  pub stored-done : {a a' : Answer} {b c' : Clock} {k' j : Columns} {hs' ts' : List ℕ} → n ≤ 4096 → front n k' ≡ j
+  pub stored_done : {a a' : Answer} {b c' : Clock} {k' j : Columns} {hs' ts' : List ℕ} → n ≤ 4096 → front n k' ≡ j
       → Promised q (held hs ts (front n k) d l m c) (held hs' ts' j d l m b) a → a' ≡ a → c' ≡ b → Stored q k k' n c c' hs ts hs' ts' d l m a'
-  stored-done {a} {a'} fits w p e f =
+  stored_done {a} {a'} fits w p e f =
       record { meets = writes (λ R R'. Promised q R R' a') k n hs ts d l m c fits f w (said q _ _ a a' e p) }
 
   -- ---- works that do not
-  pub loaded-crowded : {i : ℕ} → OfOne q → 4096 < n → i ≡ crowdedNumber c → Loaded q k n c c hs ts d d l m l m (refused i)
-  loaded-crowded {i} o many z =
-      record { meets = stays (λ R R'. Promised q R R' (refused i)) k n hs ts d l m c many (λ ns f. crowd-no hs ts ns d l m c f q o i z) }
+  pub loaded_crowded : {i : ℕ} → OfOne q → 4096 < n → i ≡ crowded_number c → Loaded q k n c c hs ts d d l m l m (refused i)
+  loaded_crowded {i} o many z =
+      record { meets = stays (λ R R'. Promised q R R' (refused i)) k n hs ts d l m c many (λ ns f. crowd_no hs ts ns d l m c f q o i z) }
 
-  pub loaded-done : {a a' : Answer} {b c' : Clock} {d' : List Bool} {l' m' : List ℕ} → n ≤ 4096
+  pub loaded_done : {a a' : Answer} {b c' : Clock} {d' : List Bool} {l' m' : List ℕ} → n ≤ 4096
       → Promised q (held hs ts (front n k) d l m c) (held hs ts (front n k) d' l' m' b) a → a' ≡ a → c' ≡ b → Loaded q k n c c' hs ts d d' l m l' m' a'
-  loaded-done {a} {a'} fits p e f =
+  loaded_done {a} {a'} fits p e f =
       record { meets = reads (λ R R'. Promised q R R' a') k n hs ts d l m c fits f (said q _ _ a a' e p) }

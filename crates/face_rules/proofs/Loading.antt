@@ -10,8 +10,8 @@ use lib.Seq.{length-take-le, take_at}
 use Rattle.wheel_rules.specs.declared.calls.Clock.{Clock}
 use Rattle.wheel_rules.specs.Lent.{Records, lent}
 use Rattle.face_rules.specs.declared.Node.{Node}
-use Rattle.face_rules.specs.Face.{recordsOf as shown}
-use Rattle.face_rules.specs.nodes.Columns.{Columns, columns, columnsOf, front, Holds, Loads, Stores}
+use Rattle.face_rules.specs.Face.{records_of as shown}
+use Rattle.face_rules.specs.nodes.Columns.{Columns, columns, columns_of, front, Holds, Loads, Stores}
 use Rattle.face_rules.specs.Works.{OfLoaded, OfStored}
 
 -- the records that columns are, with heads and tails, the entries and the clock beside them
@@ -26,39 +26,39 @@ over n j k =
 
 -- as long as what was lent, column by column
 pub record AsLong (j k : Columns) : Type 0 where
-  pub next-same : length j.next ≡ length k.next
-  pub prev-same : length j.prev ≡ length k.prev
-  pub bucket-same : length j.bucket ≡ length k.bucket
-  pub entry-same : length j.entry ≡ length k.entry
-  pub generation-same : length j.generation ≡ length k.generation
-  pub serial-same : length j.serial ≡ length k.serial
+  pub next_same : length j.next ≡ length k.next
+  pub prev_same : length j.prev ≡ length k.prev
+  pub bucket_same : length j.bucket ≡ length k.bucket
+  pub entry_same : length j.entry ≡ length k.entry
+  pub generation_same : length j.generation ≡ length k.generation
+  pub serial_same : length j.serial ≡ length k.serial
 
 module _ (n : ℕ) (fits : n ≤ 4096) where
   -- as many are lent of a column as there are nodes
   pub front_length : (xs : List ℕ) → 4096 ≤ length xs → n ≡ length (take n xs)
   front_length xs room = sym (length-take-le n xs (omega arith))
 
-  column-front : (xs ys : List ℕ) → 4096 ≤ length ys → length xs ≡ length (take n ys) → take n (xs ++ drop n ys) ≡ xs
-  column-front xs ys room same = take_at xs (drop n ys) n (same ∙ sym (front_length ys room))
+  column_front : (xs ys : List ℕ) → 4096 ≤ length ys → length xs ≡ length (take n ys) → take n (xs ++ drop n ys) ≡ xs
+  column_front xs ys room same = take_at xs (drop n ys) n (same ∙ sym (front_length ys room))
 
   -- what came back stands at the front
-  pub over-front : (j k : Columns) → Holds 4096 k → AsLong j (front n k) → front n (over n j k) ≡ j
-  over-front j k room same =
+  pub over_front : (j k : Columns) → Holds 4096 k → AsLong j (front n k) → front n (over n j k) ≡ j
+  over_front j k room same =
       λ i.
-      columns (column-front j.next k.next room.next-has same.next-same i)
-      (column-front j.prev k.prev room.prev-has same.prev-same i)
-      (column-front j.bucket k.bucket room.bucket-has same.bucket-same i)
-      (column-front j.entry k.entry room.entry_has same.entry-same i)
-      (column-front j.generation k.generation room.generation-has same.generation-same i)
-      (column-front j.serial k.serial room.serial-has same.serial-same i)
+      columns (column_front j.next k.next room.next_has same.next_same i)
+      (column_front j.prev k.prev room.prev_has same.prev_same i)
+      (column_front j.bucket k.bucket room.bucket_has same.bucket_same i)
+      (column_front j.entry k.entry room.entry_has same.entry_same i)
+      (column_front j.generation k.generation room.generation_has same.generation_same i)
+      (column_front j.serial k.serial room.serial_has same.serial_same i)
 
 -- ---- the columns' front is that of the nodes that were read, and of those that are stored back
 module _ (ns : List Node) (k : Columns) (n : ℕ) (fits : n ≤ 4096) (e : length ns ≡ n) where
-  loaded : Loads ns k → front n k ≡ columnsOf ns
-  loaded o = subst (λ (i : ℕ). front i k ≡ columnsOf ns) e (o.is (omega arith))
+  loaded : Loads ns k → front n k ≡ columns_of ns
+  loaded o = subst (λ (i : ℕ). front i k ≡ columns_of ns) e (o.is (omega arith))
 
-  stored : (ns' : List Node) → Stores ns k ns' → front n k ≡ columnsOf ns'
-  stored ns' o = sym (subst (λ (i : ℕ). columnsOf ns' ≡ front i k) e (o.fits (omega arith)))
+  stored : (ns' : List Node) → Stores ns k ns' → front n k ≡ columns_of ns'
+  stored ns' o = sym (subst (λ (i : ℕ). columns_of ns' ≡ front i k) e (o.fits (omega arith)))
 
 module _ (P : Records → Records → Type 0) (k : Columns) (n : ℕ) (h t : List ℕ) (d : List Bool) (l m : List ℕ) (c : Clock) where
   module _ (fits : n ≤ 4096) where
@@ -75,7 +75,7 @@ module _ (P : Records → Records → Type 0) (k : Columns) (n : ℕ) (h t : Lis
         → P (held h t (front n k) d l m c) (held h' t' j d' l' m' b)
         → OfStored k k' n (λ ns ns'. P (shown h t ns d l m c) (shown h' t' ns' d' l' m' c'))
     writes {k'} {j} {h'} {t'} {d'} {l'} {m'} {b} {c'} a w p ns ns' e o s =
-        subst (λ (z : Columns). P (held h t z d l m c) (held h' t' (columnsOf ns') d' l' m' c')) (loaded ns k n fits e o)
+        subst (λ (z : Columns). P (held h t z d l m c) (held h' t' (columns_of ns') d' l' m' c')) (loaded ns k n fits e o)
         (subst (λ (z : Columns). P (held h t (front n k) d l m c) (held h' t' z d' l' m' c')) (sym w ∙ stored ns k' n fits e ns' s)
         (subst (λ (z : Clock). P (held h t (front n k) d l m c) (held h' t' j d' l' m' z)) (sym a) p))
 
@@ -84,7 +84,7 @@ module _ (P : Records → Records → Type 0) (k : Columns) (n : ℕ) (h t : Lis
     pub stays : OfLoaded k n (λ ns. P (shown h t ns d l m c) (shown h t ns d l m c))
     stays ns e o = p ns (omega (arith, e))
 
-    pub stays-stored : {k' : Columns} → OfStored k k' n (λ ns ns'. P (shown h t ns d l m c) (shown h t ns' d l m c))
-    stays-stored ns ns' e o s =
+    pub stays_stored : {k' : Columns} → OfStored k k' n (λ ns ns'. P (shown h t ns d l m c) (shown h t ns' d l m c))
+    stays_stored ns ns' e o s =
         let f : 4096 < length ns = omega (arith, e) in
         subst (λ (z : List Node). P (shown h t ns d l m c) (shown h t z d l m c)) (sym (s.stays f)) (p ns f)

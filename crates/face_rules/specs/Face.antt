@@ -20,17 +20,17 @@ use Rattle.wheel_rules.specs.declared.calls.Clock.{Clock}
 -- ======== lent nodes
 
 -- ---- one field of every node, in order
-abbrev pub nextSlots : List Node → List ℕ
-nextSlots = map (λ (v : Node). v.next)
+abbrev pub next_slots : List Node → List ℕ
+next_slots = map (λ (v : Node). v.next)
 
-abbrev pub prevSlots : List Node → List ℕ
-prevSlots = map (λ (v : Node). v.prev)
+abbrev pub prev_slots : List Node → List ℕ
+prev_slots = map (λ (v : Node). v.prev)
 
-abbrev pub bucketNumbers : List Node → List ℕ
-bucketNumbers = map (λ (v : Node). v.bucket)
+abbrev pub bucket_numbers : List Node → List ℕ
+bucket_numbers = map (λ (v : Node). v.bucket)
 
-abbrev pub entryNumbers : List Node → List ℕ
-entryNumbers = map (λ (v : Node). v.entry)
+abbrev pub entry_numbers : List Node → List ℕ
+entry_numbers = map (λ (v : Node). v.entry)
 
 abbrev pub generations : List Node → List ℕ
 generations = map (λ (v : Node). v.generation)
@@ -40,36 +40,36 @@ serials = map (λ (v : Node). v.serial)
 
 -- "The node records are lent as one array", with heads and tails, the entries and the clock beside it: heads, tails;
 -- nodes; dated, deadline, stamp; clock
-abbrev pub recordsOf : List ℕ → List ℕ → List Node → List Bool → List ℕ → List ℕ → Clock → Records
-recordsOf h t ns d l m c = lent h t (nextSlots ns) (prevSlots ns) (bucketNumbers ns) (entryNumbers ns) (generations ns) (serials ns) d l m c
+abbrev pub records_of : List ℕ → List ℕ → List Node → List Bool → List ℕ → List ℕ → Clock → Records
+records_of h t ns d l m c = lent h t (next_slots ns) (prev_slots ns) (bucket_numbers ns) (entry_numbers ns) (generations ns) (serials ns) d l m c
 
 -- what is lent, before a call and after it: heads, tails; nodes; dated, deadline, stamp; clock
 abbrev pub NodeSlice : Type 0
 NodeSlice = Both (Bor (List Node)) (Bor (List Node))
 
 abbrev pub before : Numbers → Numbers → NodeSlice → Flags → Numbers → Numbers → Clock → Records
-before h t ns d l m c = recordsOf h.entry.now t.entry.now ns.entry.now d.entry.now l.entry.now m.entry.now c
+before h t ns d l m c = records_of h.entry.now t.entry.now ns.entry.now d.entry.now l.entry.now m.entry.now c
 
 abbrev pub after : Numbers → Numbers → NodeSlice → Flags → Numbers → Numbers → Clock → Records
-after h t ns d l m c = recordsOf h.exit.now t.exit.now ns.exit.now d.exit.now l.exit.now m.exit.now c
+after h t ns d l m c = records_of h.exit.now t.exit.now ns.exit.now d.exit.now l.exit.now m.exit.now c
 
 -- ======== answers
 
 -- "A refusal carries its number and no value"
-abbrev pub scheduledSays : Scheduled → Answer
-scheduledSays (Armed slot serial) = handle slot serial
-scheduledSays (ScheduledRefused n) = refused n
+abbrev pub scheduled_says : Scheduled → Answer
+scheduled_says (Armed slot serial) = handle slot serial
+scheduled_says (ScheduledRefused n) = refused n
 
-abbrev pub rescheduledSays : Rescheduled → Answer
-rescheduledSays Moved = ok
-rescheduledSays Removed = removed
-rescheduledSays (RescheduledRefused n) = refused n
+abbrev pub rescheduled_says : Rescheduled → Answer
+rescheduled_says Moved = ok
+rescheduled_says Removed = removed
+rescheduled_says (RescheduledRefused n) = refused n
 
-abbrev pub pulledSays : Pulled → Answer
-pulledSays (Expired entry serial deadline) = expired entry serial deadline
-pulledSays (Placed entry serial place) = rescheduled entry serial place
-pulledSays End = end
-pulledSays (PulledRefused n) = refused n
+abbrev pub pulled_says : Pulled → Answer
+pulled_says (Expired entry serial deadline) = expired entry serial deadline
+pulled_says (Placed entry serial place) = rescheduled entry serial place
+pulled_says End = end
+pulled_says (PulledRefused n) = refused n
 
 -- ======== answers in numbers
 

@@ -1,9 +1,9 @@
 // The work of start and abandon. For proved code only, unchecked: it hands over columns that are long enough.
 ghost use Rattle.face_rules.specs.Works.{Loaded};
 ghost use Rattle.face_rules.specs.nodes.Columns.{Holds, columns};
-ghost use Rattle.face_rules.specs.nodes.Lending.{columnsBefore};
+ghost use Rattle.face_rules.specs.nodes.Lending.{columns_before};
 ghost use Rattle.rules.specs.Wheel.{start, abandon};
-ghost use Rattle.wheel_rules.specs.Promise.{notedSays};
+ghost use Rattle.wheel_rules.specs.Promise.{noted_says};
 
 use crate::answers::timed;
 use crate::refusals::crowded;
@@ -29,9 +29,9 @@ pub fn start_work(
 ) -> NotedTurn
     requires { Holds 4096 (columns next.now prev.now bucket.now entry.now generation.now serial.now) }
     ensures { Loaded (start q)
-        (columnsBefore next prev bucket entry generation serial) n clock result.clock heads.now tails.now
+        (columns_before next prev bucket entry generation serial) n clock result.clock heads.now tails.now
         dated.now dated.now deadline.now stamp.now deadline.now
-        stamp.now (notedSays result.answer) }
+        stamp.now (noted_says result.answer) }
 {
     if 4096 < n {
         let no = crowded(clock);
@@ -76,9 +76,9 @@ pub fn abandon_work(
 ) -> NotedTurn
     requires { Holds 4096 (columns next.now prev.now bucket.now entry.now generation.now serial.now) }
     ensures { Loaded abandon
-        (columnsBefore next prev bucket entry generation serial) n clock result.clock heads.now tails.now
+        (columns_before next prev bucket entry generation serial) n clock result.clock heads.now tails.now
         dated.now dated.now deadline.now stamp.now deadline.now
-        stamp.now (notedSays result.answer) }
+        stamp.now (noted_says result.answer) }
 {
     if 4096 < n {
         let no = crowded(clock);

@@ -1,9 +1,9 @@
 // The work of armed count and next due. For proved code only, unchecked: it hands over columns that are long enough.
 ghost use Rattle.face_rules.specs.Works.{Loaded};
 ghost use Rattle.face_rules.specs.nodes.Columns.{Holds, columns};
-ghost use Rattle.face_rules.specs.nodes.Lending.{columnsBefore};
-ghost use Rattle.rules.specs.Wheel.{armedCount, nextDue};
-ghost use Rattle.wheel_rules.specs.Promise.{countedSays, dueSays};
+ghost use Rattle.face_rules.specs.nodes.Lending.{columns_before};
+ghost use Rattle.rules.specs.Wheel.{armed_count, next_due};
+ghost use Rattle.wheel_rules.specs.Promise.{counted_says, due_says};
 
 use crate::refusals::crowded;
 use wheel_rules::calls::{Clock, Counted, Due};
@@ -25,10 +25,10 @@ pub fn armed_count_work(
     stamp: &[u32],
 ) -> Counted
     requires { Holds 4096 (columns next.now prev.now bucket.now entry.now generation.now serial.now) }
-    ensures { Loaded armedCount
-        (columnsBefore next prev bucket entry generation serial) n clock clock heads.now tails.now
+    ensures { Loaded armed_count
+        (columns_before next prev bucket entry generation serial) n clock clock heads.now tails.now
         dated.now dated.now deadline.now stamp.now deadline.now
-        stamp.now (countedSays result) }
+        stamp.now (counted_says result) }
 {
     if 4096 < n {
         let no = crowded(clock);
@@ -67,10 +67,10 @@ pub fn next_due_work(
     stamp: &[u32],
 ) -> Due
     requires { Holds 4096 (columns next.now prev.now bucket.now entry.now generation.now serial.now) }
-    ensures { Loaded nextDue
-        (columnsBefore next prev bucket entry generation serial) n clock clock heads.now tails.now
+    ensures { Loaded next_due
+        (columns_before next prev bucket entry generation serial) n clock clock heads.now tails.now
         dated.now dated.now deadline.now stamp.now deadline.now
-        stamp.now (dueSays result) }
+        stamp.now (due_says result) }
 {
     if 4096 < n {
         let no = crowded(clock);

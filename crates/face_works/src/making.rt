@@ -1,7 +1,7 @@
 // The work of enable, over what is lent beside the nodes: the nodes themselves are laid out in place, where it says so.
 // No `requires`.
 ghost use Rattle.face_rules.specs.Works.{Enabled};
-ghost use Rattle.wheel_rules.specs.Promise.{notedSays};
+ghost use Rattle.wheel_rules.specs.Promise.{noted_says};
 
 use face_rules::LaidTurn;
 use wheel_refusals::around_refusal;
@@ -22,7 +22,7 @@ pub fn enable_work(
     ensures { Enabled
         n clock result.clock heads.old tails.old heads.new tails.new
         dated.old dated.new deadline.old stamp.old deadline.new
-        stamp.new result.laid (notedSays result.answer) }
+        stamp.new result.laid (noted_says result.answer) }
 {
     let no = around_refusal(
         clock.enabled,

@@ -1,8 +1,8 @@
 // The work of pull. For proved code only, unchecked: it hands over columns that are long enough.
-ghost use Rattle.face_rules.specs.Face.{pulledSays};
+ghost use Rattle.face_rules.specs.Face.{pulled_says};
 ghost use Rattle.face_rules.specs.Works.{Stored};
 ghost use Rattle.face_rules.specs.nodes.Columns.{Holds, columns};
-ghost use Rattle.face_rules.specs.nodes.Lending.{columnsBefore, columnsAfter};
+ghost use Rattle.face_rules.specs.nodes.Lending.{columns_before, columns_after};
 ghost use Rattle.rules.specs.Wheel.{pull};
 
 use crate::answers::pulled;
@@ -28,10 +28,10 @@ pub fn pull_work(
 ) -> PulledTurn
     requires { Holds 4096 (columns next.old prev.old bucket.old entry.old generation.old serial.old) }
     ensures { Stored pull
-        (columnsBefore next prev bucket entry generation serial)
-        (columnsAfter next prev bucket entry generation serial) n clock result.clock heads.old
+        (columns_before next prev bucket entry generation serial)
+        (columns_after next prev bucket entry generation serial) n clock result.clock heads.old
         tails.old heads.new tails.new dated.now deadline.now
-        stamp.now (pulledSays result.answer) }
+        stamp.now (pulled_says result.answer) }
 {
     if 4096 < n {
         let no = crowded(clock);

@@ -3,9 +3,9 @@ ghost use Rattle.std.specs.Prelude.{cond};
 ghost use Rattle.std.proofs.Math.Option.{none, some};
 ghost use Rattle.face_rules.specs.Works.{Loaded};
 ghost use Rattle.face_rules.specs.nodes.Columns.{Holds, columns};
-ghost use Rattle.face_rules.specs.nodes.Lending.{columnsBefore};
-ghost use Rattle.rules.specs.Wheel.{setEntry};
-ghost use Rattle.wheel_rules.specs.Promise.{notedSays};
+ghost use Rattle.face_rules.specs.nodes.Lending.{columns_before};
+ghost use Rattle.rules.specs.Wheel.{set_entry};
+ghost use Rattle.wheel_rules.specs.Promise.{noted_says};
 
 use crate::refusals::crowded;
 use wheel_rules::calls::{Clock, Noted};
@@ -31,10 +31,10 @@ pub fn set_entry_work(
     h: u32,
 ) -> Noted
     requires { Holds 4096 (columns next.now prev.now bucket.now entry.now generation.now serial.now) }
-    ensures { Loaded (setEntry e (cond has (some due) none) h)
-        (columnsBefore next prev bucket entry generation serial) n clock clock heads.now tails.now
+    ensures { Loaded (set_entry e (cond has (some due) none) h)
+        (columns_before next prev bucket entry generation serial) n clock clock heads.now tails.now
         dated.old dated.new deadline.old stamp.old deadline.new
-        stamp.new (notedSays result) }
+        stamp.new (noted_says result) }
 {
     if 4096 < n {
         let no = crowded(clock);

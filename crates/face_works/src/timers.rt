@@ -1,11 +1,11 @@
 // The work of schedule, reschedule and deschedule. For proved code only, unchecked: it hands over columns that are long
 // enough.
-ghost use Rattle.face_rules.specs.Face.{scheduledSays, rescheduledSays};
+ghost use Rattle.face_rules.specs.Face.{scheduled_says, rescheduled_says};
 ghost use Rattle.face_rules.specs.Works.{Stored};
 ghost use Rattle.face_rules.specs.nodes.Columns.{Holds, columns};
-ghost use Rattle.face_rules.specs.nodes.Lending.{columnsBefore, columnsAfter};
+ghost use Rattle.face_rules.specs.nodes.Lending.{columns_before, columns_after};
 ghost use Rattle.rules.specs.Wheel.{schedule, reschedule, deschedule};
-ghost use Rattle.wheel_rules.specs.Promise.{notedSays};
+ghost use Rattle.wheel_rules.specs.Promise.{noted_says};
 
 use crate::answers;
 use crate::refusals::crowded;
@@ -32,10 +32,10 @@ pub fn schedule_work(
 ) -> ScheduledTurn
     requires { Holds 4096 (columns next.old prev.old bucket.old entry.old generation.old serial.old) }
     ensures { Stored (schedule e h)
-        (columnsBefore next prev bucket entry generation serial)
-        (columnsAfter next prev bucket entry generation serial) n clock result.clock heads.old
+        (columns_before next prev bucket entry generation serial)
+        (columns_after next prev bucket entry generation serial) n clock result.clock heads.old
         tails.old heads.new tails.new dated.now deadline.now
-        stamp.now (scheduledSays result.answer) }
+        stamp.now (scheduled_says result.answer) }
 {
     if 4096 < n {
         let no = crowded(clock);
@@ -85,10 +85,10 @@ pub fn reschedule_work(
 ) -> RescheduledTurn
     requires { Holds 4096 (columns next.old prev.old bucket.old entry.old generation.old serial.old) }
     ensures { Stored (reschedule slot number h)
-        (columnsBefore next prev bucket entry generation serial)
-        (columnsAfter next prev bucket entry generation serial) n clock result.clock heads.old
+        (columns_before next prev bucket entry generation serial)
+        (columns_after next prev bucket entry generation serial) n clock result.clock heads.old
         tails.old heads.new tails.new dated.now deadline.now
-        stamp.now (rescheduledSays result.answer) }
+        stamp.now (rescheduled_says result.answer) }
 {
     if 4096 < n {
         let no = crowded(clock);
@@ -139,10 +139,10 @@ pub fn deschedule_work(
 ) -> NotedTurn
     requires { Holds 4096 (columns next.old prev.old bucket.old entry.old generation.old serial.old) }
     ensures { Stored (deschedule slot number h)
-        (columnsBefore next prev bucket entry generation serial)
-        (columnsAfter next prev bucket entry generation serial) n clock result.clock heads.old
+        (columns_before next prev bucket entry generation serial)
+        (columns_after next prev bucket entry generation serial) n clock result.clock heads.old
         tails.old heads.new tails.new dated.now deadline.now
-        stamp.now (notedSays result.answer) }
+        stamp.now (noted_says result.answer) }
 {
     if 4096 < n {
         let no = crowded(clock);

@@ -7,10 +7,10 @@ use native.Mathlib.Omega.{arith}
 use lib.Dec.{ltb}
 use lib.ListN.{length, take, drop, get_or, length-drop}
 use borrow.Author.Tests.{lt-ltb, le-ltb}
-use Rattle.lines.specs.Collecting.{Collects, Keeps, NextLine, lineEnd, lineThere, passed, thisLine}
+use Rattle.lines.specs.Collecting.{Collects, Keeps, NextLine, line_end, line_there, passed, this_line}
 use Rattle.lines.specs.declared.collecting.Source.{Source}
 use Rattle.lines.specs.declared.collecting.Collected.{Collected}
-use Rattle.lines.proofs.Scans.{before-stop, before_on, before-end}
+use Rattle.lines.proofs.Scans.{before_stop, before_on, before_end}
 use Rattle.lines.proofs.Waiting.{held}
 
 -- At index i of the block the buffer `line` holds n bytes; it was `line₀` and held `kept` at `from`. What is held and
@@ -18,33 +18,33 @@ use Rattle.lines.proofs.Waiting.{held}
 pub record Reached (block : List ℕ) (from : ℕ) (line₀ : List ℕ) (kept : ℕ) (line : List ℕ) (i n : ℕ) : Type 0 where
   pub on : from ≤ i
   pub long : length line ≡ length line₀
-  pub holds : take (length line₀) (take n line ++ thisLine block i) ≡ take (length line₀) (take kept line₀ ++ thisLine block from)
-  pub far : i + length (thisLine block i) ≡ from + length (thisLine block from)
+  pub holds : take (length line₀) (take n line ++ this_line block i) ≡ take (length line₀) (take kept line₀ ++ this_line block from)
+  pub far : i + length (this_line block i) ≡ from + length (this_line block from)
   pub within : kept ≤ length line₀ → n ≤ length line₀
 
-pub reached-first : (block : List ℕ) (from : ℕ) (line : List ℕ) (kept : ℕ) → Reached block from line kept line from kept
-reached-first block from line kept = record { on = omega arith; long = refl; holds = refl; far = refl; within = λ h. h }
+pub reached_first : (block : List ℕ) (from : ℕ) (line : List ℕ) (kept : ℕ) → Reached block from line kept line from kept
+reached_first block from line kept = record { on = omega arith; long = refl; holds = refl; far = refl; within = λ h. h }
 
 module _ (block : List ℕ) (from : ℕ) (line₀ : List ℕ) (kept : ℕ) (line : List ℕ) (i n : ℕ) (r : Reached block from line₀ kept line i n) where
   -- a byte that ends no line is kept
-  pub reached-next : (buffer : List ℕ) (m : ℕ) → i < length block → (get_or block i 0 ≡ lineEnd → ⊥) → Keeps line n (get_or block i 0) buffer m
+  pub reached_next : (buffer : List ℕ) (m : ℕ) → i < length block → (get_or block i 0 ≡ line_end → ⊥) → Keeps line n (get_or block i 0) buffer m
       → Reached block from line₀ kept buffer (i + 1) m
-  reached-next buffer m h e k =
-      let b : thisLine block i ≡ get_or block i 0 ∷ thisLine block (i + 1) = before_on lineEnd block i h e in
+  reached_next buffer m h e k =
+      let b : this_line block i ≡ get_or block i 0 ∷ this_line block (i + 1) = before_on line_end block i h e in
       record {
         on = omega (arith, r.on);
         long = k.long ∙ r.long;
         holds =
-            ap (λ (w : ℕ). take w (take m buffer ++ thisLine block (i + 1))) (sym r.long)
-            ∙ k.holds (thisLine block (i + 1))
-            ∙ ap (λ (w : ℕ). take w (take n line ++ get_or block i 0 ∷ thisLine block (i + 1))) r.long
+            ap (λ (w : ℕ). take w (take m buffer ++ this_line block (i + 1))) (sym r.long)
+            ∙ k.holds (this_line block (i + 1))
+            ∙ ap (λ (w : ℕ). take w (take n line ++ get_or block i 0 ∷ this_line block (i + 1))) r.long
             ∙ ap (λ (t : List ℕ). take (length line₀) (take n line ++ t)) (sym b)
             ∙ r.holds;
         far = omega (arith, r.far, ap length b);
         within = λ w. omega (arith, k.within (omega (arith, r.within w, r.long)), r.long);
       }
 
-  stays : thisLine block i ≡ [] → take n line ≡ take (length line₀) (take kept line₀ ++ thisLine block from)
+  stays : this_line block i ≡ [] → take n line ≡ take (length line₀) (take kept line₀ ++ this_line block from)
   stays e =
       sym (held line n)
       ∙ ap (λ (w : ℕ). take w (take n line ++ [])) r.long
@@ -52,33 +52,33 @@ module _ (block : List ℕ) (from : ℕ) (line₀ : List ℕ) (kept : ℕ) (line
       ∙ r.holds
 
   -- the line's end
-  pub reached-end : i < length block → get_or block i 0 ≡ lineEnd → Collects block from line₀ kept line (record { next = i + 1; kept = n; ended = true })
-  reached-end h e =
-      let b : thisLine block i ≡ [] = before-stop lineEnd block i h e in
+  pub reached_end : i < length block → get_or block i 0 ≡ line_end → Collects block from line₀ kept line (record { next = i + 1; kept = n; ended = true })
+  reached_end h e =
+      let b : this_line block i ≡ [] = before_stop line_end block i h e in
       record {
         holds = stays b;
         goes = omega (arith, r.far, ap length b);
-        ends = sym (lt-ltb (length (thisLine block from)) (length (drop from block)) (omega (arith, r.far, r.on, ap length b, length-drop from block)));
+        ends = sym (lt-ltb (length (this_line block from)) (length (drop from block)) (omega (arith, r.far, r.on, ap length b, length-drop from block)));
         onward = λ w. omega (arith, r.on);
         within = λ w. omega (arith, r.within w, r.long);
       }
 
   -- the block's end
-  pub reached-last : length block ≤ i → Collects block from line₀ kept line (record { next = i; kept = n; ended = false })
-  reached-last h =
-      let b : thisLine block i ≡ [] = before-end lineEnd block i h in
+  pub reached_last : length block ≤ i → Collects block from line₀ kept line (record { next = i; kept = n; ended = false })
+  reached_last h =
+      let b : this_line block i ≡ [] = before_end line_end block i h in
       record {
         holds = stays b;
         goes = omega (arith, r.far, ap length b);
-        ends = sym (le-ltb (length (thisLine block from)) (length (drop from block)) (omega (arith, r.far, r.on, ap length b, length-drop from block)));
+        ends = sym (le-ltb (length (this_line block from)) (length (drop from block)) (omega (arith, r.far, r.on, ap length b, length-drop from block)));
         onward = λ w. omega (arith, r.on);
         within = λ w. omega (arith, r.within w, r.long);
       }
 
 -- no turns, whether or not the loop goes on
-pub turns-none : (t : ℕ) (b : Bool) → t ≡ 0 → ◌≡◌ {A = ℕ} 0 (cond b (t - 1) 0)
-turns-none t true e = omega arith
-turns-none t false e = refl
+pub turns_none : (t : ℕ) (b : Bool) → t ≡ 0 → ◌≡◌ {A = ℕ} 0 (cond b (t - 1) 0)
+turns_none t true e = omega arith
+turns_none t false e = refl
 
 never : (t : Bool) → t ≡ false → t ≡ true → ⊥
 never t p q = let z : ◌≡◌ {A = ℕ} 0 1 = cc in omega arith
@@ -86,8 +86,8 @@ never t p q = let z : ◌≡◌ {A = ℕ} 0 1 = cc in omega arith
 module _ (block line : List ℕ) (s : Source) (part line' : List ℕ) (r : Collected) (e : part ≡ take s.upto block)
     (k : Collects part s.from line 0 line' r) where
   -- the line ends in the block: it is the next line
-  pub line-found : r.ended ≡ true → NextLine block line s block line' (record { from = r.next; upto = s.upto; held = r.kept; more = true })
-  line-found h =
+  pub line_found : r.ended ≡ true → NextLine block line s block line' (record { from = r.next; upto = s.upto; held = r.kept; more = true })
+  line_found h =
       record {
         taken = λ w. subst (λ (b : List ℕ). Collects b s.from line 0 line' (record { next = r.next; kept = r.kept; ended = true })) e ends_so;
         unmoved = λ w. (refl, refl);
@@ -97,19 +97,19 @@ module _ (block line : List ℕ) (s : Source) (part line' : List ℕ) (r : Colle
       ends_so =
           record {
             holds = k.holds;
-            goes = k.goes ∙ ap (λ (t : Bool). s.from + length (thisLine part s.from) + passed t) h;
+            goes = k.goes ∙ ap (λ (t : Bool). s.from + length (this_line part s.from) + passed t) h;
             ends = sym h ∙ k.ends;
             onward = k.onward;
             within = k.within;
           }
 
   -- it does not: there is no line end in the block
-  pub line-not-there : r.ended ≡ false → (block' line'' : List ℕ) (r' : Source) → NextLine block line s block' line'' r'
-  line-not-there h block' line'' r' =
+  pub line_not_there : r.ended ≡ false → (block' line'' : List ℕ) (r' : Source) → NextLine block line s block' line'' r'
+  line_not_there h block' line'' r' =
       record {
-        taken = λ w. absurd (never (lineThere block s) (there ∙ h) w);
-        unmoved = λ w. absurd (never (lineThere block s) (there ∙ h) w);
+        taken = λ w. absurd (never (line_there block s) (there ∙ h) w);
+        unmoved = λ w. absurd (never (line_there block s) (there ∙ h) w);
       }
     where
-      there : lineThere block s ≡ r.ended
-      there = ap (λ (b : List ℕ). ltb (length (thisLine b s.from)) (length (drop s.from b))) (sym e) ∙ sym k.ends
+      there : line_there block s ≡ r.ended
+      there = ap (λ (b : List ℕ). ltb (length (this_line b s.from)) (length (drop s.from b))) (sym e) ∙ sym k.ends

@@ -11,12 +11,12 @@ module _ {A : Type 0} (xs : List A) (k n : ℕ) (h : n ≤ k) (long : length xs 
   pub lent_fits : n ≤ length xs
   lent_fits = omega (arith, long, h)
 
-  pub lent-count : n ≡ length (take n xs)
-  lent-count = sym (length-take-le n xs lent_fits)
+  pub lent_count : n ≡ length (take n xs)
+  lent_count = sym (length-take-le n xs lent_fits)
 
 -- where the call leaves ys of it, the array is as long as it was
-pub lent-long : {A : Type 0} (xs ys : List A) (n k : ℕ) → length ys ≡ length (take n xs) → length xs ≡ k → length (ys ++ drop n xs) ≡ k
-lent-long xs ys n k kept long = length_front xs ys n kept ∙ long
+pub lent_long : {A : Type 0} (xs ys : List A) (n k : ℕ) → length ys ≡ length (take n xs) → length xs ≡ k → length (ys ++ drop n xs) ≡ k
+lent_long xs ys n k kept long = length_front xs ys n kept ∙ long
 
 -- and its first n places are ys
 pub lent_back : {A : Type 0} (xs ys : List A) (n : ℕ) → length ys ≡ length (take n xs) → n ≤ length xs → take n (ys ++ drop n xs) ≡ ys

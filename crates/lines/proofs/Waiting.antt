@@ -27,11 +27,11 @@ held line n = rw append-nil (take_all (length line) (take n line) (simp length-t
 pub place_after : (at n most : ℕ) → at + n ≤ most → place_of at n most ≡ at
 place_after at n most h = simp (le-leb (at + n) most h)
 
-pub place-start : (at n most : ℕ) → most < at + n → place_of at n most ≡ 0
-place-start at n most h = simp (lt-leb (at + n) most h)
+pub place_start : (at n most : ℕ) → most < at + n → place_of at n most ≡ 0
+place_start at n most h = simp (lt-leb (at + n) most h)
 
-place-fits : (at n most : ℕ) → n ≤ most → place_of at n most + n ≤ most
-place-fits at n most h = cases (leb (at + n) most) refl
+place_fits : (at n most : ℕ) → n ≤ most → place_of at n most + n ≤ most
+place_fits at n most h = cases (leb (at + n) most) refl
   where
     cases : (t : Bool) → leb (at + n) most ≡ t → cond t at 0 + n ≤ most
     cases true e = omega (arith, leb-true (at + n) most e)
@@ -39,28 +39,28 @@ place-fits at n most h = cases (leb (at + n) most) refl
 
 module _ (out : List ℕ) (at : ℕ) (text : List ℕ) where
   -- the room that a text takes lies within the buffer
-  pub place-room : length text ≤ length out → place_of at (length text) (length out) + length text ≤ length out
-  place-room h = place-fits at (length text) (length out) h
+  pub place_room : length text ≤ length out → place_of at (length text) (length out) + length text ≤ length out
+  place_room h = place_fits at (length text) (length out) h
 
-  pub appended-at : length text ≤ length out
+  pub appended_at : length text ≤ length out
       → Appended out at text (paste out (place_of at (length text) (length out)) text (length text)) (place_of at (length text) (length out) + length text)
-  appended-at h =
+  appended_at h =
       let p : length (paste out (place_of at (length text) (length out)) text (length text)) ≡ length out
-      = length-paste out (place_of at (length text) (length out)) text (length text) (place-room h) (omega arith) in
+      = length-paste out (place_of at (length text) (length out)) text (length text) (place_room h) (omega arith) in
       record {
         waits = λ k. refl;
         stands = λ k. refl;
-        none-waits = λ k. absurd (omega arith);
+        none_waits = λ k. absurd (omega arith);
         untouched = λ k. absurd (omega arith);
-        within = omega (arith, place-room h);
+        within = omega (arith, place_room h);
       }
 
-  pub appended-out : length out < length text → Appended out at text out 0
-  appended-out h =
+  pub appended_out : length out < length text → Appended out at text out 0
+  appended_out h =
       record {
         waits = λ k. absurd (omega arith);
         stands = λ k. absurd (omega arith);
-        none-waits = λ k. refl;
+        none_waits = λ k. refl;
         untouched = λ k. refl;
         within = omega arith;
       }

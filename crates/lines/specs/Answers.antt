@@ -20,7 +20,7 @@ pub record Appended (out : List ℕ) (at : ℕ) (text : List ℕ) (buffer : List
   pub waits : length text ≤ length out → r ≡ place_of at (length text) (length out) + length text
   pub stands : length text ≤ length out → buffer ≡ paste out (place_of at (length text) (length out)) text (length text)
   -- a text longer than the buffer is written out at once: nothing waits
-  pub none-waits : length out < length text → r ≡ 0
+  pub none_waits : length out < length text → r ≡ 0
   pub untouched : length out < length text → buffer ≡ out
   -- what waits lies within the buffer
   pub within : r ≤ length buffer

@@ -11,6 +11,6 @@ abbrev pub mixed : ℕ → ℕ → ℕ
 mixed h x = (bit_xor h x * 1099511628211) % 2 ^ 64
 
 -- the digest h with all of the numbers after it, in order
-unfoldable pub mixedAll : ℕ → List ℕ → ℕ
-mixedAll h [] = h
-mixedAll h (x ∷ l) = mixedAll (mixed h x) l
+unfoldable pub mixed_all : ℕ → List ℕ → ℕ
+mixed_all h [] = h
+mixed_all h (x ∷ l) = mixed_all (mixed h x) l

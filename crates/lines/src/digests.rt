@@ -1,6 +1,6 @@
 // The digest of a run of numbers: FNV-1a on 64-bit words.
 ghost use Rattle.std.specs.Prelude.{◌≡◌};
-ghost use Rattle.lines.specs.Digests.{begun, mixed, mixedAll};
+ghost use Rattle.lines.specs.Digests.{begun, mixed, mixed_all};
 
 const PRIME: u64 = 1099511628211;
 
@@ -20,7 +20,7 @@ pub fn digest_step(h: u64, x: u64) -> u64
 
 // The digest h with all of the words after it.
 pub fn digest_all(h: u64, words: &[u64]) -> u64
-    ensures { result ≡ mixedAll h words.now }
+    ensures { result ≡ mixed_all h words.now }
 {
     let mut d = h;
     let mut i = 0;

@@ -1,6 +1,6 @@
 // A part of a line as a number.
 ghost use Rattle.std.specs.Prelude.{◌≡◌};
-ghost use Rattle.lines.specs.Reading.{number_of, digitOf, read_on, dashOf};
+ghost use Rattle.lines.specs.Reading.{number_of, digit_of, read_on, dash_of};
 ghost use Rattle.lines.specs.Parts.{part_of};
 
 use crate::parts::part;
@@ -40,7 +40,7 @@ pub fn read_number(text: &[u8]) -> Number
 
 // What a text of that length is that begins with a dash.
 fn dashed(length: usize) -> Number
-    ensures { result ≡ dashOf length }
+    ensures { result ≡ dash_of length }
 {
     if length == 1 {
         Number::Dash
@@ -51,7 +51,7 @@ fn dashed(length: usize) -> Number
 
 // The digit that a byte stands for, or 10.
 fn digit(b: u8) -> u64
-    ensures { result ≡ digitOf b }
+    ensures { result ≡ digit_of b }
 {
     if b < 48 {
         return 10;

@@ -28,8 +28,8 @@ module _ {M : Type 1} {𝓤 : Ura M} (𝓛 : Logic 𝓤) (mem : Memory → SProp
   abbrev pub End : Contract 𝓤
   End = triple_of 𝓛 ends.signature (ends.spec 𝓛 mem run)
 
-  pub end-of : (i n r : ℕ) → ent 𝓤 (ensured 𝓛 ends.ended (ends.clauses 𝓛 mem run) tt (i, (n, tt)) tt r) (fact 𝓤 (r ≡ end_of i n))
-  end-of i n r = ex_e 𝓤 _ (λ ws. snd∗ 𝓤 (sem 𝓛 (lasts ends.ended tt (i, (n, tt)) ws)) (fact 𝓤 (r ≡ end_of i n)))
+  pub end_of_lem : (i n r : ℕ) → ent 𝓤 (ensured 𝓛 ends.ended (ends.clauses 𝓛 mem run) tt (i, (n, tt)) tt r) (fact 𝓤 (r ≡ end_of i n))
+  end_of_lem i n r = ex_e 𝓤 _ (λ ws. snd∗ 𝓤 (sem 𝓛 (lasts ends.ended tt (i, (n, tt)) ws)) (fact 𝓤 (r ≡ end_of i n)))
 
   abbrev pub to_end : ℕ → ℕ → End.Ghost
   to_end i n = ((tt, tt, tt, (i, (n, tt)), (vint w64 i ∷ [], (vint w64 n ∷ [], tt))), tt)

@@ -3,7 +3,7 @@
 --     strides      a turn from At i, i below n, ends in At j for some such j; a turn from At n leaves the loop. So the
 --     loop runs from At start
 --     counts       the same where each turn goes one further: `while i < n { …; i += 1 }`
---     yes-less, not-less      the test's value
+--     yes_less, not_less      the test's value
 -- Assumes the logic's `Laws` and a `Tables`.
 use mathlib.Core.Path.{◌≡◌, refl, sym, ◌∙◌, subst}
 use Prim.Native.Nat.{ℕ, zero, suc, ◌+◌, ◌-◌, ◌<◌, ◌≤◌}
@@ -27,11 +27,11 @@ fails : (t : Bool) → (T t → ⊥) → t ≡ false
 fails true f = absurd (f tt)
 fails false _ = refl
 
-pub yes-less : (i n : ℕ) → i < n → ltb i n ≡ true
-yes-less i n l = holds (ltb i n) (lt→ltb i n l)
+pub yes_less : (i n : ℕ) → i < n → ltb i n ≡ true
+yes_less i n l = holds (ltb i n) (lt→ltb i n l)
 
-pub not-less : (n : ℕ) → ltb n n ≡ false
-not-less n = fails (ltb n n) (λ a. lt_irrefl n (ltb→lt n n a))
+pub not_less : (n : ℕ) → ltb n n ≡ false
+not_less n = fails (ltb n n) (λ a. lt_irrefl n (ltb→lt n n a))
 
 pub one_more : (i : ℕ) → i + 1 ≡ suc i
 one_more i = omega arith

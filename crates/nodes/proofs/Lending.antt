@@ -1,11 +1,11 @@
 -- A row of n numbers, of a local array `[u; n]` or of a slice that is opened, lent whole to a call as a slice, for a
 -- lifetime of its own.
---     zeros-typed, zeros-row       the local holds `[0; n]`  ⊢  the row of some n numbers
+--     zeros_typed, zeros_row       the local holds `[0; n]`  ⊢  the row of some n numbers
 --     lends_row, row_back          the row  ⊢ ⇛  a `&mut` slice of it, its lifetime's token, and the lender's part; and
 --     back, at the last numbers
---     shares-row, row-unshared     the row  ⊢ ⇛  a `&` slice of it, likewise; and back
+--     shares_row, row_unshared     the row  ⊢ ⇛  a `&` slice of it, likewise; and back
 --     row_room                     the row  ⊢  the local's room
---     length-lit                   the literal n, as the code has it where it makes a slice of an array
+--     length_lit                   the literal n, as the code has it where it makes a slice of an array
 -- Assumes `Logic`.
 use mathlib.Core.Path.{◌≡◌, refl, subst, ◌∙◌}
 use Prim.Native.Nat.{ℕ, zero, suc, ◌<◌, ◌^◌}
@@ -40,19 +40,19 @@ use denote.Steps.{owned}
 use Rattle.nodes.proofs.Arrays.{row_of, whole_of}
 
 -- a reference to the numbers xs at (b, o); and of the local at b
-abbrev pub ref-at : ℕ → ℕ → GName → List ℕ → MutBor (List ℕ)
-ref-at b o γ xs = record { ref_ptr = (b, o); ghost_name = γ; now = xs }
+abbrev pub ref_at : ℕ → ℕ → GName → List ℕ → MutBor (List ℕ)
+ref_at b o γ xs = record { ref_ptr = (b, o); ghost_name = γ; now = xs }
 
-abbrev pub ref-to : ℕ → GName → List ℕ → MutBor (List ℕ)
-ref-to b = ref-at b 0
+abbrev pub ref_to : ℕ → GName → List ℕ → MutBor (List ℕ)
+ref_to b = ref_at b 0
 
 -- what a lent array stands under: a lifetime, and the name of its numbers
 pub record Lease : Type 0 where
   pub life : ℕ
   pub name : GName
 
-abbrev pub lft-of : Lease → Lft
-lft-of w = w.life ∷ []
+abbrev pub lft_of : Lease → Lft
+lft_of w = w.life ∷ []
 
 module _ {M : Type 1} {𝓤 : Ura M} (𝓛 : Logic 𝓤) (u : Width) where
   open 𝓛 use {H, A}
@@ -68,20 +68,20 @@ module _ {M : Type 1} {𝓤 : Ura M} (𝓛 : Logic 𝓤) (u : Width) where
   zeros n = array_val (replicate n (vint u 0))
 
   module _ (small : 0 < 2 ^ bits u) where
-    each-zero : (n : ℕ) → shadow (each ℕ R.own (replicate n 0) (replicate n (vint u 0)))
-    each-zero zero = tt
-    each-zero (suc n) = ((refl, small), each-zero n)
+    each_zero : (n : ℕ) → shadow (each ℕ R.own (replicate n 0) (replicate n (vint u 0)))
+    each_zero zero = tt
+    each_zero (suc n) = ((refl, small), each_zero n)
 
-    are-zeros : (n : ℕ) → Is (Array R n) (replicate n 0) (zeros n ∷ [])
-    are-zeros n = (replicate n (vint u 0), ((refl, length-replicate n 0), each-zero n))
+    are_zeros : (n : ℕ) → Is (Array R n) (replicate n 0) (zeros n ∷ [])
+    are_zeros n = (replicate n (vint u 0), ((refl, length-replicate n 0), each_zero n))
 
-    pub zeros-typed : (n : ℕ) → Holds (has_ty (ty_array (ty_int u) n) (zeros n)) × WT (zeros n)
-    zeros-typed n = ((Array-Lawful 𝓛 R (uint_Lawful 𝓛 u) n).typed (replicate n 0) _ (are-zeros n)).0
+    pub zeros_typed : (n : ℕ) → Holds (has_ty (ty_array (ty_int u) n) (zeros n)) × WT (zeros n)
+    zeros_typed n = ((Array-Lawful 𝓛 R (uint_Lawful 𝓛 u) n).typed (replicate n 0) _ (are_zeros n)).0
 
-    pub zeros-row : (n b : ℕ) → ent 𝓤 (H.at full_share (ty_array (ty_int u) n) b 0 (zeros n)) (ex 𝓤 (λ (xs : List ℕ). guard 𝓤 (length xs ≡ n) (at_row xs b 0)))
-    zeros-row n b =
+    pub zeros_row : (n b : ℕ) → ent 𝓤 (H.at full_share (ty_array (ty_int u) n) b 0 (zeros n)) (ex 𝓤 (λ (xs : List ℕ). guard 𝓤 (length xs ≡ n) (at_row xs b 0)))
+    zeros_row n b =
         qed 𝓛 (‵ (fat full_share (ty_array (ty_int u) n) b 0 (zeros n)) ∷ []) ∵
-        owned ! (Array R n) (Is (Array R n)) (Array-Makes 𝓛 R (uint_Makes 𝓛 u) n) (replicate n 0) _ (are-zeros n) $ move ! (1 ∷ 0 ∷ []) $
+        owned ! (Array R n) (Is (Array R n)) (Array-Makes 𝓛 R (uint_Makes 𝓛 u) n) (replicate n 0) _ (are_zeros n) $ move ! (1 ∷ 0 ∷ []) $
         use2 𝓛 (‵ (row R full_share (replicate n 0) b 0)) (row_of 𝓛 R n tt (replicate n 0) (zeros n) b) $
         show ! (λ (xs : List ℕ). guard 𝓤 (length xs ≡ n) (at_row xs b 0)) (replicate n 0) $ check ! (length-replicate n 0) $ done !
 
@@ -95,15 +95,15 @@ module _ {M : Type 1} {𝓤 : Ura M} (𝓛 : Logic 𝓤) (u : Width) where
   module _ (n : ℕ) (room : Room R n) (ℓ : Lifetime) (xs : List ℕ) (b o : ℕ) (l : length xs ≡ n) where
     -- ---- as `&mut`
     abbrev pub Lent : Lease → Item 𝓤
-    Lent w = ‵ (flft (lft-of w) full_share) ⊛ ‵ ((MutSlice ℓ (lft-of w) R).own_val (ref-at b o w.name xs) (slice_val (b, o) n ∷ [])) ⊛ ‵
-        (flent (lft-of w) (Held R n b o w.name))
+    Lent w = ‵ (flft (lft_of w) full_share) ⊛ ‵ ((MutSlice ℓ (lft_of w) R).own_val (ref_at b o w.name xs) (slice_val (b, o) n ∷ [])) ⊛ ‵
+        (flent (lft_of w) (Held R n b o w.name))
 
     pub lends_row : ent 𝓤 (at_row xs b o) (H.⇛ (ex 𝓤 (λ (w : Lease). mean 𝓛 (Lent w))))
     lends_row = subst (λ (m : ℕ). Room R m → Lending m) l lends room
       where
         at_length : ℕ → Lease → SProp 𝓤
-        at_length m w = mean 𝓛 (‵ (flft (lft-of w) full_share) ⊛ ‵ ((MutSlice ℓ (lft-of w) R).own_val (ref-at b o w.name xs) (slice_val (b, o) m ∷ [])) ⊛ ‵
-            (flent (lft-of w) (Held R m b o w.name)))
+        at_length m w = mean 𝓛 (‵ (flft (lft_of w) full_share) ⊛ ‵ ((MutSlice ℓ (lft_of w) R).own_val (ref_at b o w.name xs) (slice_val (b, o) m ∷ [])) ⊛ ‵
+            (flent (lft_of w) (Held R m b o w.name)))
 
         Lending : ℕ → Type 1
         Lending m = ent 𝓤 (at_row xs b o) (H.⇛ (ex 𝓤 (at_length m)))
@@ -112,7 +112,7 @@ module _ {M : Type 1} {𝓤 : Ura M} (𝓛 : Logic 𝓤) (u : Width) where
         lends g =
             qed 𝓛 (‵ (row R full_share xs b o) ∷ []) ∵ updating ! $ use1 𝓛 (‵ (cells (mem R) xs b o)) (whole_in 𝓛 R xs b o) $ lft_new ! tt
             (λ α. move ! (1 ∷ []) $
-            use1 𝓛 (later (some (λ (γ : GName). ‵ ((MutSlice ℓ (α ∷ []) R).own_val (ref-at b o γ xs) (slice_val (b, o) (length xs) ∷ [])) ⊛ ‵
+            use1 𝓛 (later (some (λ (γ : GName). ‵ ((MutSlice ℓ (α ∷ []) R).own_val (ref_at b o γ xs) (slice_val (b, o) (length xs) ∷ [])) ⊛ ‵
             (flent (α ∷ []) (Held R (length xs) b o γ))))) (lends_slice 𝓛 R ℓ (α ∷ []) xs b o g) $
             await ! tt $ pick ! (λ γ. split ! $ move ! (2 ∷ 0 ∷ 1 ∷ []) $ at_once ! $ show ! (at_length (length xs)) (record { life = α; name = γ }) $ done !))
 
@@ -121,26 +121,26 @@ module _ {M : Type 1} {𝓤 : Ura M} (𝓛 : Logic 𝓤) (u : Width) where
     Last w zs = fsep (finally R w.name zs) (feq ℕ (length zs) (length xs))
 
     pub row_back : (w : Lease) (zs : List ℕ)
-        → ent 𝓤 (sep 𝓤 (A.lft (lft-of w) full_share) (sep 𝓤 (A.lent (lft-of w) (Held R n b o w.name)) (sem 𝓛 (Last w zs))))
+        → ent 𝓤 (sep 𝓤 (A.lft (lft_of w) full_share) (sep 𝓤 (A.lent (lft_of w) (Held R n b o w.name)) (sem 𝓛 (Last w zs))))
         (H.⇛ (guard 𝓤 (length zs ≡ n) (at_row zs b o)))
     row_back w zs =
-        qed 𝓛 (‵ (flft (lft-of w) full_share) ∷ ‵ (flent (lft-of w) (Held R n b o w.name)) ∷ ‵ (Last w zs) ∷ []) ∵ updating ! $ lft_end ! tt $ move !
+        qed 𝓛 (‵ (flft (lft_of w) full_share) ∷ ‵ (flent (lft_of w) (Held R n b o w.name)) ∷ ‵ (Last w zs) ∷ []) ∵ updating ! $ lft_end ! tt $ move !
         (2 ∷ []) $ fsplit ! $ move ! (2 ∷ 3 ∷ 0 ∷ []) $
-        use3 𝓛 (later (‵ ((Arr (mem R) n).own_at zs b o))) (slice_back 𝓛 R (lft-of w) w.name zs n b o) $ await ! tt $ fsplit ! $ drop ! $ use1 𝓛
+        use3 𝓛 (later (‵ ((Arr (mem R) n).own_at zs b o))) (slice_back 𝓛 R (lft_of w) w.name zs n b o) $ await ! tt $ fsplit ! $ drop ! $ use1 𝓛
         (‵ (row R full_share zs b o)) (whole_out 𝓛 R zs b o) $
         move ! (1 ∷ []) $ feq_l ! (λ e. at_once ! $ check ! (e ∙ l) $ done !)
 
     -- ---- as `&`
     abbrev pub Shared : Lease → Item 𝓤
-    Shared w = ‵ (flft (lft-of w) full_share) ⊛ ‵ ((ShrSlice ℓ (lft-of w) R).own_val (ref-at b o w.name xs) (slice_val (b, o) n ∷ [])) ⊛ ‵
-        (flent (lft-of w) ((arr_parts (shares R) n).part full_share xs b o))
+    Shared w = ‵ (flft (lft_of w) full_share) ⊛ ‵ ((ShrSlice ℓ (lft_of w) R).own_val (ref_at b o w.name xs) (slice_val (b, o) n ∷ [])) ⊛ ‵
+        (flent (lft_of w) ((arr_parts (shares R) n).part full_share xs b o))
 
-    pub shares-row : ent 𝓤 (at_row xs b o) (H.⇛ (ex 𝓤 (λ (w : Lease). mean 𝓛 (Shared w))))
-    shares-row = subst (λ (m : ℕ). Room R m → Sharing m) l shared room
+    pub shares_row : ent 𝓤 (at_row xs b o) (H.⇛ (ex 𝓤 (λ (w : Lease). mean 𝓛 (Shared w))))
+    shares_row = subst (λ (m : ℕ). Room R m → Sharing m) l shared room
       where
         at_length : ℕ → Lease → SProp 𝓤
-        at_length m w = mean 𝓛 (‵ (flft (lft-of w) full_share) ⊛ ‵ ((ShrSlice ℓ (lft-of w) R).own_val (ref-at b o w.name xs) (slice_val (b, o) m ∷ [])) ⊛ ‵
-            (flent (lft-of w) ((arr_parts (shares R) m).part full_share xs b o)))
+        at_length m w = mean 𝓛 (‵ (flft (lft_of w) full_share) ⊛ ‵ ((ShrSlice ℓ (lft_of w) R).own_val (ref_at b o w.name xs) (slice_val (b, o) m ∷ [])) ⊛ ‵
+            (flent (lft_of w) ((arr_parts (shares R) m).part full_share xs b o)))
 
         Sharing : ℕ → Type 1
         Sharing m = ent 𝓤 (at_row xs b o) (H.⇛ (ex 𝓤 (at_length m)))
@@ -148,16 +148,16 @@ module _ {M : Type 1} {𝓤 : Ura M} (𝓛 : Logic 𝓤) (u : Width) where
         shared : Room R (length xs) → Sharing (length xs)
         shared g =
             qed 𝓛 (‵ (row R full_share xs b o) ∷ []) ∵ updating ! $ lft_new ! tt (λ α. move ! (1 ∷ []) $ feq_i ! ℕ (length xs) (length xs) refl $ fjoin ! $
-            use1 𝓛 (later (some (λ (γ : GName). ‵ ((ShrSlice ℓ (α ∷ []) R).own_val (ref-at b o γ xs) (slice_val (b, o) (length xs) ∷ [])) ⊛ ‵
+            use1 𝓛 (later (some (λ (γ : GName). ‵ ((ShrSlice ℓ (α ∷ []) R).own_val (ref_at b o γ xs) (slice_val (b, o) (length xs) ∷ [])) ⊛ ‵
             (flent (α ∷ []) ((arr_parts (shares R) (length xs)).part full_share xs b o))))) (lends_shr_slice 𝓛 R ℓ (α ∷ []) full_share xs b o g) $
             await ! tt $ pick ! (λ γ. split ! $ move ! (2 ∷ 0 ∷ 1 ∷ []) $ at_once ! $ show ! (at_length (length xs)) (record { life = α; name = γ }) $ done !))
 
-    pub row-unshared : (w : Lease) → ent 𝓤 (sep 𝓤 (A.lft (lft-of w) full_share) (A.lent (lft-of w) ((arr_parts (shares R) n).part full_share xs b o)))
+    pub row_unshared : (w : Lease) → ent 𝓤 (sep 𝓤 (A.lft (lft_of w) full_share) (A.lent (lft_of w) ((arr_parts (shares R) n).part full_share xs b o)))
         (H.⇛ (at_row xs b o))
-    row-unshared w =
-        qed 𝓛 (‵ (flft (lft-of w) full_share) ∷ ‵ (flent (lft-of w) ((arr_parts (shares R) n).part full_share xs b o)) ∷ []) ∵ updating ! $ lft_end ! tt $
+    row_unshared w =
+        qed 𝓛 (‵ (flft (lft_of w) full_share) ∷ ‵ (flent (lft_of w) ((arr_parts (shares R) n).part full_share xs b o)) ∷ []) ∵ updating ! $ lft_end ! tt $
         lent_back ! tt $ fsplit ! $ drop ! $ at_once ! $ done !
 
 module _ {M : Type 1} {𝓤 : Ura M} {𝓛 : Logic 𝓤} {K : Type 0} {Γ : List (Item 𝓤)} {E : Env 𝓤 𝓛.H} where
-  pub length-lit : K → {u : Width} {n : ℕ} → Fits u n → Opd K 𝓛 Γ E (int_big u n) (vint u n)
-  length-lit t {u} {n} fits = record { go = λ Kt h. via 𝓤 (Kt (vint u n)) h (guard_i 𝓤 (Fits u n) (Kt (vint u n)) fits) }
+  pub length_lit : K → {u : Width} {n : ℕ} → Fits u n → Opd K 𝓛 Γ E (int_big u n) (vint u n)
+  length_lit t {u} {n} fits = record { go = λ Kt h. via 𝓤 (Kt (vint u n)) h (guard_i 𝓤 (Fits u n) (Kt (vint u n)) fits) }

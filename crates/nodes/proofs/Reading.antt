@@ -3,7 +3,7 @@
 --     Field            a field of a node: its width, its number and offset in the struct, what it is of a node, and
 --     what a walk that reads it needs
 --     function, ended, clauses     the code, the signature and the contract of the reader of F
---     reads-meets      the code meets the contract. The nodes are looked into and the column is opened once, before the
+--     reads_meets      the code meets the contract. The nodes are looked into and the column is opened once, before the
 --     loop; at the loop's test, at place i, the column is `written` up to i
 -- Assumes `Logic` and a `Tables`.
 use mathlib.Core.Path.{◌≡◌, refl, sym, ap, subst, ◌∙◌}
@@ -54,9 +54,9 @@ use denote.Triple.Walked.{says, needs, Stays, stay_dropped, stay_slice, walk_of,
 use denote.Exit.{yes}
 use Rattle.face_rules.specs.declared.Node.{Node}
 use Rattle.face_rules.specs.nodes.Blocks.{Reaches, written}
-use Rattle.nodes.proofs.Counts.{counts, yes-less, not-less, one_more}
+use Rattle.nodes.proofs.Counts.{counts, yes_less, not_less, one_more}
 use Rattle.face_rules.proofs.nodes.Using.{blank}
-use Rattle.face_rules.proofs.nodes.Written.{written_none, written-more, length-written}
+use Rattle.face_rules.proofs.nodes.Written.{written_none, written_more, length_written}
 use Rattle.face_rules.specs.contracts.Node as T
 use Rattle.face_rules.proofs.Node.TheLaws as T'
 
@@ -104,8 +104,8 @@ next_field = record {
   narrow = omega arith;
 }
 
-abbrev pub prev-field : Field
-prev-field = record {
+abbrev pub prev_field : Field
+prev_field = record {
   width = w64;
   number = 1;
   offset = 8;
@@ -117,8 +117,8 @@ prev-field = record {
   narrow = omega arith;
 }
 
-abbrev pub bucket-field : Field
-bucket-field = record {
+abbrev pub bucket_field : Field
+bucket_field = record {
   width = w64;
   number = 2;
   offset = 16;
@@ -130,8 +130,8 @@ bucket-field = record {
   narrow = omega arith;
 }
 
-abbrev pub entry-field : Field
-entry-field = record {
+abbrev pub entry_field : Field
+entry_field = record {
   width = w64;
   number = 3;
   offset = 24;
@@ -143,8 +143,8 @@ entry-field = record {
   narrow = omega arith;
 }
 
-abbrev pub generation-field : Field
-generation-field = record {
+abbrev pub generation_field : Field
+generation_field = record {
   width = w32;
   number = 4;
   offset = 32;
@@ -156,8 +156,8 @@ generation-field = record {
   narrow = omega arith;
 }
 
-abbrev pub serial-field : Field
-serial-field = record {
+abbrev pub serial_field : Field
+serial_field = record {
   width = w64;
   number = 5;
   offset = 40;
@@ -259,13 +259,13 @@ module _ (F : Field) where
     z i = written (map F.of ys) from i c.now
 
     len : (i : ℕ) → from ≤ i → i ≤ to → length (z i) ≡ length c.now
-    len i s l = length-written (map F.of ys) c.now from i s (subst (λ (k : ℕ). i ≤ k) (sym (length-map ys F.of)) (omega (arith, l, reach.of-nodes)))
-        (omega (arith, l, reach.of-column))
+    len i s l = length_written (map F.of ys) c.now from i s (subst (λ (k : ℕ). i ≤ k) (sym (length-map ys F.of)) (omega (arith, l, reach.of_nodes)))
+        (omega (arith, l, reach.of_column))
 
     start : z from ≡ c.now
     start = written_none (map F.of ys) c.now from
-        (subst (λ (k : ℕ). from ≤ k) (sym (length-map ys F.of)) (omega (arith, reach.forward, reach.of-nodes)))
-        (omega (arith, reach.forward, reach.of-column))
+        (subst (λ (k : ℕ). from ≤ k) (sym (length-map ys F.of)) (omega (arith, reach.forward, reach.of_nodes)))
+        (omega (arith, reach.forward, reach.of_column))
 
     abbrev Post : Val → SProp 𝓤
     Post = (walk_of 𝓛 ended stayed (clauses 𝓤)).post (((κ₀, (κ₁, tt)), (q₀, (q₁, tt)), tt, x, passed), tt)
@@ -321,7 +321,7 @@ module _ (F : Field) where
       more i X s l k =
           qed 𝓛 (At i) ∵ exec ! C Λ E turn (any_q (after_turn 𝓤 H X Left)) $
           assigns ! (bin ! (load ! (at ! (stop !)) (look ! 2 refl)) (load ! (at ! (stop !)) (look ! 12 refl)) tt) (at ! (stop !)) (init ! 3 refl (tt, tt)) $
-          rewrite ! 3 (λ (t : Bool). ‵ (fat full_share ty_bool l₆ 0 (vbool t))) (yes-less i to l) refl $ stays ! (load ! (at ! (stop !)) (look ! 3 refl)) $
+          rewrite ! 3 (λ (t : Bool). ‵ (fat full_share ty_bool l₆ 0 (vbool t))) (yes_less i to l) refl $ stays ! (load ! (at ! (stop !)) (look ! 3 refl)) $
           -- the field of nodes[i] is copied into _9
           assigns ! (bin ! (load ! (at ! (stop !)) (look ! 2 refl)) (lit ! tt) (record { fits = fits48 })) (at ! (stop !))
           (init ! 4 refl (tt, record { fits = fits48 })) $
@@ -335,8 +335,8 @@ module _ (F : Field) where
           rewrite ! 8 (λ (w : Val). ‵ (fat full_share (ty_int u) l₉ 0 w)) (F.reads (v i)) refl $ elem_back ! T.the_row q' ys i blank (vals (v i)) r.ptr.0
           r.ptr.1 below $
           -- and from there to place i of the column
-          assigns ! (bin ! (load ! (at ! (stop !)) (look ! 2 refl)) (lit ! small) (record { fits = fits-u })) (at ! (stop !))
-          (init ! 7 refl (tt, record { fits = fits-u })) $
+          assigns ! (bin ! (load ! (at ! (stop !)) (look ! 2 refl)) (lit ! small) (record { fits = fits_u })) (at ! (stop !))
+          (init ! 7 refl (tt, record { fits = fits_u })) $
           assigns ! (bin ! (load ! (at ! (fld ! refl (stop !))) (look_in ! 10 (sub ! 0 refl (whole !)))) (load ! (at ! (stop !)) (look ! 7 refl)) tt)
           (at ! (stop !)) (init ! 8 refl (tt, tt)) $
           rewrite ! 8 (λ (p : ℕ). ‵ (fat full_share ty_ptr l₁₁ 0 (vptr c.ptr.0 p))) (sym (place_is (bytes u) c.ptr.1 i)) refl $
@@ -344,7 +344,7 @@ module _ (F : Field) where
           assigns ! (of_opd ! (load ! (at ! (stop !)) (look ! 8 refl))) (at ! (hop ! (look ! 10 refl) (stop !))) (store ! 0 refl (typed is)) $
           move ! (1 ∷ []) $ drop ! $ owned ! R (Is R) (uint_Makes 𝓛 u) (F.of (v i)) _ (refl, F.fits (v i) is) $ move ! (1 ∷ 0 ∷ []) $
           elem_put ! R full_share (z i) i (F.of (v i)) (vint u (F.of (v i)) ∷ []) c.ptr.0 c.ptr.1 within $
-          rewrite ! 0 (λ (zs : List ℕ). ‵ (row R full_share zs c.ptr.0 c.ptr.1)) one_on refl $
+          rewrite ! 0 (λ (zs : List ℕ). ‵ (row R full_share zs c.ptr.0 c.ptr.1)) one_on_lem refl $
           -- i += 1
           assigns_last ! (bin ! (load ! (at ! (stop !)) (look ! 2 refl)) (lit ! tt) (record { fits = fits1 })) (at ! (stop !))
           (store ! 2 refl (tt, record { fits = fits1 })) $
@@ -352,7 +352,7 @@ module _ (F : Field) where
           (λ (j : ℕ). ‵ (fat full_share word l₅ 0 (vint w64 j))) (one_more i) refl $ by ! k))
         where
           below : i < n
-          below = omega (arith, l, reach.of-nodes)
+          below = omega (arith, l, reach.of_nodes)
 
           fits48 : i * 48 < 2 ^ 64
           fits48 = omega (arith, below, gr.1)
@@ -363,11 +363,11 @@ module _ (F : Field) where
           small : Yes (ltb (bytes u) (2 ^ 64))
           small = lt→ltb (bytes u) (2 ^ 64) (omega (arith, F.narrow))
 
-          fits-u : i * bytes u < 2 ^ 64
-          fits-u = omega (arith, below, gr.1, mul-le-mul_left i F.narrow)
+          fits_u : i * bytes u < 2 ^ 64
+          fits_u = omega (arith, below, gr.1, mul-le-mul_left i F.narrow)
 
           within : i < length (z i)
-          within = subst (λ (k : ℕ). i < k) (sym (len i s (omega (arith, l)))) (omega (arith, l, reach.of-column))
+          within = subst (λ (k : ℕ). i < k) (sym (len i s (omega (arith, l)))) (omega (arith, l, reach.of_column))
 
           typed : Is T.the_row (v i) (vals (v i)) → Yes (has_ty (ty_int u) (vint u (F.of (v i)))) × WT (vint u (F.of (v i)))
           typed is = ((uint_Lawful 𝓛 u).typed (F.of (v i)) _ (refl, F.fits (v i) is)).0
@@ -375,16 +375,16 @@ module _ (F : Field) where
           as_read : Is T.the_row (v i) (vals (v i)) → Yes (has_ty (ty_int u) (get_v (parts (v i)) F.number)) × WT (get_v (parts (v i)) F.number)
           as_read is = subst (λ (w : Val). Yes (has_ty (ty_int u) w) × WT w) (sym (F.reads (v i))) (typed is)
 
-          one_on : set (z i) i (F.of (v i)) ≡ z (suc i)
-          one_on = ap (set (z i) i) (sym (get_or-map F.of ys i blank)) ∙ written-more (map F.of ys) c.now from i (F.of blank) s
-              (subst (λ (k : ℕ). i < k) (sym (length-map ys F.of)) below) (omega (arith, l, reach.of-column))
+          one_on_lem : set (z i) i (F.of (v i)) ≡ z (suc i)
+          one_on_lem = ap (set (z i) i) (sym (get_or-map F.of ys i blank)) ∙ written_more (map F.of ys) c.now from i (F.of blank) s
+              (subst (λ (k : ℕ). i < k) (sym (length-map ys F.of)) below) (omega (arith, l, reach.of_column))
 
       last : (X : SProp 𝓤) → ent 𝓤 (⋆ 𝓛 (At to)) (Wp 𝓤 H C Λ E turn (after_turn 𝓤 H X Left))
       unfolding after_turn
       last X =
           qed 𝓛 (At to) ∵ exec ! C Λ E turn (any_q (after_turn 𝓤 H X Left)) $
           assigns ! (bin ! (load ! (at ! (stop !)) (look ! 2 refl)) (load ! (at ! (stop !)) (look ! 12 refl)) tt) (at ! (stop !)) (init ! 3 refl (tt, tt)) $
-          rewrite ! 3 (λ (t : Bool). ‵ (fat full_share ty_bool l₆ 0 (vbool t))) (not-less to) refl $ leaves_loop ! (load ! (at ! (stop !)) (look ! 3 refl)) $
+          rewrite ! 3 (λ (t : Bool). ‵ (fat full_share ty_bool l₆ 0 (vbool t))) (not_less to) refl $ leaves_loop ! (load ! (at ! (stop !)) (look ! 3 refl)) $
           exec ! C Λ E after (at_ret E Post) $
           assigns ! (of_opd ! (unit_lit !)) (at ! (stop !)) (init ! 13 refl (tt, tt)) $
           -- the borrows are shut: of the column at what is written, and of the nodes at the share that was looked at
@@ -425,16 +425,16 @@ module _ (F : Field) where
   module _ {M : Type 1} {𝓤 : Ura M} (𝓛 : Logic 𝓤) (𝓣 : Tables 𝓤 𝓛.H) where
     open 𝓛 use {H}
 
-    reads-walks : Walks 𝓛 ended stayed (WpFn 𝓤 H 𝓣.C 𝓣.Λ function) (clauses 𝓤)
-    reads-walks = walked 𝓛 ended stayed (clauses 𝓤) (WpFn 𝓤 H 𝓣.C 𝓣.Λ function)
+    reads_walks : Walks 𝓛 ended stayed (WpFn 𝓤 H 𝓣.C 𝓣.Λ function) (clauses 𝓤)
+    reads_walks = walked 𝓛 ended stayed (clauses 𝓤) (WpFn 𝓤 H 𝓣.C 𝓣.Λ function)
         (λ κs. (shr_slice_vals, (shr_slice_vals, (uint_vals w64, (uint_vals w64, tt)))))
         (λ κs. (shr_slice_Tells (named 0) κs.0 T.the_row, (mut_slice_Tells (named 1) κs.1.0 R, (uint_Tells w64, (uint_Tells w64, tt)))))
         (λ κs qs bounds a g are. needs 𝓤 (Reaches a.0.now a.1.0.now a.1.1.0 a.1.1.1.0) _ (λ reach.
         walk 𝓛 κs.0 κs.1.0 qs.0 qs.1.0 a.0 a.1.0 a.1.1.0 a.1.1.1.0 are.0.0.1 are.1.0.0.1 are.1.1.0.1
         are.1.1.1.0.1 reach 𝓣))
 
-    pub reads-meets : Meets 𝓛 signature (WpFn 𝓤 H 𝓣.C 𝓣.Λ function) (closing 𝓛 ended (clauses 𝓤))
-    reads-meets =
+    pub reads_meets : Meets 𝓛 signature (WpFn 𝓤 H 𝓣.C 𝓣.Λ function) (closing 𝓛 ended (clauses 𝓤))
+    reads_meets =
         walk_Meets 𝓛 ended stayed (
           Goes-dropped 𝓛 2 (SliceRefOf (0 ∷ []) tt (plain (λ _. T.the_row)) (λ _. tt)) yes (λ κs y f. refl),
           (
@@ -442,4 +442,4 @@ module _ (F : Field) where
             (Goes-dropped 𝓛 2 (plain (λ _. usize)) yes (λ κs y f. refl), (Goes-dropped 𝓛 2 (plain (λ _. usize)) yes (λ κs y f. refl), tt)),
           ),
         )
-        (clauses 𝓤) (WpFn 𝓤 H 𝓣.C 𝓣.Λ function) (WpFn-mono 𝓤 H 𝓛.laws 𝓣 function) reads-walks
+        (clauses 𝓤) (WpFn 𝓤 H 𝓣.C 𝓣.Λ function) (WpFn-mono 𝓤 H 𝓛.laws 𝓣 function) reads_walks

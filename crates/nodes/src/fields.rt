@@ -2,14 +2,14 @@
 // stream. For load alone, unchecked.
 // Nothing is assumed of what the nodes hold.
 ghost use Rattle.std.specs.Prelude.{◌≡◌};
-ghost use Rattle.face_rules.specs.Face.{nextSlots, prevSlots, bucketNumbers, entryNumbers, generations, serials};
+ghost use Rattle.face_rules.specs.Face.{next_slots, prev_slots, bucket_numbers, entry_numbers, generations, serials};
 ghost use Rattle.face_rules.specs.nodes.Blocks.{Reaches, written};
 
 use face_rules::Node;
 
 pub fn read_next(nodes: &[Node], next: &mut [usize], from: usize, to: usize)
     requires { Reaches nodes.now next.old from to }
-    ensures { next.new ≡ written (nextSlots nodes.now) from to next.old }
+    ensures { next.new ≡ written (next_slots nodes.now) from to next.old }
 {
     let mut i = from;
     while i < to {
@@ -20,7 +20,7 @@ pub fn read_next(nodes: &[Node], next: &mut [usize], from: usize, to: usize)
 
 pub fn read_prev(nodes: &[Node], prev: &mut [usize], from: usize, to: usize)
     requires { Reaches nodes.now prev.old from to }
-    ensures { prev.new ≡ written (prevSlots nodes.now) from to prev.old }
+    ensures { prev.new ≡ written (prev_slots nodes.now) from to prev.old }
 {
     let mut i = from;
     while i < to {
@@ -31,7 +31,7 @@ pub fn read_prev(nodes: &[Node], prev: &mut [usize], from: usize, to: usize)
 
 pub fn read_bucket(nodes: &[Node], bucket: &mut [usize], from: usize, to: usize)
     requires { Reaches nodes.now bucket.old from to }
-    ensures { bucket.new ≡ written (bucketNumbers nodes.now) from to bucket.old }
+    ensures { bucket.new ≡ written (bucket_numbers nodes.now) from to bucket.old }
 {
     let mut i = from;
     while i < to {
@@ -42,7 +42,7 @@ pub fn read_bucket(nodes: &[Node], bucket: &mut [usize], from: usize, to: usize)
 
 pub fn read_entry(nodes: &[Node], entry: &mut [usize], from: usize, to: usize)
     requires { Reaches nodes.now entry.old from to }
-    ensures { entry.new ≡ written (entryNumbers nodes.now) from to entry.old }
+    ensures { entry.new ≡ written (entry_numbers nodes.now) from to entry.old }
 {
     let mut i = from;
     while i < to {

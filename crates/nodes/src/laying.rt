@@ -1,7 +1,7 @@
 // The lent nodes as enabling lays them out, written in place: nothing is read of them. For proved code only, unchecked:
 // more of them than a wheel may have are written too.
 ghost use Rattle.std.specs.Prelude.{◌≡◌, ◌<◌};
-ghost use Rattle.face_rules.specs.nodes.Laid.{turnsOf, laidNode, Laid};
+ghost use Rattle.face_rules.specs.nodes.Laid.{turns_of, laid_node, Laid};
 ghost use Rattle.rules.specs.Places.{wheel01, buckets};
 
 use deque::NONE;
@@ -10,7 +10,7 @@ use wheel_refusals::BUCKETS;
 
 // How many of n nodes are written: all of them or none.
 fn turns(n: usize, on: bool) -> usize
-    ensures { result ≡ turnsOf on n }
+    ensures { result ≡ turns_of on n }
 {
     if on { n } else { 0 }
 }
@@ -18,7 +18,7 @@ fn turns(n: usize, on: bool) -> usize
 // The slot i of n: a sentinel, alone in the bucket of its number; or free, before the one above it.
 fn laid_node(i: usize, n: usize) -> Node
     requires { i < n }
-    ensures { result ≡ laidNode (buckets wheel01) n i }
+    ensures { result ≡ laid_node (buckets wheel01) n i }
 {
     let mut node = Node {
         next: NONE,

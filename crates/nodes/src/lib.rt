@@ -3,8 +3,8 @@
 // Nothing is assumed of what the nodes hold.
 ghost use Rattle.std.specs.Prelude.{◌≡◌, ◌≤◌};
 ghost use Rattle.face_rules.specs.nodes.Blocks.{end_of};
-ghost use Rattle.face_rules.specs.nodes.Columns.{columns, usedOf, Holds, Loads, Stores};
-ghost use Rattle.face_rules.specs.nodes.Lending.{columnsBefore, columnsAfter};
+ghost use Rattle.face_rules.specs.nodes.Columns.{columns, used_of, Holds, Loads, Stores};
+ghost use Rattle.face_rules.specs.nodes.Lending.{columns_before, columns_after};
 
 mod fields;
 pub mod laying; // the nodes as enabling lays them out, written in place
@@ -18,7 +18,7 @@ pub const ROOM: usize = 4168;
 
 // How many of n lent nodes go into the columns: all of them, or none where they are more than fit.
 fn used(n: usize) -> usize
-    ensures { result ≡ usedOf n }
+    ensures { result ≡ used_of n }
 {
     if n <= 4096 { n } else { 0 }
 }
@@ -44,7 +44,7 @@ pub fn load(
     serial: &mut [u64],
 )
     requires { Holds 4096 (columns next.old prev.old bucket.old entry.old generation.old serial.old) }
-    ensures { Loads nodes.now (columnsAfter next prev bucket entry generation serial) }
+    ensures { Loads nodes.now (columns_after next prev bucket entry generation serial) }
 {
     let n = used(nodes.len());
     let mut i = 0;
@@ -71,7 +71,7 @@ pub fn store(
     serial: &[u64],
 )
     requires { Holds 4096 (columns next.now prev.now bucket.now entry.now generation.now serial.now) }
-    ensures { Stores nodes.old (columnsBefore next prev bucket entry generation serial) nodes.new }
+    ensures { Stores nodes.old (columns_before next prev bucket entry generation serial) nodes.new }
 {
     let n = used(nodes.len());
     let mut i = 0;

@@ -16,5 +16,5 @@ same? x y = go (ℕ_discrete x y)
     go (yes p) = inl p
     go (no n) = inr n
 
-pub not-both : false ≡ true → ⊥
-not-both i = let z : ◌≡◌ {A = ℕ} 0 1 = cc in omega arith
+pub not_both : false ≡ true → ⊥
+not_both i = let z : ◌≡◌ {A = ℕ} 0 1 = cc in omega arith

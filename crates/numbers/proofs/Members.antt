@@ -1,7 +1,7 @@
 -- Laws of lists of numbers: membership, removal, what stands before and after a member.
 use Rattle.std.proofs.Common.{◌≡◌, ℕ, suc, ◌⊎◌, List, [], ◌∷◌, ◌++◌, length, sym, refl, ap, ◌∙◌, subst, inl, inr, ⊎_elim, eq-eqb, ne_eqb}
 use Rattle.numbers.specs.Lists.{last_or, remove}
-use Rattle.numbers.specs.Shared.{In, Once, beforeIn as before, afterIn as after}
+use Rattle.numbers.specs.Shared.{In, Once, before_in as before, after_in as after}
 use Rattle.numbers.proofs.Cases.{same?}
 
 pub in? : (x : ℕ) (ys : List ℕ) → In x ys ⊎ (In x ys → ⊥)
@@ -33,32 +33,32 @@ pub app_right : (xs ys : List ℕ) (x : ℕ) → In x ys → In x (xs ++ ys)
 app_right [] ys x m = m
 app_right (y ∷ xs) ys x m = inr (app_right xs ys x m)
 
-pub once-app : (xs ys : List ℕ) → Once xs → Once ys → ((x : ℕ) → In x xs → In x ys → ⊥) → Once (xs ++ ys)
-once-app [] ys o p d = p
-once-app (x ∷ xs) ys o p d =
-    ((λ m. ⊎_elim o.0 (λ k. d x (inl refl) k) (in_app xs ys x m)), once-app xs ys o.1 p (λ z i j. d z (inr i) j))
+pub once_app : (xs ys : List ℕ) → Once xs → Once ys → ((x : ℕ) → In x xs → In x ys → ⊥) → Once (xs ++ ys)
+once_app [] ys o p d = p
+once_app (x ∷ xs) ys o p d =
+    ((λ m. ⊎_elim o.0 (λ k. d x (inl refl) k) (in_app xs ys x m)), once_app xs ys o.1 p (λ z i j. d z (inr i) j))
 
-pub once-left : (xs ys : List ℕ) → Once (xs ++ ys) → (x : ℕ) → In x xs → In x ys → ⊥
-once-left (y ∷ xs) ys o x (inl e) k = o.0 (in-at (xs ++ ys) e (app_right xs ys x k))
-once-left (y ∷ xs) ys o x (inr m) k = once-left xs ys o.1 x m k
+pub once_left : (xs ys : List ℕ) → Once (xs ++ ys) → (x : ℕ) → In x xs → In x ys → ⊥
+once_left (y ∷ xs) ys o x (inl e) k = o.0 (in-at (xs ++ ys) e (app_right xs ys x k))
+once_left (y ∷ xs) ys o x (inr m) k = once_left xs ys o.1 x m k
 
-pub once-right : (xs ys : List ℕ) → Once (xs ++ ys) → Once ys
-once-right [] ys o = o
-once-right (x ∷ xs) ys o = once-right xs ys o.1
+pub once_right : (xs ys : List ℕ) → Once (xs ++ ys) → Once ys
+once_right [] ys o = o
+once_right (x ∷ xs) ys o = once_right xs ys o.1
 
 -- ---- s at the back
 pub in-back : (xs : List ℕ) (x s : ℕ) → In x (xs ++ (s ∷ [])) → In x xs ⊎ (x ≡ s)
 in-back xs x s m = ⊎_elim (λ k. inl k) (λ w. ⊎_elim (λ e. inr e) (λ k. absurd k) w) (in_app xs (s ∷ []) x m)
 
-pub back-old : (xs : List ℕ) (x s : ℕ) → In x xs → In x (xs ++ (s ∷ []))
-back-old xs x s m = app_left xs (s ∷ []) x m
+pub back_old : (xs : List ℕ) (x s : ℕ) → In x xs → In x (xs ++ (s ∷ []))
+back_old xs x s m = app_left xs (s ∷ []) x m
 
-pub back-new : (xs : List ℕ) (s : ℕ) → In s (xs ++ (s ∷ []))
-back-new xs s = app_right xs (s ∷ []) s (inl refl)
+pub back_new : (xs : List ℕ) (s : ℕ) → In s (xs ++ (s ∷ []))
+back_new xs s = app_right xs (s ∷ []) s (inl refl)
 
-pub last-back : (xs : List ℕ) (b s : ℕ) → last_or b (xs ++ (s ∷ [])) ≡ s
-last-back [] b s = refl
-last-back (x ∷ xs) b s = last-back xs x s
+pub last_back : (xs : List ℕ) (b s : ℕ) → last_or b (xs ++ (s ∷ [])) ≡ s
+last_back [] b s = refl
+last_back (x ∷ xs) b s = last_back xs x s
 
 -- ---- s removed
 pub removed : (xs : List ℕ) (x s : ℕ) → In x (remove s xs) → In x xs
@@ -83,11 +83,11 @@ gone (x ∷ xs) s o m =
     (λ (n : s ≡ x → ⊥). ⊎_elim n (λ k. gone xs s o.1 k) (simp (ne_eqb s x n) at m))
     (same? s x)
 
-pub length-remove : (ys : List ℕ) (x : ℕ) → In x ys → suc (length (remove x ys)) ≡ length ys
-length-remove (y ∷ ys) x m =
+pub length_remove : (ys : List ℕ) (x : ℕ) → In x ys → suc (length (remove x ys)) ≡ length ys
+length_remove (y ∷ ys) x m =
     ⊎_elim
     (λ (e : x ≡ y). simp (eq-eqb x y e))
-    (λ (n : x ≡ y → ⊥). simp (ne_eqb x y n) (ap suc (length-remove ys x (⊎_elim (λ k. absurd (n k)) (λ k. k) m))))
+    (λ (n : x ≡ y → ⊥). simp (ne_eqb x y n) (ap suc (length_remove ys x (⊎_elim (λ k. absurd (n k)) (λ k. k) m))))
     (same? x y)
 
 -- the first taken out leaves the rest
@@ -109,21 +109,21 @@ split_at (u ∷ us) ws s n =
     let r = split_at us ws s (λ m. n (inr m)) in
     (simp (ne_eqb s u k) (ap (λ (ys : List ℕ). u ∷ ys) r.0), simp (ne_eqb s u k) r.1)
 
-pub before-in : (xs : List ℕ) (s x : ℕ) → In x (before s xs) → In x xs
-before-in (y ∷ ys) s x m =
+pub before_in_lem : (xs : List ℕ) (s x : ℕ) → In x (before s xs) → In x xs
+before_in_lem (y ∷ ys) s x m =
     ⊎_elim
     (λ (e : s ≡ y). absurd (simp (eq-eqb s y e) at m))
-    (λ (n : s ≡ y → ⊥). ⊎_elim (λ h. inl h) (λ h. inr (before-in ys s x h)) (simp (ne_eqb s y n) at m))
+    (λ (n : s ≡ y → ⊥). ⊎_elim (λ h. inl h) (λ h. inr (before_in_lem ys s x h)) (simp (ne_eqb s y n) at m))
     (same? s y)
 
-pub after-in : (xs : List ℕ) (s x : ℕ) → In x (after s xs) → In x xs
-after-in (y ∷ ys) s x m =
+pub after_in_lem : (xs : List ℕ) (s x : ℕ) → In x (after s xs) → In x xs
+after_in_lem (y ∷ ys) s x m =
     ⊎_elim
     (λ (e : s ≡ y). inr (simp (eq-eqb s y e) at m))
-    (λ (n : s ≡ y → ⊥). inr (after-in ys s x (simp (ne_eqb s y n) at m)))
+    (λ (n : s ≡ y → ⊥). inr (after_in_lem ys s x (simp (ne_eqb s y n) at m)))
     (same? s y)
 
 -- ---- the last of a list
-pub last-in : (xs : List ℕ) (b s : ℕ) → last_or b xs ≡ s → (s ≡ b → ⊥) → In s xs
-last-in [] b s e n = absurd (n (sym e))
-last-in (x ∷ xs) b s e n = ⊎_elim (λ k. inl k) (λ k. inr (last-in xs x s e k)) (same? s x)
+pub last_in : (xs : List ℕ) (b s : ℕ) → last_or b xs ≡ s → (s ≡ b → ⊥) → In s xs
+last_in [] b s e n = absurd (n (sym e))
+last_in (x ∷ xs) b s e n = ⊎_elim (λ k. inl k) (λ k. inr (last_in xs x s e k)) (same? s x)

@@ -4,7 +4,7 @@ use native.Mathlib.Nat.{le_step, mod_self}
 use lib.Arith.{le-zero, lt-one}
 use lib.Bits.{bit_and, and_step, and_self, and_comm, and_mask}
 use borrow.Author.Tests.{lt-leb}
-use Rattle.numbers.specs.Shared.{isPowerTo, powerFor}
+use Rattle.numbers.specs.Shared.{is_power_to, power_for}
 
 -- n is a power of two with an exponent up to k
 pub record Power (k n : ℕ) : Type 0 where
@@ -12,40 +12,40 @@ pub record Power (k n : ℕ) : Type 0 where
   pub most : exponent ≤ k
   pub is : n ≡ 2 ^ exponent
 
-pub power-means : (k n : ℕ) → isPowerTo k n ≡ true → Power k n
-unfolding isPowerTo
-power-means zero n h = record { exponent = 0; most = le_refl 0; is = eqb-true n 1 h }
-power-means (suc k) n h = go (power-means k n) (eqb n (2 ^ suc k)) refl h
+pub power_means : (k n : ℕ) → is_power_to k n ≡ true → Power k n
+unfolding is_power_to
+power_means zero n h = record { exponent = 0; most = le_refl 0; is = eqb-true n 1 h }
+power_means (suc k) n h = go (power_means k n) (eqb n (2 ^ suc k)) refl h
   where
-    go : (isPowerTo k n ≡ true → Power k n) → (b : Bool) → eqb n (2 ^ suc k) ≡ b → (b || isPowerTo k n) ≡ true → Power (suc k) n
+    go : (is_power_to k n ≡ true → Power k n) → (b : Bool) → eqb n (2 ^ suc k) ≡ b → (b || is_power_to k n) ≡ true → Power (suc k) n
     go rest true e t = record { exponent = suc k; most = le_refl (suc k); is = eqb-true n (2 ^ suc k) e }
     go rest false e t = let p = rest t in record { exponent = p.exponent; most = le_step p.most; is = p.is }
 
-or-true : (b : Bool) → (b || true) ≡ true
-or-true true = refl
-or-true false = refl
+or_true : (b : Bool) → (b || true) ≡ true
+or_true true = refl
+or_true false = refl
 
-pub power-holds : (k j : ℕ) → j ≤ k → isPowerTo k (2 ^ j) ≡ true
-unfolding isPowerTo
-power-holds zero j h = ap (λ (n : ℕ). eqb (2 ^ n) 1) (le-zero h)
-power-holds (suc k) j h = go (power-holds k j) (eq-or-lt_of_le h)
+pub power_holds : (k j : ℕ) → j ≤ k → is_power_to k (2 ^ j) ≡ true
+unfolding is_power_to
+power_holds zero j h = ap (λ (n : ℕ). eqb (2 ^ n) 1) (le-zero h)
+power_holds (suc k) j h = go (power_holds k j) (eq-or-lt_of_le h)
   where
-    go : (j ≤ k → isPowerTo k (2 ^ j) ≡ true) → (j ≡ suc k) ⊎ (j < suc k) → (eqb (2 ^ j) (2 ^ suc k) || isPowerTo k (2 ^ j)) ≡ true
-    go rest (inl e) = ap (λ (b : Bool). b || isPowerTo k (2 ^ j)) (eq-eqb (2 ^ j) (2 ^ suc k) (ap (λ (n : ℕ). 2 ^ n) e))
-    go rest (inr l) = ap (λ (b : Bool). eqb (2 ^ j) (2 ^ suc k) || b) (rest (le_of_suc-le-suc l)) ∙ or-true (eqb (2 ^ j) (2 ^ suc k))
+    go : (j ≤ k → is_power_to k (2 ^ j) ≡ true) → (j ≡ suc k) ⊎ (j < suc k) → (eqb (2 ^ j) (2 ^ suc k) || is_power_to k (2 ^ j)) ≡ true
+    go rest (inl e) = ap (λ (b : Bool). b || is_power_to k (2 ^ j)) (eq-eqb (2 ^ j) (2 ^ suc k) (ap (λ (n : ℕ). 2 ^ n) e))
+    go rest (inr l) = ap (λ (b : Bool). eqb (2 ^ j) (2 ^ suc k) || b) (rest (le_of_suc-le-suc l)) ∙ or_true (eqb (2 ^ j) (2 ^ suc k))
 
-pub power-from : (k n : ℕ) → Power k n → isPowerTo k n ≡ true
-power-from k n p = ap (isPowerTo k) p.is ∙ power-holds k p.exponent p.most
+pub power_from : (k n : ℕ) → Power k n → is_power_to k n ≡ true
+power_from k n p = ap (is_power_to k) p.is ∙ power_holds k p.exponent p.most
 
-pub power-least : (k n : ℕ) → isPowerTo k n ≡ true → 0 < n
-power-least k n h = let p = power-means k n h in omega (arith, p.is, pow_pos p.exponent)
+pub power_least : (k n : ℕ) → is_power_to k n ≡ true → 0 < n
+power_least k n h = let p = power_means k n h in omega (arith, p.is, pow_pos p.exponent)
 
-pub power-most : (k n : ℕ) → isPowerTo k n ≡ true → n ≤ 2 ^ k
-power-most k n h = let p = power-means k n h in omega (arith, p.is, pow_mono p.most)
+pub power_most : (k n : ℕ) → is_power_to k n ≡ true → n ≤ 2 ^ k
+power_most k n h = let p = power_means k n h in omega (arith, p.is, pow_mono p.most)
 
 -- of two powers the smaller is at most half of the larger
-pub power-gap : (k a b : ℕ) → Power k a → Power k b → a < b → a + a ≤ b
-power-gap k a b p q l = go (ltb p.exponent q.exponent) refl
+pub power_gap : (k a b : ℕ) → Power k a → Power k b → a < b → a + a ≤ b
+power_gap k a b p q l = go (ltb p.exponent q.exponent) refl
   where
     go : (t : Bool) → ltb p.exponent q.exponent ≡ t → a + a ≤ b
     go true e = omega (arith, p.is, q.is, pow-suc 2 p.exponent, pow_mono (ltb-true p.exponent q.exponent e))
@@ -72,19 +72,19 @@ apart (suc k) m h e = go (apart k (m / 2)) (m % 2) refl
         record { exponent = suc r.exponent; most = omega (arith, r.most); is = omega (arith, r.is, pow-suc 2 r.exponent) }
     go rest (suc (suc b)) p = absurd (omega arith)
 
-pub apart-power : (k m : ℕ) → m < 2 ^ k → bit_and m (m + 1) ≡ 0 → isPowerTo k (m + 1) ≡ true
-apart-power k m h e = power-from k (m + 1) (apart k m h e)
+pub apart_power : (k m : ℕ) → m < 2 ^ k → bit_and m (m + 1) ≡ 0 → is_power_to k (m + 1) ≡ true
+apart_power k m h e = power_from k (m + 1) (apart k m h e)
 
-pub power-apart : (k m : ℕ) → isPowerTo k (m + 1) ≡ true → bit_and m (m + 1) ≡ 0
-power-apart k m h =
-    let s = power-means k (m + 1) h in
+pub power_apart : (k m : ℕ) → is_power_to k (m + 1) ≡ true → bit_and m (m + 1) ≡ 0
+power_apart k m h =
+    let s = power_means k (m + 1) h in
     let j = s.exponent in
     let p : m ≡ 2 ^ j - 1 = omega (arith, pow_pos j, s.is) in
     ap (bit_and m) s.is ∙ ap (λ (n : ℕ). bit_and n (2 ^ j)) p ∙ and_comm (2 ^ j - 1) (2 ^ j) ∙ and_mask (2 ^ j) j ∙ mod_self (2 ^ j)
 
 -- so the test by bits is the test for a power
-pub power-test : (k n : ℕ) → 0 < n → n ≤ 2 ^ k → eqb (bit_and n (n - 1)) 0 ≡ isPowerTo k n
-power-test k n l m = go (isPowerTo k n) refl
+pub power_test : (k n : ℕ) → 0 < n → n ≤ 2 ^ k → eqb (bit_and n (n - 1)) 0 ≡ is_power_to k n
+power_test k n l m = go (is_power_to k n) refl
   where
     back : n ≡ n - 1 + 1
     back = omega arith
@@ -92,77 +92,77 @@ power-test k n l m = go (isPowerTo k n) refl
     turned : bit_and n (n - 1) ≡ bit_and (n - 1) (n - 1 + 1)
     turned = and_comm n (n - 1) ∙ ap (bit_and (n - 1)) back
 
-    go : (b : Bool) → isPowerTo k n ≡ b → eqb (bit_and n (n - 1)) 0 ≡ b
-    go true e = eq-eqb _ 0 (turned ∙ power-apart k (n - 1) (ap (isPowerTo k) (sym back) ∙ e))
+    go : (b : Bool) → is_power_to k n ≡ b → eqb (bit_and n (n - 1)) 0 ≡ b
+    go true e = eq-eqb _ 0 (turned ∙ power_apart k (n - 1) (ap (is_power_to k) (sym back) ∙ e))
     go false e =
-        ne_eqb _ 0 (λ z. true≢false (sym (ap (isPowerTo k) back ∙ apart-power k (n - 1) (omega arith) (sym turned ∙ z)) ∙ e))
+        ne_eqb _ 0 (λ z. true≢false (sym (ap (is_power_to k) back ∙ apart_power k (n - 1) (omega arith) (sym turned ∙ z)) ∙ e))
 
 -- a mask that is one less than a power of two takes the remainder
-pub mask-cut : (k x m : ℕ) → isPowerTo k (m + 1) ≡ true → bit_and x m ≡ x % (m + 1)
-mask-cut k x m h =
-    let s = power-means k (m + 1) h in
+pub mask_cut : (k x m : ℕ) → is_power_to k (m + 1) ≡ true → bit_and x m ≡ x % (m + 1)
+mask_cut k x m h =
+    let s = power_means k (m + 1) h in
     let e : m ≡ 2 ^ s.exponent - 1 = omega (arith, s.is, pow_pos s.exponent) in
     ap (bit_and x) e ∙ and_mask x s.exponent ∙ ap (λ (n : ℕ). x % n) (sym s.is)
 
 -- ---- the power that fits
 
 -- the least power of two that is not below n is 2 ^ j where 2 ^ j is not below n and half of it is
-pub power-for-is : (k j n : ℕ) → j ≤ k → n ≤ 2 ^ j → (j ≡ 0) ⊎ (2 ^ j < n + n) → powerFor k n ≡ 2 ^ j
-unfolding powerFor
-power-for-is zero j n h a b = ap (λ (i : ℕ). 2 ^ i) (sym (le-zero h))
-power-for-is (suc k) j n h a b = go (power-for-is k j n) (eq-or-lt_of_le h)
+pub power_for_is : (k j n : ℕ) → j ≤ k → n ≤ 2 ^ j → (j ≡ 0) ⊎ (2 ^ j < n + n) → power_for k n ≡ 2 ^ j
+unfolding power_for
+power_for_is zero j n h a b = ap (λ (i : ℕ). 2 ^ i) (sym (le-zero h))
+power_for_is (suc k) j n h a b = go (power_for_is k j n) (eq-or-lt_of_le h)
   where
     top : j ≡ suc k → (j ≡ 0) ⊎ (2 ^ j < n + n) → leb n (2 ^ k) ≡ false
     top e (inl z) = absurd (omega arith)
     top e (inr l) = lt-leb n (2 ^ k) (omega (arith, ap (λ (i : ℕ). 2 ^ i) e, pow-suc 2 k))
 
-    go : (j ≤ k → n ≤ 2 ^ j → (j ≡ 0) ⊎ (2 ^ j < n + n) → powerFor k n ≡ 2 ^ j) → (j ≡ suc k) ⊎ (j < suc k)
-        → cond (leb n (2 ^ k)) (powerFor k n) (2 ^ suc k) ≡ 2 ^ j
-    go rest (inl e) = ap (λ (t : Bool). cond t (powerFor k n) (2 ^ suc k)) (top e b) ∙ ap (λ (i : ℕ). 2 ^ i) (sym e)
+    go : (j ≤ k → n ≤ 2 ^ j → (j ≡ 0) ⊎ (2 ^ j < n + n) → power_for k n ≡ 2 ^ j) → (j ≡ suc k) ⊎ (j < suc k)
+        → cond (leb n (2 ^ k)) (power_for k n) (2 ^ suc k) ≡ 2 ^ j
+    go rest (inl e) = ap (λ (t : Bool). cond t (power_for k n) (2 ^ suc k)) (top e b) ∙ ap (λ (i : ℕ). 2 ^ i) (sym e)
     go rest (inr l) =
         let s : j ≤ k = le_of_suc-le-suc l in
-        ap (λ (t : Bool). cond t (powerFor k n) (2 ^ suc k)) (le-leb n (2 ^ k) (omega (arith, pow_mono s))) ∙ rest s a b
+        ap (λ (t : Bool). cond t (power_for k n) (2 ^ suc k)) (le-leb n (2 ^ k) (omega (arith, pow_mono s))) ∙ rest s a b
 
 -- and 2 ^ k where half of that is below n
-pub power-for-top : (k n : ℕ) → 2 ^ k < n → powerFor (suc k) n ≡ 2 ^ suc k
-unfolding powerFor
-power-for-top k n l = ap (λ (t : Bool). cond t (powerFor k n) (2 ^ suc k)) (lt-leb n (2 ^ k) l)
+pub power_for_top : (k n : ℕ) → 2 ^ k < n → power_for (suc k) n ≡ 2 ^ suc k
+unfolding power_for
+power_for_top k n l = ap (λ (t : Bool). cond t (power_for k n) (2 ^ suc k)) (lt-leb n (2 ^ k) l)
 
 -- ---- what the power that fits is like
 
-pub power-for-power : (k n : ℕ) → Power k (powerFor k n)
-unfolding powerFor
-power-for-power zero n = record { exponent = 0; most = le_refl 0; is = refl }
-power-for-power (suc k) n = go (power-for-power k n) (leb n (2 ^ k))
+pub power_for_power : (k n : ℕ) → Power k (power_for k n)
+unfolding power_for
+power_for_power zero n = record { exponent = 0; most = le_refl 0; is = refl }
+power_for_power (suc k) n = go (power_for_power k n) (leb n (2 ^ k))
   where
-    go : Power k (powerFor k n) → (b : Bool) → Power (suc k) (cond b (powerFor k n) (2 ^ suc k))
+    go : Power k (power_for k n) → (b : Bool) → Power (suc k) (cond b (power_for k n) (2 ^ suc k))
     go p true = record { exponent = p.exponent; most = le_step p.most; is = p.is }
     go p false = record { exponent = suc k; most = le_refl (suc k); is = refl }
 
-pub power-for-above : (k n : ℕ) → n ≤ 2 ^ k → n ≤ powerFor k n
-unfolding powerFor
-power-for-above zero n h = h
-power-for-above (suc k) n h = go (power-for-above k n) (leb n (2 ^ k)) refl
+pub power_for_above : (k n : ℕ) → n ≤ 2 ^ k → n ≤ power_for k n
+unfolding power_for
+power_for_above zero n h = h
+power_for_above (suc k) n h = go (power_for_above k n) (leb n (2 ^ k)) refl
   where
-    go : (n ≤ 2 ^ k → n ≤ powerFor k n) → (b : Bool) → leb n (2 ^ k) ≡ b → n ≤ cond b (powerFor k n) (2 ^ suc k)
+    go : (n ≤ 2 ^ k → n ≤ power_for k n) → (b : Bool) → leb n (2 ^ k) ≡ b → n ≤ cond b (power_for k n) (2 ^ suc k)
     go rest true e = rest (leb-true n (2 ^ k) e)
     go rest false e = h
 
 -- a power of two r fits a number from 1 just where that is above half of r and not above r
-pub power-for-from : (k r n : ℕ) → isPowerTo k r ≡ true → r / 2 < n → n ≤ r → powerFor k n ≡ r
-power-for-from k r n h l m =
-    let p = power-means k r h in
-    power-for-is k p.exponent n p.most (omega (arith, p.is)) (halved p.exponent p.is) ∙ sym p.is
+pub power_for_from : (k r n : ℕ) → is_power_to k r ≡ true → r / 2 < n → n ≤ r → power_for k n ≡ r
+power_for_from k r n h l m =
+    let p = power_means k r h in
+    power_for_is k p.exponent n p.most (omega (arith, p.is)) (halved p.exponent p.is) ∙ sym p.is
   where
     halved : (j : ℕ) → r ≡ 2 ^ j → (j ≡ 0) ⊎ (2 ^ j < n + n)
     halved zero e = inl refl
     halved (suc j) e = inr (omega (arith, pow-suc 2 j))
 
-pub power-for-half : (k n : ℕ) → 0 < n → powerFor k n / 2 < n
-unfolding powerFor
-power-for-half zero n h = h
-power-for-half (suc k) n h = go (power-for-half k n h) (leb n (2 ^ k)) refl
+pub power_for_half : (k n : ℕ) → 0 < n → power_for k n / 2 < n
+unfolding power_for
+power_for_half zero n h = h
+power_for_half (suc k) n h = go (power_for_half k n h) (leb n (2 ^ k)) refl
   where
-    go : powerFor k n / 2 < n → (b : Bool) → leb n (2 ^ k) ≡ b → cond b (powerFor k n) (2 ^ suc k) / 2 < n
+    go : power_for k n / 2 < n → (b : Bool) → leb n (2 ^ k) ≡ b → cond b (power_for k n) (2 ^ suc k) / 2 < n
     go rest true e = rest
     go rest false e = omega (arith, leb-false n (2 ^ k) e, pow-suc 2 k)

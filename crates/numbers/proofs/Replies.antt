@@ -15,12 +15,12 @@ and_right false false e = e
 pub and_both : (a b : Bool) → a ≡ true → b ≡ true → (a && b) ≡ true
 and_both a b e f = ap (λ (t : Bool). t && b) e ∙ f
 
-pub and-not-left : (a b : Bool) → a ≡ false → (a && b) ≡ false
-and-not-left a b e = ap (λ (t : Bool). t && b) e
+pub and_not_left : (a b : Bool) → a ≡ false → (a && b) ≡ false
+and_not_left a b e = ap (λ (t : Bool). t && b) e
 
-pub and-not-right : (a b : Bool) → b ≡ false → (a && b) ≡ false
-and-not-right true b e = e
-and-not-right false b e = refl
+pub and_not_right : (a b : Bool) → b ≡ false → (a && b) ≡ false
+and_not_right true b e = e
+and_not_right false b e = refl
 
 -- a test that cannot hold is false
 pub is_false : (b : Bool) → (b ≡ true → ⊥) → b ≡ false

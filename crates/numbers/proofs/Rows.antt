@@ -1,6 +1,6 @@
 -- Rows of refusals give one number.
 use Rattle.std.proofs.Common.{◌≡◌, ℕ, sym, ◌∙◌, inl, inr}
-use Rattle.numbers.specs.Shared.{unless, notRefused as answered}
+use Rattle.numbers.specs.Shared.{unless, not_refused as answered}
 
 abbrev pub Single : (ℕ → Type 0) → Type 0
 Single rows = (j k : ℕ) → rows j → rows k → j ≡ k

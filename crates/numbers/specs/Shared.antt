@@ -7,14 +7,14 @@ use denote.Triple.Both.{Both}
 -- ======== powers of two
 
 -- whether n is one of 1, 2, 4 .. 2 ^ k
-unfoldable pub isPowerTo : ℕ → ℕ → Bool
-isPowerTo zero n = n == 1
-isPowerTo (suc k) n = n == 2 ^ suc k || isPowerTo k n
+unfoldable pub is_power_to : ℕ → ℕ → Bool
+is_power_to zero n = n == 1
+is_power_to (suc k) n = n == 2 ^ suc k || is_power_to k n
 
 -- the least of 1, 2, 4 .. 2 ^ k that is not below n, and 2 ^ k where n is above them all
-unfoldable pub powerFor : ℕ → ℕ → ℕ
-powerFor zero n = 1
-powerFor (suc k) n = cond (nat_le n (2 ^ k)) (powerFor k n) (2 ^ suc k)
+unfoldable pub power_for : ℕ → ℕ → ℕ
+power_for zero n = 1
+power_for (suc k) n = cond (nat_le n (2 ^ k)) (power_for k n) (2 ^ suc k)
 
 -- ======== no slot
 
@@ -23,8 +23,8 @@ abbrev pub no_slot : ℕ
 no_slot = 4096
 
 -- the cursor that stands past the end
-abbrev pub pastEnd : ℕ
-pastEnd = 4097
+abbrev pub past_end : ℕ
+past_end = 4097
 
 -- ======== lists of numbers
 
@@ -39,13 +39,13 @@ Once [] = Unit {0}
 Once (x ∷ xs) = (In x xs → ⊥) × Once xs
 
 -- what stands before s, and what stands after it
-abbrev pub beforeIn : ℕ → List ℕ → List ℕ
-beforeIn s [] = []
-beforeIn s (x ∷ xs) = cond (s == x) [] (x ∷ beforeIn s xs)
+abbrev pub before_in : ℕ → List ℕ → List ℕ
+before_in s [] = []
+before_in s (x ∷ xs) = cond (s == x) [] (x ∷ before_in s xs)
 
-abbrev pub afterIn : ℕ → List ℕ → List ℕ
-afterIn s [] = []
-afterIn s (x ∷ xs) = cond (s == x) xs (afterIn s xs)
+abbrev pub after_in : ℕ → List ℕ → List ℕ
+after_in s [] = []
+after_in s (x ∷ xs) = cond (s == x) xs (after_in s xs)
 
 -- k numbers from i upwards
 abbrev pub up_from : ℕ → ℕ → List ℕ
@@ -77,16 +77,16 @@ abbrev pub replied : List ℕ → Reply
 replied vs = record { number = 0; values = vs }
 
 -- "A refusal carries its number and no value"
-abbrev pub refusedBy : ℕ → Reply
-refusedBy n = record { number = n; values = [] }
+abbrev pub refused_by : ℕ → Reply
+refused_by n = record { number = n; values = [] }
 
 -- the refusal where there is one, else the values
 abbrev pub reply : ℕ → List ℕ → Reply
-reply n vs = cond (n == 0) (replied vs) (refusedBy n)
+reply n vs = cond (n == 0) (replied vs) (refused_by n)
 
 -- "every lent record stays as found" where there is a refusal; else it is the new one
-abbrev pub unlessRefused {ℓ} : {A : Type ℓ} → ℕ → A → A → A
-unlessRefused n old new = cond (n == 0) new old
+abbrev pub unless_refused {ℓ} : {A : Type ℓ} → ℕ → A → A → A
+unless_refused n old new = cond (n == 0) new old
 
 -- ======== rows of refusals as a relation
 
@@ -95,8 +95,8 @@ abbrev pub unless : Type 0 → ℕ → (ℕ → Type 0) → ℕ → Type 0
 unless holds k more r = ((holds → ⊥) × (r ≡ k)) ⊎ (holds × more r)
 
 -- no row is left: not refused
-abbrev pub notRefused : ℕ → Type 0
-notRefused r = r ≡ 0
+abbrev pub not_refused : ℕ → Type 0
+not_refused r = r ≡ 0
 
 -- ======== lent slices
 

@@ -1,7 +1,7 @@
 // Numbers that several crates share: the wrapping product of 64 bits, the least power of two that is not below a
 // number, and the two that are no slot.
 ghost use Rattle.std.specs.Prelude.{◌≡◌, ◌*◌, ◌%◌, ◌^◌};
-ghost use Rattle.numbers.specs.Shared.{powerFor, isPowerTo};
+ghost use Rattle.numbers.specs.Shared.{power_for, is_power_to};
 
 pub mod slots; // what a link or a cursor holds where it stands at no slot
 
@@ -21,7 +21,7 @@ pub fn wrapping_mul(a: u64, b: u64) -> u64
 
 // Whether a number is a power of two up to 65,536.
 pub fn is_power(n: u64) -> bool
-    ensures { result ≡ isPowerTo 16 n }
+    ensures { result ≡ is_power_to 16 n }
 {
     if n == 0 {
         return false;
@@ -35,7 +35,7 @@ pub fn is_power(n: u64) -> bool
 
 // The least power of two that is not below a number up to 65,536; 65,536 for any number above.
 pub fn power_for(n: u64) -> u64
-    ensures { result ≡ powerFor 16 n }
+    ensures { result ≡ power_for 16 n }
 {
     let mut power: u64 = 1;
     let mut exponent: u32 = 0;

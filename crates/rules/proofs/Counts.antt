@@ -10,51 +10,51 @@ use lib.ListN.{length}
 use borrow.Author.Tests.{lt-ltb, le-ltb}
 use Rattle.rules.specs.Places.{Geometry, buckets}
 use Rattle.rules.specs.Wheel.{Lists, count, Wheel}
-use Rattle.rules.specs.Calls.{armedBelow, sooner, key_of, leastKey}
+use Rattle.rules.specs.Calls.{armed_below, sooner, key_of, least_key}
 use Rattle.rules.specs.Sound.{spare, SoundLists, Sound}
 use Rattle.numbers.proofs.Cases.{below?, same?}
-use Rattle.rules.proofs.Counting.{hit-is, hit-not}
-use Rattle.rules.proofs.SoundLists.{spare-some}
+use Rattle.rules.proofs.Counting.{hit_is, hit_not}
+use Rattle.rules.proofs.SoundLists.{spare_some}
 
 -- ---- armed count: every slot after the sentinels is armed or free, so the armed and the free ones together are all of
 -- them
 -- how often the slots below k stand in a list, together
-abbrev sumBelow : List ℕ → ℕ → ℕ
-sumBelow xs zero = 0
-sumBelow xs (suc k) = count k xs + sumBelow xs k
+abbrev sum_below : List ℕ → ℕ → ℕ
+sum_below xs zero = 0
+sum_below xs (suc k) = count k xs + sum_below xs k
 
-sum-nil : (k : ℕ) → sumBelow [] k ≡ 0
-sum-nil zero = refl
-sum-nil (suc k) = omega (arith, sum-nil k)
+sum_nil : (k : ℕ) → sum_below [] k ≡ 0
+sum_nil zero = refl
+sum_nil (suc k) = omega (arith, sum_nil k)
 
-sum-none : (x : ℕ) (xs : List ℕ) (k : ℕ) → k ≤ x → sumBelow (x ∷ xs) k ≡ sumBelow xs k
-sum-none x xs zero h = refl
-sum-none x xs (suc k) h = omega (arith, sum-none x xs k (omega arith), hit-not k x (λ e. omega arith))
+sum_none : (x : ℕ) (xs : List ℕ) (k : ℕ) → k ≤ x → sum_below (x ∷ xs) k ≡ sum_below xs k
+sum_none x xs zero h = refl
+sum_none x xs (suc k) h = omega (arith, sum_none x xs k (omega arith), hit_not k x (λ e. omega arith))
 
-sum-cons : (x : ℕ) (xs : List ℕ) (k : ℕ) → x < k → sumBelow (x ∷ xs) k ≡ suc (sumBelow xs k)
-sum-cons x xs zero h = absurd (omega arith)
-sum-cons x xs (suc k) h =
+sum_cons : (x : ℕ) (xs : List ℕ) (k : ℕ) → x < k → sum_below (x ∷ xs) k ≡ suc (sum_below xs k)
+sum_cons x xs zero h = absurd (omega arith)
+sum_cons x xs (suc k) h =
     ⊎_elim
-    (λ (e : k ≡ x). omega (arith, hit-is k x e, sum-none x xs k (omega arith)))
-    (λ (n : k ≡ x → ⊥). omega (arith, hit-not k x n, sum-cons x xs k (below_one n)))
+    (λ (e : k ≡ x). omega (arith, hit_is k x e, sum_none x xs k (omega arith)))
+    (λ (n : k ≡ x → ⊥). omega (arith, hit_not k x n, sum_cons x xs k (below_one n)))
     (same? k x)
   where
     below_one : (k ≡ x → ⊥) → x < k
     below_one n = ⊎_elim (λ (i : x < k). i) (λ (i : k ≤ x). absurd (n (omega arith))) (below? x k)
 
 -- a list of slots below k is as long as that
-length-sum : (xs : List ℕ) (k : ℕ) → ((y : ℕ) → 0 < count y xs → y < k) → length xs ≡ sumBelow xs k
-length-sum [] k h = sym (sum-nil k)
-length-sum (x ∷ xs) k h =
-    omega (arith, sum-cons x xs k (h x (omega (arith, hit-is x x refl))), length-sum xs k (λ y i. h y (omega arith)))
+length_sum : (xs : List ℕ) (k : ℕ) → ((y : ℕ) → 0 < count y xs → y < k) → length xs ≡ sum_below xs k
+length_sum [] k h = sym (sum_nil k)
+length_sum (x ∷ xs) k h =
+    omega (arith, sum_cons x xs k (h x (omega (arith, hit_is x x refl))), length_sum xs k (λ y i. h y (omega arith)))
 
 module _ (D nodes entries next : ℕ) (L : Lists) (s : SoundLists D nodes entries next L) where
-  armed-and-free : (k : ℕ) → k ≤ nodes → armedBelow L.node k + sumBelow L.free k ≡ k - D
-  armed-and-free zero h = omega arith
-  armed-and-free (suc k) h =
+  armed_and_free : (k : ℕ) → k ≤ nodes → armed_below L.node k + sum_below L.free k ≡ k - D
+  armed_and_free zero h = omega arith
+  armed_and_free (suc k) h =
       ⊎_elim
-      (λ (i : k < D). omega (arith, armed-and-free k (omega arith), s.free k, sentinel i))
-      (λ (i : D ≤ k). omega (arith, armed-and-free k (omega arith), s.free k, one-kind i (L.node k).armed refl))
+      (λ (i : k < D). omega (arith, armed_and_free k (omega arith), s.free k, sentinel i))
+      (λ (i : D ≤ k). omega (arith, armed_and_free k (omega arith), s.free k, one_kind i (L.node k).armed refl))
       (below? k D)
     where
       -- a sentinel is neither
@@ -66,26 +66,26 @@ module _ (D nodes entries next : ℕ) (L : Lists) (s : SoundLists D nodes entrie
           go false e = refl
 
       -- any other slot is just one of the two
-      one-kind : D ≤ k → (b : Bool) → (L.node k).armed ≡ b → cond (L.node k).armed 1 0 + spare D nodes L.node k ≡ 1
-      one-kind i true e = simp (le-ltb k D i, lt-ltb k nodes (omega arith), e)
-      one-kind i false e = simp (le-ltb k D i, lt-ltb k nodes (omega arith), e)
+      one_kind : D ≤ k → (b : Bool) → (L.node k).armed ≡ b → cond (L.node k).armed 1 0 + spare D nodes L.node k ≡ 1
+      one_kind i true e = simp (le-ltb k D i, lt-ltb k nodes (omega arith), e)
+      one_kind i false e = simp (le-ltb k D i, lt-ltb k nodes (omega arith), e)
 
 -- "an invented armed count: it equals the number of armed slots". All armed slots are among those counted, and with the
 -- free slots they are all slots after the sentinels.
 pub record ArmedCount (g : Geometry) (w : Wheel) (k : ℕ) : Type 0 where
-  pub is : k ≡ armedBelow w.lists.node w.nodes
+  pub is : k ≡ armed_below w.lists.node w.nodes
   pub all : (y : ℕ) → (w.lists.node y).armed ≡ true → y < w.nodes
   pub rest : k + length w.lists.free ≡ w.nodes - buckets g
 
-pub armed-count : (g : Geometry) (w : Wheel) → Sound g w → ArmedCount g w (armedBelow w.lists.node w.nodes)
-armed-count g w s =
+pub armed_count_lem : (g : Geometry) (w : Wheel) → Sound g w → ArmedCount g w (armed_below w.lists.node w.nodes)
+armed_count_lem g w s =
     record {
       is = refl;
       all = λ y h. (s.lists.slot y h).1;
       rest =
-          ap (λ (m : ℕ). armedBelow w.lists.node w.nodes + m)
-          (length-sum w.lists.free w.nodes (λ y h. (spare-some (buckets g) w.nodes w.lists.node y (omega (arith, s.lists.free y))).1))
-          ∙ armed-and-free (buckets g) w.nodes w.entries w.next w.lists s.lists w.nodes (omega arith);
+          ap (λ (m : ℕ). armed_below w.lists.node w.nodes + m)
+          (length_sum w.lists.free w.nodes (λ y h. (spare_some (buckets g) w.nodes w.lists.node y (omega (arith, s.lists.free y))).1))
+          ∙ armed_and_free (buckets g) w.nodes w.entries w.next w.lists s.lists w.nodes (omega arith);
     }
 
 -- ---- next due: the least key among the armed slots, or none
@@ -134,17 +134,17 @@ more f k (some d) (some b) e h =
     same : {o : Option ℕ} {c : ℕ} → o ≡ some d → o ≡ some c → d ≤ c
     same {c = c} a b = let z : d ≡ c = cc in omega arith
 
-least : (g : Geometry) (w : Wheel) (k : ℕ) → LeastOf (key_of g w) k (leastKey g w k)
+least : (g : Geometry) (w : Wheel) (k : ℕ) → LeastOf (key_of g w) k (least_key g w k)
 least g w zero = λ y h. absurd (omega arith)
-least g w (suc k) = more (key_of g w) k (key_of g w k) (leastKey g w k) refl (least g w k)
+least g w (suc k) = more (key_of g w) k (key_of g w k) (least_key g w k) refl (least g w k)
 
 -- "Next due: the smallest deadline among armed timers, or none": y's key is the deadline that its entry holds, if it is
 -- armed
-pub key-armed : (g : Geometry) (w : Wheel) (y : ℕ) → (w.lists.node y).armed ≡ true → key_of g w y ≡ (w.entry (w.lists.node y).entry).deadline
-key-armed g w y h = simp h
+pub key_armed : (g : Geometry) (w : Wheel) (y : ℕ) → (w.lists.node y).armed ≡ true → key_of g w y ≡ (w.entry (w.lists.node y).entry).deadline
+key_armed g w y h = simp h
 
-pub key-other : (g : Geometry) (w : Wheel) (y : ℕ) → (w.lists.node y).armed ≡ false → key_of g w y ≡ none
-key-other g w y h = simp h
+pub key_other : (g : Geometry) (w : Wheel) (y : ℕ) → (w.lists.node y).armed ≡ false → key_of g w y ≡ none
+key_other g w y h = simp h
 
-pub next-due : (g : Geometry) (w : Wheel) → LeastOf (key_of g w) w.nodes (leastKey g w w.nodes)
-next-due g w = least g w w.nodes
+pub next_due_lem : (g : Geometry) (w : Wheel) → LeastOf (key_of g w) w.nodes (least_key g w w.nodes)
+next_due_lem g w = least g w w.nodes

@@ -2,22 +2,22 @@
 use Prim.Native.Nat.{ℕ, ◌≤◌}
 use native.Mathlib.Omega.{arith}
 use mathlib.Core.Path.{◌≡◌, refl}
-use Rattle.rules.specs.Places.{Geometry, tick, bucketOf}
+use Rattle.rules.specs.Places.{Geometry, tick, bucket_of}
 use Rattle.rules.specs.Place.{effective}
-use Rattle.rules.proofs.Placing.{InTime, placed-in-time}
+use Rattle.rules.proofs.Placing.{InTime, placed_in_time}
 
 -- it is not before the deadline
-pub effective-late : (r d : ℕ) → d ≤ effective r d
+pub effective_late : (r d : ℕ) → d ≤ effective r d
 unfolding effective
-effective-late r d = omega arith
+effective_late r d = omega arith
 
 -- a deadline in no earlier tick than the reading is placed in time for it
-pub effective-placed : (g : Geometry) (r d : ℕ) → tick g.shift r ≤ tick g.shift d
-    → InTime 0 g.shift g.sizes 0 r (effective r d) (bucketOf g r d)
+pub effective_placed : (g : Geometry) (r d : ℕ) → tick g.shift r ≤ tick g.shift d
+    → InTime 0 g.shift g.sizes 0 r (effective r d) (bucket_of g r d)
 unfolding effective
-effective-placed g r d h = placed-in-time 0 g.shift g.sizes 0 r d (omega arith)
+effective_placed g r d h = placed_in_time 0 g.shift g.sizes 0 r d (omega arith)
 
 -- under the rule of 01 it is the deadline
-pub effective-deadline : (r d : ℕ) → effective r d ≡ d
+pub effective_deadline : (r d : ℕ) → effective r d ≡ d
 unfolding effective
-effective-deadline r d = refl
+effective_deadline r d = refl

@@ -8,7 +8,7 @@ use Rattle.rules.specs.Wheel.{Call, start, pull, end, Later}
 use Rattle.rules.specs.Calls.{origin}
 use Rattle.rules.specs.Runs.{Run, answer, next, after}
 use Rattle.rules.specs.Demand3.{NoneBefore}
-use Rattle.rules.proofs.Advances.{after-app, advancing-clock}
+use Rattle.rules.proofs.Advances.{after_app, advancing_clock}
 
 -- the call ends no such advance
 abbrev pub EndsNone : Geometry → ℕ → Run → Call → Type 0
@@ -28,9 +28,9 @@ pub none_before : (g : Geometry) (d : ℕ) (R : Run) (cs : List Call) → EachEn
 none_before g d R cs k a f =
     let A : List Call = start a.q ∷ a.ps in
     let S : Run = after g (after g R a.bs) A in
-    let r = advancing-clock g (after g R a.bs) a.q a.ps f.0.0 in
+    let r = advancing_clock g (after g R a.bs) a.q a.ps f.0.0 in
     let here : EndsNone g d S pull =
-    subst (λ (T : Run). EndsNone g d T pull) (after-app g R a.bs A)
+    subst (λ (T : Run). EndsNone g d T pull) (after_app g R a.bs A)
     (at_call g d R (a.bs ++ A) pull a.rest (subst (EachEndsNone g d R) (a.is ∙ sym (append_assoc a.bs A (pull ∷ a.rest))) k)) in
     here f.0.1 (subst (λ (q : ℕ). d ≤ q) (sym r.0) f.1)
     (subst (λ (p : ℕ). Later g p S.wheel.reading) (sym r.1)

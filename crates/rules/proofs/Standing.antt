@@ -9,11 +9,11 @@ use mathlib.Core.Bool.{true, false}
 use mathlib.Core.List.{List, [], ◌∷◌}
 use borrow.Author.Tests.{eq-eqb, ne_eqb}
 use Rattle.rules.specs.Lists.{times}
-use Rattle.rules.specs.Wheel.{Bucket, Slot as Node, Lists, freed, update, hit, count, atBack as pushed, link, taken, unlink, release, claim, turned, enter}
+use Rattle.rules.specs.Wheel.{Bucket, Slot as Node, Lists, freed, update, hit, count, at_back as pushed, link, taken, unlink, release, claim, turned, enter}
 use Rattle.rules.specs.Wheel.{shortened, pop}
-use Rattle.numbers.proofs.Cases.{same?, not-both}
-use Rattle.rules.proofs.Counting.{hit-is, hit-not, hit-most, hit_same, count-app, count-without, count-without-own, update-is, update-not}
-use Rattle.rules.proofs.Counting.{times_more, times-same}
+use Rattle.numbers.proofs.Cases.{same?, not_both}
+use Rattle.rules.proofs.Counting.{hit_is, hit_not, hit_most, hit_same, count_app, count_without, count_without_own, update_is, update_not}
+use Rattle.rules.proofs.Counting.{times_more, times_same}
 
 -- ---- what does not change
 -- z stands in M where it stands in L, and its record says the same
@@ -27,61 +27,61 @@ pub record Elsewhere (y : ℕ) (L M : Lists) : Type 0 where
   pub is : (z : ℕ) → (z ≡ y → ⊥) → Same z L M
 
 -- entering a bucket moves no slot to another
-pub enter-same : (z b : ℕ) (L : Lists) → Same z L (enter b L)
-enter-same z b L =
+pub enter_same : (z b : ℕ) (L : Lists) → Same z L (enter b L)
+enter_same z b L =
     record {
-      stands = times-same L.bucket b (turned (L.bucket b)) z
-          (omega (arith, count-app z (L.bucket b).late (L.bucket b).early, count-app z (L.bucket b).early (L.bucket b).late));
+      stands = times_same L.bucket b (turned (L.bucket b)) z
+          (omega (arith, count_app z (L.bucket b).late (L.bucket b).early, count_app z (L.bucket b).early (L.bucket b).late));
       free = refl;
       node = refl;
     }
 
 module _ (y : ℕ) (L : Lists) where
-  release-else : Elsewhere y L (release y L)
-  release-else =
+  release_else : Elsewhere y L (release y L)
+  release_else =
       record {
         is = λ z ne. record {
           stands = λ c. refl;
-          free = omega (arith, hit-not z y ne);
-          node = update-not L.node y z (freed (L.node y)) (λ i. ne (sym i));
+          free = omega (arith, hit_not z y ne);
+          node = update_not L.node y z (freed (L.node y)) (λ i. ne (sym i));
         };
       }
 
-  pop-else : (b : ℕ) (xs : List ℕ) → (L.bucket b).early ≡ y ∷ xs → Elsewhere y L (pop b xs L)
-  pop-else b xs f =
+  pop_else : (b : ℕ) (xs : List ℕ) → (L.bucket b).early ≡ y ∷ xs → Elsewhere y L (pop b xs L)
+  pop_else b xs f =
       record {
         is = λ z ne. record {
-          stands = times-same L.bucket b (shortened xs (L.bucket b)) z (omega (arith, ap (count z) f, hit-not z y ne));
+          stands = times_same L.bucket b (shortened xs (L.bucket b)) z (omega (arith, ap (count z) f, hit_not z y ne));
           free = refl;
           node = refl;
         };
       }
 
-  link-else : (b : ℕ) (v : Node) → Elsewhere y L (link b y v L)
-  link-else b v =
+  link_else : (b : ℕ) (v : Node) → Elsewhere y L (link b y v L)
+  link_else b v =
       record {
         is = λ z ne. record {
-          stands = times-same L.bucket b (pushed y (L.bucket b)) z (omega (arith, count-app z (L.bucket b).late (y ∷ []), hit-not z y ne));
+          stands = times_same L.bucket b (pushed y (L.bucket b)) z (omega (arith, count_app z (L.bucket b).late (y ∷ []), hit_not z y ne));
           free = refl;
-          node = update-not L.node y z v (λ i. ne (sym i));
+          node = update_not L.node y z v (λ i. ne (sym i));
         };
       }
 
-  unlink-else : Elsewhere y L (unlink y L)
-  unlink-else =
+  unlink_else : Elsewhere y L (unlink y L)
+  unlink_else =
       let b : ℕ = (L.node y).bucket in
       record {
         is = λ z ne. record {
-          stands = times-same L.bucket b (taken y (L.bucket b)) z
-              (omega (arith, count-without z y (L.bucket b).early ne, count-without z y (L.bucket b).late ne));
+          stands = times_same L.bucket b (taken y (L.bucket b)) z
+              (omega (arith, count_without z y (L.bucket b).early ne, count_without z y (L.bucket b).late ne));
           free = refl;
           node = refl;
         };
       }
 
-  claim-else : (fs : List ℕ) → L.free ≡ y ∷ fs → Elsewhere y L (claim fs L)
-  claim-else fs f =
-      record { is = λ z ne. record { stands = λ c. refl; free = omega (arith, ap (count z) f, hit-not z y ne); node = refl } }
+  claim_else : (fs : List ℕ) → L.free ≡ y ∷ fs → Elsewhere y L (claim fs L)
+  claim_else fs f =
+      record { is = λ z ne. record { stands = λ c. refl; free = omega (arith, ap (count z) f, hit_not z y ne); node = refl } }
 
   else-then : (M N : Lists) → Elsewhere y L M → Elsewhere y M N → Elsewhere y L N
   else-then M N i j =
@@ -96,20 +96,20 @@ module _ (y : ℕ) (L : Lists) where
 -- the five things that are done to a slot: popped and freed, popped and placed anew, unlinked and freed, unlinked and
 -- placed anew, claimed and placed
 module _ (y : ℕ) (L : Lists) where
-  pub pop-release : (b : ℕ) (xs : List ℕ) → (L.bucket b).early ≡ y ∷ xs → Elsewhere y L (release y (pop b xs L))
-  pop-release b xs f = else-then y L (pop b xs L) _ (pop-else y L b xs f) (release-else y (pop b xs L))
+  pub pop_release : (b : ℕ) (xs : List ℕ) → (L.bucket b).early ≡ y ∷ xs → Elsewhere y L (release y (pop b xs L))
+  pop_release b xs f = else-then y L (pop b xs L) _ (pop_else y L b xs f) (release_else y (pop b xs L))
 
-  pub pop-link : (b : ℕ) (xs : List ℕ) → (L.bucket b).early ≡ y ∷ xs → (c : ℕ) (v : Node) → Elsewhere y L (link c y v (pop b xs L))
-  pop-link b xs f c v = else-then y L (pop b xs L) _ (pop-else y L b xs f) (link-else y (pop b xs L) c v)
+  pub pop_link : (b : ℕ) (xs : List ℕ) → (L.bucket b).early ≡ y ∷ xs → (c : ℕ) (v : Node) → Elsewhere y L (link c y v (pop b xs L))
+  pop_link b xs f c v = else-then y L (pop b xs L) _ (pop_else y L b xs f) (link_else y (pop b xs L) c v)
 
-  pub unlink-release : Elsewhere y L (release y (unlink y L))
-  unlink-release = else-then y L (unlink y L) _ (unlink-else y L) (release-else y (unlink y L))
+  pub unlink_release : Elsewhere y L (release y (unlink y L))
+  unlink_release = else-then y L (unlink y L) _ (unlink_else y L) (release_else y (unlink y L))
 
-  pub unlink-link : (c : ℕ) (v : Node) → Elsewhere y L (link c y v (unlink y L))
-  unlink-link c v = else-then y L (unlink y L) _ (unlink-else y L) (link-else y (unlink y L) c v)
+  pub unlink_link : (c : ℕ) (v : Node) → Elsewhere y L (link c y v (unlink y L))
+  unlink_link c v = else-then y L (unlink y L) _ (unlink_else y L) (link_else y (unlink y L) c v)
 
-  pub claim-link : (fs : List ℕ) → L.free ≡ y ∷ fs → (c : ℕ) (v : Node) → Elsewhere y L (link c y v (claim fs L))
-  claim-link fs f c v = else-then y L (claim fs L) _ (claim-else y L fs f) (link-else y (claim fs L) c v)
+  pub claim_link : (fs : List ℕ) → L.free ≡ y ∷ fs → (c : ℕ) (v : Node) → Elsewhere y L (link c y v (claim fs L))
+  claim_link fs f c v = else-then y L (claim fs L) _ (claim_else y L fs f) (link_else y (claim fs L) c v)
 
 -- ---- what is said of one slot
 -- x stands f c times in each bucket c, is not in the free chain, and its record says v
@@ -130,12 +130,12 @@ Gone n L = Bearers n (λ (y : ℕ). ⊥) L
 pub at_same : (x : ℕ) (v : Node) (f : ℕ → ℕ) (L M : Lists) → At x v f L → Same x L M → At x v f M
 at_same x v f L M a s = record { stands = λ c. s.stands c ∙ a.stands c; spare = s.free ∙ a.spare; says = s.node ∙ a.says }
 
-pub bearers-enter : (n : ℕ) (P : ℕ → Type 0) (b : ℕ) (L : Lists) → Bearers n P L → Bearers n P (enter b L)
-bearers-enter n P b L o = record { standing = λ c y h. o.standing c y (omega (arith, h, (enter-same y b L).stands c)); armed = o.armed }
+pub bearers_enter : (n : ℕ) (P : ℕ → Type 0) (b : ℕ) (L : Lists) → Bearers n P L → Bearers n P (enter b L)
+bearers_enter n P b L o = record { standing = λ c y h. o.standing c y (omega (arith, h, (enter_same y b L).stands c)); armed = o.armed }
 
 -- a step on y: only y has to be looked at
-pub bearers-else : (n : ℕ) (P : ℕ → Type 0) (y : ℕ) (L M : Lists) → Bearers n P L → Elsewhere y L M → ((M.node y).serial ≡ n → P y) → Bearers n P M
-bearers-else n P y L M o a own =
+pub bearers_else : (n : ℕ) (P : ℕ → Type 0) (y : ℕ) (L M : Lists) → Bearers n P L → Elsewhere y L M → ((M.node y).serial ≡ n → P y) → Bearers n P M
+bearers_else n P y L M o a own =
     record {
       standing = λ c z h e.
           ⊎_elim
@@ -163,13 +163,13 @@ module _ (x : ℕ) (v : Node) (L : Lists) where
   out_of : (b c : ℕ) (B : Bucket) → b ≡ c → At x v (hit b) L → times x B ≡ times x (L.bucket c) - 1 → (i : ℕ) → times x (update L.bucket c B i) ≡ 0
   out_of b c B e a h i =
       ⊎_elim
-      (λ (m : c ≡ i). simp (eq-eqb c i m) (omega (arith, a.stands c, hit-most b c)))
-      (λ (m : c ≡ i → ⊥). simp (ne_eqb c i m) (a.stands i ∙ hit-not b i (λ l. m (sym e ∙ l))))
+      (λ (m : c ≡ i). simp (eq-eqb c i m) (omega (arith, a.stands c, hit_most b c)))
+      (λ (m : c ≡ i → ⊥). simp (ne_eqb c i m) (a.stands i ∙ hit_not b i (λ l. m (sym e ∙ l))))
       (same? c i)
 
-  pub pop-own : (b c : ℕ) (xs : List ℕ) → At x v (hit b) L → (L.bucket c).early ≡ x ∷ xs → At x v nowhere (pop c xs L)
-  pop-own b c xs a f =
-      let k : hit x x ≡ 1 = hit-is x x refl in
+  pub pop_own : (b c : ℕ) (xs : List ℕ) → At x v (hit b) L → (L.bucket c).early ≡ x ∷ xs → At x v nowhere (pop c xs L)
+  pop_own b c xs a f =
+      let k : hit x x ≡ 1 = hit_is x x refl in
       let j : count x (L.bucket c).early ≡ hit x x + count x xs = ap (count x) f in
       record {
         stands = out_of b c (shortened xs (L.bucket c)) (found b c a (omega arith)) a (omega arith);
@@ -177,49 +177,49 @@ module _ (x : ℕ) (v : Node) (L : Lists) where
         says = a.says;
       }
 
-  pub unlink-own : (b : ℕ) → v.bucket ≡ b → At x v (hit b) L → At x v nowhere (unlink x L)
-  unlink-own b h a =
+  pub unlink_own : (b : ℕ) → v.bucket ≡ b → At x v (hit b) L → At x v nowhere (unlink x L)
+  unlink_own b h a =
       let c : ℕ = (L.node x).bucket in
       record {
         stands = out_of b c (taken x (L.bucket c)) (sym (ap (λ (u : Node). u.bucket) a.says ∙ h)) a
-            (omega (arith, a.stands c, hit-most b c, count-without-own x (L.bucket c).early, count-without-own x (L.bucket c).late));
+            (omega (arith, a.stands c, hit_most b c, count_without_own x (L.bucket c).early, count_without_own x (L.bucket c).late));
         spare = a.spare;
         says = a.says;
       }
 
-  pub link-own : (b : ℕ) (u : Node) → At x v nowhere L → At x u (hit b) (link b x u L)
-  link-own b u a =
+  pub link_own : (b : ℕ) (u : Node) → At x v nowhere L → At x u (hit b) (link b x u L)
+  link_own b u a =
       record {
         stands = λ c.
-            times_more L.bucket b (pushed x (L.bucket b)) x 1 (omega (arith, count-app x (L.bucket b).late (x ∷ []), hit-is x x refl)) c
+            times_more L.bucket b (pushed x (L.bucket b)) x 1 (omega (arith, count_app x (L.bucket b).late (x ∷ []), hit_is x x refl)) c
             ∙ ap (λ (k : ℕ). k + hit b c) (a.stands c) ∙ omega arith;
         spare = a.spare;
-        says = update-is L.node x x u refl;
+        says = update_is L.node x x u refl;
       }
 
 -- x stands nowhere and is freed: its serial, which only x bore, is gone
 pub gone : (n x : ℕ) (v : Node) (L M : Lists) → Bearers n (λ (y : ℕ). y ≡ x) L → Elsewhere x L (release x M) → At x v nowhere M → Gone n (release x M)
 gone n x v L M o a s =
-    let k : Bearers n (λ (y : ℕ). y ≡ x) (release x M) = bearers-else n (λ (y : ℕ). y ≡ x) x L (release x M) o a (λ i. refl) in
+    let k : Bearers n (λ (y : ℕ). y ≡ x) (release x M) = bearers_else n (λ (y : ℕ). y ≡ x) x L (release x M) o a (λ i. refl) in
     record {
       standing = λ c y h e. omega (arith, subst (λ (z : ℕ). 0 < times z (M.bucket c)) (k.standing c y h e) h, s.stands c);
-      armed = λ y h e. let z : false ≡ true = simp (eq-eqb x y (sym (k.armed y h e))) at h in not-both z;
+      armed = λ y h e. let z : false ≡ true = simp (eq-eqb x y (sym (k.armed y h e))) at h in not_both z;
     }
 
 -- a slot keeps its serial when it is freed; placed, it has the serial given
-pub serial-freed : (y : ℕ) (L : Lists) → ((release y L).node y).serial ≡ (L.node y).serial
-serial-freed y L = simp (eq-eqb y y refl)
+pub serial_freed : (y : ℕ) (L : Lists) → ((release y L).node y).serial ≡ (L.node y).serial
+serial_freed y L = simp (eq-eqb y y refl)
 
-pub serial-linked : (y b : ℕ) (v : Node) (L : Lists) → ((link b y v L).node y).serial ≡ v.serial
-serial-linked y b v L = simp (eq-eqb y y refl)
+pub serial_linked : (y b : ℕ) (v : Node) (L : Lists) → ((link b y v L).node y).serial ≡ v.serial
+serial_linked y b v L = simp (eq-eqb y y refl)
 
 -- what stands before the sentinel of c, after a link anywhere and after a pop of c
-pub early-link : (b y c : ℕ) (v : Node) (L : Lists) → ((link b y v L).bucket c).early ≡ (L.bucket c).early
-early-link b y c v L =
+pub early_link : (b y c : ℕ) (v : Node) (L : Lists) → ((link b y v L).bucket c).early ≡ (L.bucket c).early
+early_link b y c v L =
     ⊎_elim
     (λ (e : b ≡ c). simp (eq-eqb b c e) (ap (λ (i : ℕ). (L.bucket i).early) e))
     (λ (m : b ≡ c → ⊥). simp (ne_eqb b c m))
     (same? b c)
 
-pub early-pop : (c : ℕ) (xs : List ℕ) (L : Lists) → ((pop c xs L).bucket c).early ≡ xs
-early-pop c xs L = simp (eq-eqb c c refl)
+pub early_pop : (c : ℕ) (xs : List ℕ) (L : Lists) → ((pop c xs L).bucket c).early ≡ xs
+early_pop c xs L = simp (eq-eqb c c refl)

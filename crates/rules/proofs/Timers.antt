@@ -7,11 +7,11 @@ use mathlib.Core.Bool.{true}
 use mathlib.Core.Option.{some}
 use Rattle.rules.specs.Places.{Geometry, buckets}
 use Rattle.rules.specs.Place.{effective}
-use Rattle.rules.specs.Wheel.{Lists, newNode, hit, count, Advance, closed, poised, within, Answer, refused, ok, handle, removed, end, expired}
+use Rattle.rules.specs.Wheel.{Lists, new_node, hit, count, Advance, closed, poised, within, Answer, refused, ok, handle, removed, end, expired}
 use Rattle.rules.specs.Wheel.{rescheduled, number, due, Later}
 use Rattle.rules.specs.Runs.{Run}
 use Rattle.rules.proofs.Placing.{Mem, InTime, in-time-in}
-use Rattle.rules.proofs.Standing.{Elsewhere, At, Bearers, Gone, at_same, bearers-else}
+use Rattle.rules.proofs.Standing.{Elsewhere, At, Bearers, Gone, at_same, bearers_else}
 
 -- b is the bucket of t at some level, and at the reading r that level has not passed it
 abbrev pub Due : Geometry → ℕ → ℕ → ℕ → Type 0
@@ -32,23 +32,23 @@ Stage g x t b q L (poised p bs) = Due g p t b × ((c : ℕ) → Mem c bs → Lat
 Stage g x t b q L (within p c bs) =
     Due g p t b × Later g p q × ((Mem b bs ⊎ (0 < count x (L.bucket c).early)) ⊎ Settled g p q t b)
 
-pub stage-in : (g : Geometry) (x t b q : ℕ) (L : Lists) (A : Advance) → Stage g x t b q L A → b < buckets g
-stage-in g x t b q L closed s = omega (arith, in-time-in 0 g.shift g.sizes 0 q t b s)
-stage-in g x t b q L (poised p bs) s = omega (arith, in-time-in 0 g.shift g.sizes 0 p t b s.0)
-stage-in g x t b q L (within p c bs) s = omega (arith, in-time-in 0 g.shift g.sizes 0 p t b s.0)
+pub stage_in : (g : Geometry) (x t b q : ℕ) (L : Lists) (A : Advance) → Stage g x t b q L A → b < buckets g
+stage_in g x t b q L closed s = omega (arith, in-time-in 0 g.shift g.sizes 0 q t b s)
+stage_in g x t b q L (poised p bs) s = omega (arith, in-time-in 0 g.shift g.sizes 0 p t b s.0)
+stage_in g x t b q L (within p c bs) s = omega (arith, in-time-in 0 g.shift g.sizes 0 p t b s.0)
 
 -- x is armed for the entry e with the generation h and the serial n, stands in b once and in no other bucket, and no
 -- other slot bears the serial n
 pub record Timer (x e h n b : ℕ) (L : Lists) : Type 0 where
-  pub at : At x (newNode b e h n) (hit b) L
+  pub at : At x (new_node b e h n) (hit b) L
   pub only : Bearers n (λ (y : ℕ). y ≡ x) L
 
 -- a step on another slot, with another serial
-pub timer-else : (x e h n b y : ℕ) (L M : Lists) → Timer x e h n b L → Elsewhere y L M → (x ≡ y → ⊥) → ((M.node y).serial ≡ n → ⊥) → Timer x e h n b M
-timer-else x e h n b y L M t a ne s =
+pub timer_else : (x e h n b y : ℕ) (L M : Lists) → Timer x e h n b L → Elsewhere y L M → (x ≡ y → ⊥) → ((M.node y).serial ≡ n → ⊥) → Timer x e h n b M
+timer_else x e h n b y L M t a ne s =
     record {
-      at = at_same x (newNode b e h n) (hit b) L M t.at (a.is x ne);
-      only = bearers-else n (λ (z : ℕ). z ≡ x) y L M t.only a (λ i. absurd (s i));
+      at = at_same x (new_node b e h n) (hit b) L M t.at (a.is x ne);
+      only = bearers_else n (λ (z : ℕ). z ≡ x) y L M t.only a (λ i. absurd (s i));
     }
 
 -- the answer is End

@@ -2,10 +2,10 @@
 -- lists.
 use Rattle.std.specs.Prelude.{ℕ, ◌-◌, ◌^◌, suc, zero, ◌+◌, min, Bool, true, false, cond, not, ◌&&◌, List, [], ◌∷◌, ◌++◌, eqb, leb, ltb}
 use Rattle.std.proofs.Math.Option.{Option, none, some}
-use Rattle.rules.specs.Places.{Geometry, buckets, bucketOf, place_of, visits}
-use Rattle.rules.specs.Wheel.{Call, create, enable, setEntry, schedule, reschedule, deschedule, start, pull, abandon, armedCount, nextDue, Advance}
-use Rattle.rules.specs.Wheel.{closed, poised, within, Wheel, Lists, Answer, Slot, placedIn, link, release, expired, rescheduled, pop, Entry, enter}
-use Rattle.rules.specs.Wheel.{end, refused, update, newNode, claim, handle, unlink, ok, removed, upwards, bare, number, due}
+use Rattle.rules.specs.Places.{Geometry, buckets, bucket_of, place_of, visits}
+use Rattle.rules.specs.Wheel.{Call, create, enable, set_entry, schedule, reschedule, deschedule, start, pull, abandon, armed_count, next_due, Advance}
+use Rattle.rules.specs.Wheel.{closed, poised, within, Wheel, Lists, Answer, Slot, placed_in, link, release, expired, rescheduled, pop, Entry, enter}
+use Rattle.rules.specs.Wheel.{end, refused, update, new_node, claim, handle, unlink, ok, removed, upwards, bare, number, due}
 
 -- ======== refusals
 
@@ -37,39 +37,39 @@ Row T = T × ℕ
 
 -- ---- the stages
 -- 1, 4: all wheel calls but create and enable; then 5, or 6 for pull and abandon; armed count has neither
-abbrev pub whileEnabled {ℓ} : {T : Type ℓ} → Tests T → List (Row T)
-whileEnabled t = (t.enabled, 1) ∷ (t.sound, 4) ∷ []
+abbrev pub while_enabled {ℓ} : {T : Type ℓ} → Tests T → List (Row T)
+while_enabled t = (t.enabled, 1) ∷ (t.sound, 4) ∷ []
 
-abbrev pub whileClosed {ℓ} : {T : Type ℓ} → Tests T → List (Row T)
-whileClosed t = whileEnabled t ++ ((t.quiet, 5) ∷ [])
+abbrev pub while_closed {ℓ} : {T : Type ℓ} → Tests T → List (Row T)
+while_closed t = while_enabled t ++ ((t.quiet, 5) ∷ [])
 
-abbrev pub whileOpen {ℓ} : {T : Type ℓ} → Tests T → List (Row T)
-whileOpen t = whileEnabled t ++ ((t.busy, 6) ∷ [])
+abbrev pub while_open {ℓ} : {T : Type ℓ} → Tests T → List (Row T)
+while_open t = while_enabled t ++ ((t.busy, 6) ∷ [])
 
 -- the handle of reschedule and deschedule, and the generation
-abbrev pub ofHandle {ℓ} : {T : Type ℓ} → Tests T → ℕ → ℕ → ℕ → List (Row T)
-ofHandle t x n h = (t.live x n, 12) ∷ (t.arming x h, 13) ∷ []
+abbrev pub of_handle {ℓ} : {T : Type ℓ} → Tests T → ℕ → ℕ → ℕ → List (Row T)
+of_handle t x n h = (t.live x n, 12) ∷ (t.arming x h, 13) ∷ []
 
 -- ---- the rows of each call
 abbrev pub rows {ℓ} : {T : Type ℓ} → Tests T → Call → List (Row T)
 rows t (create n) = []
 rows t (enable m k fits) = (t.off, 2) ∷ (t.lendable m k fits, 3) ∷ []
-rows t (setEntry e o h) = whileClosed t ++ ((t.entry e, 7) ∷ [])
+rows t (set_entry e o h) = while_closed t ++ ((t.entry e, 7) ∷ [])
 rows t (schedule e h) =
-    whileClosed t ++ ((t.entry e, 7) ∷ (t.generation e h, 8) ∷ (t.dated e, 9) ∷ (t.room, 10) ∷ (t.serial, 11) ∷ [])
-rows t (reschedule x n h) = whileClosed t ++ ofHandle t x n h
-rows t (deschedule x n h) = whileClosed t ++ ofHandle t x n h
-rows t (start q) = whileClosed t
-rows t pull = whileOpen t
-rows t abandon = whileOpen t
-rows t armedCount = whileEnabled t
-rows t nextDue = whileClosed t
+    while_closed t ++ ((t.entry e, 7) ∷ (t.generation e h, 8) ∷ (t.dated e, 9) ∷ (t.room, 10) ∷ (t.serial, 11) ∷ [])
+rows t (reschedule x n h) = while_closed t ++ of_handle t x n h
+rows t (deschedule x n h) = while_closed t ++ of_handle t x n h
+rows t (start q) = while_closed t
+rows t pull = while_open t
+rows t abandon = while_open t
+rows t armed_count = while_enabled t
+rows t next_due = while_closed t
 
 -- ---- on a wheel
-abbrev pub isOpen : Advance → Bool
-isOpen closed = false
-isOpen (poised p bs) = true
-isOpen (within p b bs) = true
+abbrev pub is_open : Advance → Bool
+is_open closed = false
+is_open (poised p bs) = true
+is_open (within p b bs) = true
 
 abbrev pub is_none : Option ℕ → Bool
 is_none none = true
@@ -80,8 +80,8 @@ is_empty [] = true
 is_empty (x ∷ xs) = false
 
 -- a handle: it is stale "when no armed timer has both" slot and serial
-abbrev pub isStale : Wheel → ℕ → ℕ → Bool
-isStale w x n = cond (leb w.nodes x) true (cond (w.lists.node x).armed (not (eqb (w.lists.node x).serial n)) true)
+abbrev pub is_stale : Wheel → ℕ → ℕ → Bool
+is_stale w x n = cond (leb w.nodes x) true (cond (w.lists.node x).armed (not (eqb (w.lists.node x).serial n)) true)
 
 -- lent lengths: one node record more than there are buckets, to 4,096, and 1 to 4,096 entries, with all else that is
 -- lent beside them
@@ -89,20 +89,20 @@ abbrev pub in_range : Geometry → ℕ → ℕ → Bool → Bool
 in_range g m k fits = fits && (ltb (buckets g) m && (leb m 4096 && (ltb 0 k && leb k 4096)))
 
 -- the tests on a wheel. Whether it is sound is said by who asks: soundness is a property of lent records
-abbrev pub testsOf : Geometry → Bool → Wheel → Tests Bool
-testsOf g sound w = record {
+abbrev pub tests_of : Geometry → Bool → Wheel → Tests Bool
+tests_of g sound w = record {
   enabled = w.enabled;
   off = not w.enabled;
   lendable = in_range g;
   sound = sound;
-  quiet = not (isOpen w.advance);
-  busy = isOpen w.advance;
+  quiet = not (is_open w.advance);
+  busy = is_open w.advance;
   entry = λ e. ltb e w.entries;
   generation = λ e h. eqb (w.entry e).generation h;
   dated = λ e. not (is_none (w.entry e).deadline);
   room = not (is_empty w.lists.free);
   serial = not (eqb w.next (2 ^ 64 - 1));
-  live = λ x n. not (isStale w x n);
+  live = λ x n. not (is_stale w x n);
   arming = λ x h. eqb (w.lists.node x).generation h;
 }
 
@@ -112,8 +112,8 @@ pick [] = 0
 pick (t ∷ ts) = cond t.0 (pick ts) t.1
 
 -- the number that the call is refused with, or 0
-abbrev pub refusalIf : Geometry → Bool → Wheel → Call → ℕ
-refusalIf g sound w c = pick (rows (testsOf g sound w) c)
+abbrev pub refusal_if : Geometry → Bool → Wheel → Call → ℕ
+refusal_if g sound w c = pick (rows (tests_of g sound w) c)
 
 -- ======== a pull
 
@@ -128,10 +128,10 @@ abbrev pub dealt : Geometry → ℕ → ℕ → Option ℕ → Lists → Found �
 dealt g q x none L r = r
 dealt g q x (some d) L r =
     let v : Slot = L.node x in
-    let b : ℕ = bucketOf g q d in
+    let b : ℕ = bucket_of g q d in
     cond (leb d q)
     (some (expired v.entry v.serial d), release x L)
-    (some (rescheduled v.entry v.serial (place_of g q d)), link b x (placedIn b v) L)
+    (some (rescheduled v.entry v.serial (place_of g q d)), link b x (placed_in b v) L)
 
 -- "nodes before the sentinel are popped in turn": xs are those before the sentinel of b. It stops at the first event.
 abbrev pub emptied : Geometry → (ℕ → Entry) → ℕ → ℕ → List ℕ → Lists → Found
@@ -172,17 +172,17 @@ abbrev pub changed : ℕ → ℕ → Advance → Lists → (ℕ → Entry) → W
 changed r n a L E w =
     record { enabled = w.enabled; nodes = w.nodes; entries = w.entries; reading = r; next = n; advance = a; lists = L; entry = E }
 
-abbrev pub withLists : Lists → Wheel → Wheel
-withLists L w = changed w.reading w.next w.advance L w.entry w
+abbrev pub with_lists : Lists → Wheel → Wheel
+with_lists L w = changed w.reading w.next w.advance L w.entry w
 
 abbrev pub with_next : ℕ → Wheel → Wheel
 with_next n w = changed w.reading n w.advance w.lists w.entry w
 
-abbrev pub withClock : ℕ → Advance → Wheel → Wheel
-withClock r a w = changed r w.next a w.lists w.entry w
+abbrev pub with_clock : ℕ → Advance → Wheel → Wheel
+with_clock r a w = changed r w.next a w.lists w.entry w
 
-abbrev pub withEntry : ℕ → Entry → Wheel → Wheel
-withEntry e v w = changed w.reading w.next w.advance w.lists (update w.entry e v) w
+abbrev pub with_entry : ℕ → Entry → Wheel → Wheel
+with_entry e v w = changed w.reading w.next w.advance w.lists (update w.entry e v) w
 
 -- ---- arming
 -- "puts a new node at the back of its bucket, answers its handle"; "serials count up by one per arming". Deadline and
@@ -191,15 +191,15 @@ abbrev pub armed : Geometry → Wheel → ℕ → ℕ → Option ℕ → List �
 armed g w e h none fs = (refused 9, w)
 armed g w e h (some d) [] = (refused 10, w)
 armed g w e h (some d) (x ∷ fs) =
-    let b : ℕ = bucketOf g w.reading d in
-    (handle x w.next, with_next (suc w.next) (withLists (link b x (newNode b e h w.next) (claim fs w.lists)) w))
+    let b : ℕ = bucket_of g w.reading d in
+    (handle x w.next, with_next (suc w.next) (with_lists (link b x (new_node b e h w.next) (claim fs w.lists)) w))
 
 -- "unlinks, places by the deadline now held, at the back. Without a deadline the slot is freed, answer Removed."
 abbrev pub rearmed : Geometry → Wheel → ℕ → Option ℕ → Answer × Wheel
-rearmed g w x none = (removed, withLists (release x (unlink x w.lists)) w)
+rearmed g w x none = (removed, with_lists (release x (unlink x w.lists)) w)
 rearmed g w x (some d) =
-    let b : ℕ = bucketOf g w.reading d in
-    (ok, withLists (link b x (placedIn b (w.lists.node x)) (unlink x w.lists)) w)
+    let b : ℕ = bucket_of g w.reading d in
+    (ok, with_lists (link b x (placed_in b (w.lists.node x)) (unlink x w.lists)) w)
 
 -- ---- the advance
 -- "the old one p is kept": the reading that the open advance started from, and that abandon restores
@@ -210,9 +210,9 @@ origin (within p b bs) r = p
 
 -- ---- the two counts
 -- how many of the slots below k are armed
-abbrev pub armedBelow : (ℕ → Slot) → ℕ → ℕ
-armedBelow f zero = 0
-armedBelow f (suc k) = cond (f k).armed 1 0 + armedBelow f k
+abbrev pub armed_below : (ℕ → Slot) → ℕ → ℕ
+armed_below f zero = 0
+armed_below f (suc k) = cond (f k).armed 1 0 + armed_below f k
 
 abbrev pub sooner : Option ℕ → Option ℕ → Option ℕ
 sooner none o = o
@@ -221,17 +221,17 @@ sooner (some d) (some c) = some (min d c)
 
 -- what next due takes the least of: at a reading r, for a timer in the bucket b whose entry holds this deadline or
 -- none. Here it is the deadline.
-abbrev pub dueKey : Geometry → ℕ → ℕ → Option ℕ → Option ℕ
-dueKey g r b o = o
+abbrev pub due_key : Geometry → ℕ → ℕ → Option ℕ → Option ℕ
+due_key g r b o = o
 
 abbrev pub key_of : Geometry → Wheel → ℕ → Option ℕ
 key_of g w x =
-    cond (w.lists.node x).armed (dueKey g w.reading (w.lists.node x).bucket (w.entry (w.lists.node x).entry).deadline) none
+    cond (w.lists.node x).armed (due_key g w.reading (w.lists.node x).bucket (w.entry (w.lists.node x).entry).deadline) none
 
 -- the least key of the slots below k
-abbrev pub leastKey : Geometry → Wheel → ℕ → Option ℕ
-leastKey g w zero = none
-leastKey g w (suc k) = sooner (key_of g w k) (leastKey g w k)
+abbrev pub least_key : Geometry → Wheel → ℕ → Option ℕ
+least_key g w zero = none
+least_key g w (suc k) = sooner (key_of g w k) (least_key g w k)
 
 -- ---- what a call does that is not refused
 abbrev pub act : Geometry → Wheel → Call → Answer × Wheel
@@ -256,22 +256,22 @@ act g w (enable m k fits) = (
   },
 )
 -- "Set entry: deadline or none, and generation, as given"
-act g w (setEntry e o h) = (ok, withEntry e (record { deadline = o; generation = h }) w)
+act g w (set_entry e o h) = (ok, with_entry e (record { deadline = o; generation = h }) w)
 act g w (schedule e h) = armed g w e h (w.entry e).deadline w.lists.free
 act g w (reschedule x n h) = rearmed g w x (w.entry (w.lists.node x).entry).deadline
 -- "unlinks and frees"
-act g w (deschedule x n h) = (ok, withLists (release x (unlink x w.lists)) w)
+act g w (deschedule x n h) = (ok, with_lists (release x (unlink x w.lists)) w)
 -- "the reading becomes q, the old one p is kept"; "start moves no node"
-act g w (start q) = (ok, withClock q (poised w.reading (visits g w.reading q)) w)
+act g w (start q) = (ok, with_clock q (poised w.reading (visits g w.reading q)) w)
 -- "one event, or End"
 act g w pull =
     let r : AfterPull = pulled g w.entry w.reading w.advance w.lists in
-    (r.answer, withLists r.lists (withClock w.reading r.advance w))
+    (r.answer, with_lists r.lists (with_clock w.reading r.advance w))
 -- "closes and restores p. Events already pulled stay pulled; moved timers stay moved."
-act g w abandon = (ok, withClock (origin w.advance w.reading) closed w)
-act g w armedCount = (number (armedBelow w.lists.node w.nodes), w)
+act g w abandon = (ok, with_clock (origin w.advance w.reading) closed w)
+act g w armed_count = (number (armed_below w.lists.node w.nodes), w)
 -- "the smallest deadline among armed timers, or none"
-act g w nextDue = (due (leastKey g w w.nodes), w)
+act g w next_due = (due (least_key g w w.nodes), w)
 
 -- "A refusal carries its number and no value, and every lent record stays as found."
 abbrev pub judged : ℕ → Answer × Wheel → Wheel → Answer × Wheel
@@ -279,5 +279,5 @@ judged zero r w = r
 judged (suc k) r w = (refused (suc k), w)
 
 -- a call on a wheel of which it is said whether it is sound: its answer, and the wheel after it
-abbrev pub stepIf : Geometry → Bool → Wheel → Call → Answer × Wheel
-stepIf g sound w c = judged (refusalIf g sound w c) (act g w c) w
+abbrev pub step_if : Geometry → Bool → Wheel → Call → Answer × Wheel
+step_if g sound w c = judged (refusal_if g sound w c) (act g w c) w

@@ -11,12 +11,12 @@
 -- speaks of every list of calls from there on.
 use Rattle.std.specs.Prelude.{ℕ, ◌≤◌, ◌<◌, true, List, [], ◌∷◌, ◌++◌, ◌⊎◌, ◌≡◌}
 use Rattle.std.proofs.Math.Option.{some}
-use Rattle.rules.specs.Calls.{isOpen, origin}
+use Rattle.rules.specs.Calls.{is_open, origin}
 use Rattle.rules.specs.Lists.{times}
 use Rattle.rules.specs.Places.{Geometry, buckets}
 use Rattle.rules.specs.Runs.{refusal, step, Run, answer, next, answers, after}
-use Rattle.rules.specs.Wheel.{hit, Wheel, Call, create, enable, setEntry, schedule, reschedule, deschedule, start, pull, abandon, armedCount, nextDue}
-use Rattle.rules.specs.Wheel.{ok, handle, end, expired, Changes, handsOut, handed, Later}
+use Rattle.rules.specs.Wheel.{hit, Wheel, Call, create, enable, set_entry, schedule, reschedule, deschedule, start, pull, abandon, armed_count, next_due}
+use Rattle.rules.specs.Wheel.{ok, handle, end, expired, Changes, hands_out, handed, Later}
 
 -- ---- the premises
 -- "Arm or re-arm": the call, at the wheel w, is a schedule that answers the handle (x, n), or a reschedule with that
@@ -24,7 +24,7 @@ use Rattle.rules.specs.Wheel.{ok, handle, end, expired, Changes, handsOut, hande
 abbrev pub Arms : Geometry → Wheel → Call → ℕ → ℕ → ℕ → ℕ → Type 0
 Arms g w (create m) x n e d = ⊥
 Arms g w (enable m k f) x n e d = ⊥
-Arms g w (setEntry i o h) x n e d = ⊥
+Arms g w (set_entry i o h) x n e d = ⊥
 Arms g w (schedule i h) x n e d = ((step g w (schedule i h)).0 ≡ handle x n) × (i ≡ e) × ((w.entry e).deadline ≡ some d)
 Arms g w (reschedule y m h) x n e d =
     ((step g w (reschedule y m h)).0 ≡ ok) × (y ≡ x) × (m ≡ n) × ((w.lists.node x).entry ≡ e) × ((w.entry e).deadline ≡ some d)
@@ -32,8 +32,8 @@ Arms g w (deschedule y m h) x n e d = ⊥
 Arms g w (start q) x n e d = ⊥
 Arms g w pull x n e d = ⊥
 Arms g w abandon x n e d = ⊥
-Arms g w armedCount x n e d = ⊥
-Arms g w nextDue x n e d = ⊥
+Arms g w armed_count x n e d = ⊥
+Arms g w next_due x n e d = ⊥
 
 -- "and change neither it nor its deadline afterwards": each call that would is refused. All other calls are free.
 abbrev pub Unchanged : Geometry → ℕ → ℕ → ℕ → ℕ → Run → List Call → Type 0
@@ -55,8 +55,8 @@ InOneBucket g x n e w =
 -- ---- advances
 -- each of the calls finds an advance open, and so does what comes after them
 abbrev pub StaysOpen : Geometry → Run → List Call → Type 0
-StaysOpen g R [] = isOpen R.wheel.advance ≡ true
-StaysOpen g R (c ∷ cs) = (isOpen R.wheel.advance ≡ true) × StaysOpen g (next g R c) cs
+StaysOpen g R [] = is_open R.wheel.advance ≡ true
+StaysOpen g R (c ∷ cs) = (is_open R.wheel.advance ≡ true) × StaysOpen g (next g R c) cs
 
 -- an advance to q: the start is taken at R, and its advance stays open over the calls ps
 pub record Advancing (g : Geometry) (R : Run) (q : ℕ) (ps : List Call) : Type 0 where
@@ -97,25 +97,25 @@ AbandonedOneHad g n R cs =
 -- ---- the demand
 pub record Demand3 (g : Geometry) (x n e d : ℕ) (R : Run) : Type 0 where
   -- "It stands in exactly one bucket until it is handed out."
-  pub oneBucket : (cs : List Call) → Unchanged g x n e d R cs → NotYet g n R cs → InOneBucket g x n e (after g R cs).wheel
+  pub one_bucket : (cs : List Call) → Unchanged g x n e d R cs → NotYet g n R cs → InOneBucket g x n e (after g R cs).wheel
   -- "No advance to a reading before the deadline hands it out."
-  pub notEarly :
+  pub not_early :
       (cs : List Call) (q : ℕ) (ps : List Call) → Unchanged g x n e d R (cs ++ (start q ∷ ps)) → Advancing g (after g R cs) q ps → q < d
       → handed n (answers g (after g R cs) (start q ∷ ps)) ≡ 0
   -- "The first advance that is read to its end, goes to the deadline or later and enters a later tick than the one it
   -- started in hands it out once, unless an abandoned one already had."
-  pub firstHandsOut :
+  pub first_hands_out :
       (cs : List Call) (q : ℕ) (ps : List Call) → Unchanged g x n e d R (cs ++ (start q ∷ ps)) → Full g d (after g R cs) q ps → NoneBefore g d R cs
       → (handed n (answers g (after g R cs) (start q ∷ ps)) ≡ 1) ⊎ AbandonedOneHad g n R cs
   -- At the end of every such advance, the first or a later one, it has been handed out.
-  pub byThen :
+  pub by_then :
       (cs : List Call) (q : ℕ) (ps : List Call) → Unchanged g x n e d R (cs ++ (start q ∷ ps)) → Full g d (after g R cs) q ps
       → handed n (answers g R (cs ++ (start q ∷ ps))) ≡ 1
   -- It is handed out once at most.
-  pub atMostOnce : (cs : List Call) → Unchanged g x n e d R cs → handed n (answers g R cs) ≤ 1
+  pub at_most_once : (cs : List Call) → Unchanged g x n e d R cs → handed n (answers g R cs) ≤ 1
   -- What hands it out says its entry, serial and deadline, and belongs to an advance that goes to the deadline or later
   -- and enters a later tick.
   pub says :
-      (cs : List Call) (c : Call) → Unchanged g x n e d R (cs ++ (c ∷ [])) → 0 < handsOut n (answer g (after g R cs) c)
+      (cs : List Call) (c : Call) → Unchanged g x n e d R (cs ++ (c ∷ [])) → 0 < hands_out n (answer g (after g R cs) c)
       → (answer g (after g R cs) c ≡ expired e n d) × (d ≤ (after g R cs).wheel.reading) ×
       Later g (origin (after g R cs).wheel.advance (after g R cs).wheel.reading) (after g R cs).wheel.reading

@@ -60,18 +60,18 @@ first_of wide base (e ∷ es) (suc l) = first_of wide (base + wide e) es l
 -- the last. "A deadline before the reading counts as difference 0", as the difference of numbers is. "The lowest
 -- fitting level is used; the index is the deadline's tick at that level modulo the bucket count." The level's numbers
 -- begin at base; `wide e` is how many are kept for a level with 2 ^ e buckets.
-abbrev pub placeFrom : (ℕ → ℕ) → ℕ → List ℕ → ℕ → ℕ → ℕ → ℕ
-placeFrom wide s [] base r d = base
-placeFrom wide s (e ∷ es) base r d =
-    cond (ltb (d - r) (2 ^ (s + e))) (base + tick s d % 2 ^ e) (placeFrom wide (s + e) es (base + wide e) r d)
+abbrev pub place_from : (ℕ → ℕ) → ℕ → List ℕ → ℕ → ℕ → ℕ → ℕ
+place_from wide s [] base r d = base
+place_from wide s (e ∷ es) base r d =
+    cond (ltb (d - r) (2 ^ (s + e))) (base + tick s d % 2 ^ e) (place_from wide (s + e) es (base + wide e) r d)
 
 -- the number of the bucket, which is also its sentinel's slot: level by level with no gap, 0 to 164 in 01's wheel
-abbrev pub bucketOf : Geometry → ℕ → ℕ → ℕ
-bucketOf g r d = placeFrom dense g.shift g.sizes 0 r d
+abbrev pub bucket_of : Geometry → ℕ → ℕ → ℕ
+bucket_of g r d = place_from dense g.shift g.sizes 0 r d
 
 -- "level x 64 + index": the place as the host's function and the event Rescheduled give it
 abbrev pub place_of : Geometry → ℕ → ℕ → ℕ
-place_of g r d = placeFrom spaced g.shift g.sizes 0 r d
+place_of g r d = place_from spaced g.shift g.sizes 0 r d
 
 -- ======== visits
 
@@ -92,40 +92,40 @@ ring base m t zero = []
 ring base m t (suc k) = (base + t % m) ∷ ring base m (suc t) k
 
 -- the buckets visited at one level
-abbrev pub visitsAt : ℕ → ℕ → ℕ → ℕ → ℕ → List ℕ
-visitsAt s e base p q = ring base (2 ^ e) (tick s p) (visited s e p q)
+abbrev pub visits_at : ℕ → ℕ → ℕ → ℕ → ℕ → List ℕ
+visits_at s e base p q = ring base (2 ^ e) (tick s p) (visited s e p q)
 
 -- "Advance goes level by level from 0": all buckets visited, in order
-abbrev pub visitsFrom : ℕ → List ℕ → ℕ → ℕ → ℕ → List ℕ
-visitsFrom s [] base p q = visitsAt s 0 base p q
-visitsFrom s (e ∷ es) base p q =
-    visitsAt s e base p q ++ cond (moves s p q) (visitsFrom (s + e) es (base + 2 ^ e) p q) []
+abbrev pub visits_from : ℕ → List ℕ → ℕ → ℕ → ℕ → List ℕ
+visits_from s [] base p q = visits_at s 0 base p q
+visits_from s (e ∷ es) base p q =
+    visits_at s e base p q ++ cond (moves s p q) (visits_from (s + e) es (base + 2 ^ e) p q) []
 
 abbrev pub visits : Geometry → ℕ → ℕ → List ℕ
-visits g p q = visitsFrom g.shift g.sizes 0 p q
+visits g p q = visits_from g.shift g.sizes 0 p q
 
 -- ---- the position of an open advance as two numbers: `step` buckets of `level` have been entered, the last of them is
 -- the one it stands in
 -- how many buckets of the level it visits
-abbrev pub visitedAt : Geometry → ℕ → ℕ → ℕ → ℕ
-visitedAt g p q l = visited (shift_of g.shift g.sizes l) (size_of g.sizes l) p q
+abbrev pub visited_at : Geometry → ℕ → ℕ → ℕ → ℕ
+visited_at g p q l = visited (shift_of g.shift g.sizes l) (size_of g.sizes l) p q
 
 -- the bucket that it enters after j others of the level l
-abbrev pub bucketAt : Geometry → ℕ → ℕ → ℕ → ℕ
-bucketAt g p l j =
+abbrev pub bucket_at : Geometry → ℕ → ℕ → ℕ → ℕ
+bucket_at g p l j =
     first_of dense 0 g.sizes l + (tick (shift_of g.shift g.sizes l) p + j) % 2 ^ size_of g.sizes l
 
 -- the buckets that it has yet to enter after j of the level l
-abbrev pub aheadFrom : ℕ → List ℕ → ℕ → ℕ → ℕ → ℕ → ℕ → List ℕ
-aheadFrom s [] base p q l j = drop j (visitsAt s 0 base p q)
-aheadFrom s (e ∷ es) base p q zero j =
-    drop j (visitsAt s e base p q) ++ cond (moves s p q) (visitsFrom (s + e) es (base + 2 ^ e) p q) []
-aheadFrom s (e ∷ es) base p q (suc l) j = aheadFrom (s + e) es (base + 2 ^ e) p q l j
+abbrev pub ahead_from : ℕ → List ℕ → ℕ → ℕ → ℕ → ℕ → ℕ → List ℕ
+ahead_from s [] base p q l j = drop j (visits_at s 0 base p q)
+ahead_from s (e ∷ es) base p q zero j =
+    drop j (visits_at s e base p q) ++ cond (moves s p q) (visits_from (s + e) es (base + 2 ^ e) p q) []
+ahead_from s (e ∷ es) base p q (suc l) j = ahead_from (s + e) es (base + 2 ^ e) p q l j
 
 abbrev pub ahead : Geometry → ℕ → ℕ → ℕ → ℕ → List ℕ
-ahead g p q l j = aheadFrom g.shift g.sizes 0 p q l j
+ahead g p q l j = ahead_from g.shift g.sizes 0 p q l j
 
 -- 01, "Sound means": "an open advance stands before its first bucket or in one that it visits". Level 0 and step 0
 -- stand before the first bucket, for every p and q.
 abbrev pub SoundPosition : Geometry → ℕ → ℕ → ℕ → ℕ → Type 0
-SoundPosition g p q l j = ((l ≡ 0) × (j ≡ 0)) ⊎ ((1 ≤ j) × (j ≤ visitedAt g p q l))
+SoundPosition g p q l j = ((l ≡ 0) × (j ≡ 0)) ⊎ ((1 ≤ j) × (j ≤ visited_at g p q l))

@@ -2,16 +2,16 @@
 -- the wheel, for each serial, the reading at which the timer with that serial was last placed.
 use Rattle.std.specs.Prelude.{ℕ, true, List, [], ◌∷◌}
 use Rattle.std.proofs.Math.Option.{Option, none, some}
-use Rattle.rules.specs.Calls.{refusalIf, act, judged}
+use Rattle.rules.specs.Calls.{refusal_if, act, judged}
 use Rattle.rules.specs.Places.{Geometry}
-use Rattle.rules.specs.Wheel.{Wheel, Call, Answer, create, enable, setEntry, schedule, reschedule, deschedule, start, pull, abandon, armedCount}
-use Rattle.rules.specs.Wheel.{nextDue, refused, ok, handle, removed, end, expired, rescheduled, number, due, update}
+use Rattle.rules.specs.Wheel.{Wheel, Call, Answer, create, enable, set_entry, schedule, reschedule, deschedule, start, pull, abandon, armed_count}
+use Rattle.rules.specs.Wheel.{next_due, refused, ok, handle, removed, end, expired, rescheduled, number, due, update}
 
 -- ======== refusals
 
 -- of a wheel on lists, whose every state that calls lead to is sound
 abbrev pub refusal : Geometry → Wheel → Call → ℕ
-refusal g w c = refusalIf g true w c
+refusal g w c = refusal_if g true w c
 
 -- ======== the calls
 
@@ -28,15 +28,15 @@ pub record Run : Type 0 where
 abbrev pub rearms : Call → Option ℕ
 rearms (create n) = none
 rearms (enable m k f) = none
-rearms (setEntry e o h) = none
+rearms (set_entry e o h) = none
 rearms (schedule e h) = none
 rearms (reschedule x n h) = some n
 rearms (deschedule x n h) = none
 rearms (start q) = none
 rearms pull = none
 rearms abandon = none
-rearms armedCount = none
-rearms nextDue = none
+rearms armed_count = none
+rearms next_due = none
 
 abbrev pub placing : Call → Answer → Option ℕ
 placing c (refused k) = none

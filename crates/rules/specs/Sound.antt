@@ -3,7 +3,7 @@
 -- code's soundness).
 use Rattle.std.specs.Prelude.{ℕ, suc, ◌≤◌, ◌<◌, true, cond, ◌≡◌, ltb}
 use Rattle.rules.specs.Lists.{times}
-use Rattle.rules.specs.Places.{Geometry, buckets, visits, visitedAt, bucketAt, ahead}
+use Rattle.rules.specs.Places.{Geometry, buckets, visits, visited_at, bucket_at, ahead}
 use Rattle.rules.specs.Wheel.{Slot, Lists, hit, count, Advance, closed, poised, within, Wheel}
 
 -- how often the free chain has to hold the slot y: once where it is free. A slot below D is a sentinel, one from
@@ -34,7 +34,7 @@ abbrev pub SoundAdvance : Geometry → ℕ → Advance → Type 0
 SoundAdvance g q closed = Unit {0}
 SoundAdvance g q (poised p bs) = bs ≡ visits g p q
 SoundAdvance g q (within p b bs) =
-    (l : ℕ) × (i : ℕ) × (i < visitedAt g p q l) × (b ≡ bucketAt g p l i) × (bs ≡ ahead g p q l (suc i))
+    (l : ℕ) × (i : ℕ) × (i < visited_at g p q l) × (b ≡ bucket_at g p l i) × (bs ≡ ahead g p q l (suc i))
 
 pub record Sound (g : Geometry) (w : Wheel) : Type 0 where
   pub lists : SoundLists (buckets g) w.nodes w.entries w.next w.lists

@@ -30,12 +30,12 @@ pub record Lists : Type 0 where
   pub node : ℕ → Slot
 
 -- a node newly armed in the bucket b, for the entry e, with the generation h at arming and the serial n
-abbrev pub newNode : ℕ → ℕ → ℕ → ℕ → Slot
-newNode b e h n = record { armed = true; bucket = b; entry = e; generation = h; serial = n }
+abbrev pub new_node : ℕ → ℕ → ℕ → ℕ → Slot
+new_node b e h n = record { armed = true; bucket = b; entry = e; generation = h; serial = n }
 
 -- the same node in the bucket b: "serial and stored generation stay"
-abbrev pub placedIn : ℕ → Slot → Slot
-placedIn b v = record { armed = true; bucket = b; entry = v.entry; generation = v.generation; serial = v.serial }
+abbrev pub placed_in : ℕ → Slot → Slot
+placed_in b v = record { armed = true; bucket = b; entry = v.entry; generation = v.generation; serial = v.serial }
 
 -- the node no longer armed; its other fields mean nothing any more
 abbrev pub freed : Slot → Slot
@@ -62,12 +62,12 @@ count x (y ∷ ys) = hit x y + count x ys
 
 -- ---- what is done to the lists
 -- "at the back"
-abbrev pub atBack : ℕ → Bucket → Bucket
-atBack x B = record { early = B.early; late = B.late ++ (x ∷ []) }
+abbrev pub at_back : ℕ → Bucket → Bucket
+at_back x B = record { early = B.early; late = B.late ++ (x ∷ []) }
 
 -- the slot x goes to the back of the bucket b, and its record says v
 abbrev pub link : ℕ → ℕ → Slot → Lists → Lists
-link b x v L = record { bucket = update L.bucket b (atBack x (L.bucket b)); free = L.free; node = update L.node x v }
+link b x v L = record { bucket = update L.bucket b (at_back x (L.bucket b)); free = L.free; node = update L.node x v }
 
 -- "unlinks": the slot x leaves the bucket that its record names
 abbrev pub taken : ℕ → Bucket → Bucket
@@ -147,15 +147,15 @@ pub record Wheel : Type 0 where
 pub data Call : Type 0 where
   create : ℕ → Call
   enable : ℕ → ℕ → Bool → Call
-  setEntry : ℕ → Option ℕ → ℕ → Call
+  set_entry : ℕ → Option ℕ → ℕ → Call
   schedule : ℕ → ℕ → Call
   reschedule : ℕ → ℕ → ℕ → Call
   deschedule : ℕ → ℕ → ℕ → Call
   start : ℕ → Call
   pull : Call
   abandon : Call
-  armedCount : Call
-  nextDue : Call
+  armed_count : Call
+  next_due : Call
 
 pub data Answer : Type 0 where
   -- "A refusal carries its number and no value"
@@ -182,15 +182,15 @@ pub data Answer : Type 0 where
 abbrev pub Changes : ℕ → ℕ → ℕ → ℕ → Call → Type 0
 Changes x n e d (create m) = Unit {0}
 Changes x n e d (enable m k f) = ⊥
-Changes x n e d (setEntry i o h) = (i ≡ e) × (o ≡ some d → ⊥)
+Changes x n e d (set_entry i o h) = (i ≡ e) × (o ≡ some d → ⊥)
 Changes x n e d (schedule i h) = ⊥
 Changes x n e d (reschedule y m h) = (y ≡ x) × (m ≡ n)
 Changes x n e d (deschedule y m h) = (y ≡ x) × (m ≡ n)
 Changes x n e d (start q) = ⊥
 Changes x n e d pull = ⊥
 Changes x n e d abandon = ⊥
-Changes x n e d armedCount = ⊥
-Changes x n e d nextDue = ⊥
+Changes x n e d armed_count = ⊥
+Changes x n e d next_due = ⊥
 
 abbrev pub IsRefused : Answer → Type 0
 IsRefused (refused k) = Unit {0}
@@ -212,21 +212,21 @@ LeftAlone x n e d (c ∷ cs) (a ∷ rs) = (Changes x n e d c → IsRefused a) ×
 
 -- ---- hand-outs
 -- 1 where the answer hands out the timer with the serial n, else 0
-abbrev pub handsOut : ℕ → Answer → ℕ
-handsOut n (refused k) = 0
-handsOut n ok = 0
-handsOut n (handle x m) = 0
-handsOut n removed = 0
-handsOut n end = 0
-handsOut n (expired e m d) = hit n m
-handsOut n (rescheduled e m b) = 0
-handsOut n (number k) = 0
-handsOut n (due o) = 0
+abbrev pub hands_out : ℕ → Answer → ℕ
+hands_out n (refused k) = 0
+hands_out n ok = 0
+hands_out n (handle x m) = 0
+hands_out n removed = 0
+hands_out n end = 0
+hands_out n (expired e m d) = hit n m
+hands_out n (rescheduled e m b) = 0
+hands_out n (number k) = 0
+hands_out n (due o) = 0
 
 -- how often these answers hand it out
 abbrev pub handed : ℕ → List Answer → ℕ
 handed n [] = 0
-handed n (a ∷ rest) = handsOut n a + handed n rest
+handed n (a ∷ rest) = hands_out n a + handed n rest
 
 -- ---- ticks
 -- "a deadline that is not in an earlier tick than the wheel's reading" r

@@ -1,6 +1,6 @@
 // The sketch's public calls: refusals in order, then the unchecked work.
 ghost use Rattle.std.specs.Prelude.{◌≡◌, ◌<◌, ◌≤◌};
-ghost use Rattle.sketch_rules.specs.Sketch.{sampleFor, unusedSketch, Ensures, Estimates, Increases};
+ghost use Rattle.sketch_rules.specs.Sketch.{sample_for, unused_sketch, Ensures, Estimates, Increases};
 
 use crate::sound::is_sound;
 use crate::unchecked;
@@ -8,7 +8,7 @@ use sketch_rules::{Ensured, Estimated, Increased, Sketch};
 
 // The record of a sketch that is not used yet: it takes its table with the first capacity that is ensured.
 pub fn unused() -> Sketch
-    ensures { result ≡ unusedSketch }
+    ensures { result ≡ unused_sketch }
 {
     Sketch {
         used: 0,
@@ -20,7 +20,7 @@ pub fn unused() -> Sketch
 // The sample size of a capacity up to 65,536.
 fn sample_for(capacity: u64) -> u64
     requires { capacity ≤ 65536 }
-    ensures { result ≡ sampleFor capacity }
+    ensures { result ≡ sample_for capacity }
 {
     if capacity == 0 { 10 } else { 10 * capacity }
 }

@@ -3,7 +3,7 @@
 // it.
 ghost use Rattle.std.specs.Prelude.{◌≡◌, ◌<◌, ◌≤◌, length};
 ghost use Rattle.sketch_rules.specs.Counters.{Raises, Halves};
-ghost use Rattle.sketch_rules.specs.Sketch.{counter, odds, halvedTo, oddsTo};
+ghost use Rattle.sketch_rules.specs.Sketch.{counter, odds, halved_to, odds_to};
 
 // Counter k of a word.
 pub fn counter_at(w: u64, k: u64) -> u64
@@ -40,8 +40,8 @@ pub fn count_odd(w: u64) -> u32
 pub fn age(table: &mut [u64], used: usize) -> u32
     requires used_in_bounds { used ≤ length table.old }
     requires used_bound { used ≤ 65536 }
-    ensures value { result ≡ oddsTo used table.old }
-    ensures table_after { table.new ≡ halvedTo used table.old }
+    ensures value { result ≡ odds_to used table.old }
+    ensures table_after { table.new ≡ halved_to used table.old }
 {
     let mut odd: u32 = 0;
     let mut i = 0;

@@ -1,9 +1,9 @@
 // Where a hash goes in a table of words: the host's function, and the work of the calls, which is unchecked and for
 // proved code only.
 ghost use Rattle.std.specs.Prelude.{◌≡◌, ◌<◌, true};
-ghost use Rattle.numbers.specs.Shared.{isPowerTo};
+ghost use Rattle.numbers.specs.Shared.{is_power_to};
 ghost use Rattle.sketch_rules.specs.Index.{Places};
-ghost use Rattle.sketch_rules.specs.Sketch.{seed, wordIndex};
+ghost use Rattle.sketch_rules.specs.Sketch.{seed, word_index};
 
 // The seed of a depth.
 fn seed_of(depth: u64) -> u64
@@ -21,7 +21,7 @@ fn seed_of(depth: u64) -> u64
 // The word of a hash at a depth, in a table of so many words.
 pub fn word_at(hash: u64, depth: u64, words: u64) -> u64
     requires depth_bound { depth < 4 }
-    requires words_value { isPowerTo 16 words ≡ true }
+    requires words_value { is_power_to 16 words ≡ true }
     ensures { Places hash depth words result }
 {
     let s = seed_of(depth);
@@ -33,7 +33,7 @@ pub fn word_at(hash: u64, depth: u64, words: u64) -> u64
 // `mask` + 1 is not a power of two up to 65,536.
 #[unsafe(no_mangle)]
 pub extern "C" fn word_index(hash: u64, depth: u64, mask: u64) -> u64
-    ensures { result ≡ wordIndex hash depth mask }
+    ensures { result ≡ word_index hash depth mask }
 {
     if depth > 3 {
         return 65536;

@@ -2,7 +2,7 @@
 ghost use Rattle.std.specs.Prelude.{◌≡◌, ◌<◌, ◌≤◌, min, ◌++◌, length, drop, replicate};
 ghost use Rattle.sketch_rules.specs.Aging.{Ready, Settles, Raises};
 ghost use Rattle.sketch_rules.specs.Hashes.{InUse, Counts};
-ghost use Rattle.sketch_rules.specs.Sketch.{least, raisedAt, risesAt, grownSize, agedSize};
+ghost use Rattle.sketch_rules.specs.Sketch.{least, raised_at, rises_at, grown_size, aged_size};
 
 use crate::index::word_at;
 pub use sketch_rules::Counted;
@@ -36,8 +36,8 @@ pub fn least_count(table: &[u64], used: usize, hash: u64) -> u64
 fn raise_at(table: &mut [u64], at: usize, k: u64) -> u64
     requires at_in_bounds { at < length table.old }
     requires k_bound { k < 16 }
-    ensures value { result ≡ risesAt table.old at k }
-    ensures table_after { table.new ≡ raisedAt table.old at k }
+    ensures value { result ≡ rises_at table.old at k }
+    ensures table_after { table.new ≡ raised_at table.old at k }
 {
     let w = table[at];
     let v = crate::counters::raise(w, k);
@@ -81,7 +81,7 @@ pub fn clear(table: &mut [u64], words: usize)
 // The size count after so many counters rose.
 fn grown_size(sketch: Sketch, rose: u64) -> u64
     requires { sketch.size < sketch.sample }
-    ensures { result ≡ grownSize sketch rose }
+    ensures { result ≡ grown_size sketch rose }
 {
     if 0 < rose {
         sketch.size + 1
@@ -92,7 +92,7 @@ fn grown_size(sketch: Sketch, rose: u64) -> u64
 
 // The size count after an aging that found so many odd counters; 0 where they are too many.
 fn aged_size(size: u64, odd: u64) -> u64
-    ensures { result ≡ agedSize size odd }
+    ensures { result ≡ aged_size size odd }
 {
     let half = size / 2;
     let less = odd / 4;

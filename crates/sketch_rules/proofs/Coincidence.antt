@@ -12,7 +12,7 @@ use Rattle.sketch_rules.specs.declared.Estimated.{Estimated}
 use Rattle.sketch_rules.specs.declared.Estimated.TheVariants as estimated
 use Rattle.sketch_rules.specs.declared.Increased.{Increased}
 use Rattle.sketch_rules.specs.declared.Increased.TheVariants as increased
-use Rattle.sketch_rules.specs.Sketch.{wordIndex, fields, unusedSketch, ensuredSays, estimatedSays, increasedSays, Ensures, Estimates, Increases}
+use Rattle.sketch_rules.specs.Sketch.{word_index, fields, unused_sketch, ensured_says, estimated_says, increased_says, Ensures, Estimates, Increases}
 
 -- ---- an answer's number and values leave one answer
 
@@ -20,8 +20,8 @@ values_of : {a b : Answer} → a ≡ b → a.values ≡ b.values
 values_of e = ap (λ (x : Answer). x.values) e
 
 -- a record is its three values
-pub same-sketch : (s u : Sketch) → fields s ≡ fields u → s ≡ u
-same-sketch s u e =
+pub same_sketch : (s u : Sketch) → fields s ≡ fields u → s ≡ u
+same_sketch s u e =
     λ i.
     record {
       used = ap (λ (l : List ℕ). get_or l 0 0) e i;
@@ -30,43 +30,43 @@ same-sketch s u e =
     }
 
 -- an answer with a value is no refusal
-pub no-values : (x : ℕ) (xs : List ℕ) → (x ∷ xs) ≡ [] → ⊥
-no-values x xs e = omega (arith, ap length e)
+pub no_values : (x : ℕ) (xs : List ℕ) → (x ∷ xs) ≡ [] → ⊥
+no_values x xs e = omega (arith, ap length e)
 
-ensured-only : (r u : Ensured) → ensuredSays r ≡ ensuredSays u → r ≡ u
-ensured-only (ensured.Done s) (ensured.Done t) e = ap ensured.Done (same-sketch s t (values_of e))
-ensured-only (ensured.Done s) (ensured.Refused n) e = absurd (no-values _ _ (values_of e))
-ensured-only (ensured.Refused n) (ensured.Done s) e = absurd (no-values _ _ (sym (values_of e)))
-ensured-only (ensured.Refused n) (ensured.Refused m) e = ap (λ (x : Answer). ensured.Refused x.number) e
+ensured_only : (r u : Ensured) → ensured_says r ≡ ensured_says u → r ≡ u
+ensured_only (ensured.Done s) (ensured.Done t) e = ap ensured.Done (same_sketch s t (values_of e))
+ensured_only (ensured.Done s) (ensured.Refused n) e = absurd (no_values _ _ (values_of e))
+ensured_only (ensured.Refused n) (ensured.Done s) e = absurd (no_values _ _ (sym (values_of e)))
+ensured_only (ensured.Refused n) (ensured.Refused m) e = ap (λ (x : Answer). ensured.Refused x.number) e
 
-estimated-only : (r u : Estimated) → estimatedSays r ≡ estimatedSays u → r ≡ u
-estimated-only (estimated.Least k) (estimated.Least j) e = ap (λ (x : Answer). estimated.Least (get_or x.values 0 0)) e
-estimated-only (estimated.Least k) (estimated.Refused n) e = absurd (no-values _ _ (values_of e))
-estimated-only (estimated.Refused n) (estimated.Least k) e = absurd (no-values _ _ (sym (values_of e)))
-estimated-only (estimated.Refused n) (estimated.Refused m) e = ap (λ (x : Answer). estimated.Refused x.number) e
+estimated_only : (r u : Estimated) → estimated_says r ≡ estimated_says u → r ≡ u
+estimated_only (estimated.Least k) (estimated.Least j) e = ap (λ (x : Answer). estimated.Least (get_or x.values 0 0)) e
+estimated_only (estimated.Least k) (estimated.Refused n) e = absurd (no_values _ _ (values_of e))
+estimated_only (estimated.Refused n) (estimated.Least k) e = absurd (no_values _ _ (sym (values_of e)))
+estimated_only (estimated.Refused n) (estimated.Refused m) e = ap (λ (x : Answer). estimated.Refused x.number) e
 
-increased-only : (r u : Increased) → increasedSays r ≡ increasedSays u → r ≡ u
-increased-only (increased.Done s) (increased.Done t) e = ap increased.Done (same-sketch s t (values_of e))
-increased-only (increased.Done s) (increased.Refused n) e = absurd (no-values _ _ (values_of e))
-increased-only (increased.Refused n) (increased.Done s) e = absurd (no-values _ _ (sym (values_of e)))
-increased-only (increased.Refused n) (increased.Refused m) e = ap (λ (x : Answer). increased.Refused x.number) e
+increased_only : (r u : Increased) → increased_says r ≡ increased_says u → r ≡ u
+increased_only (increased.Done s) (increased.Done t) e = ap increased.Done (same_sketch s t (values_of e))
+increased_only (increased.Done s) (increased.Refused n) e = absurd (no_values _ _ (values_of e))
+increased_only (increased.Refused n) (increased.Done s) e = absurd (no_values _ _ (sym (values_of e)))
+increased_only (increased.Refused n) (increased.Refused m) e = ap (λ (x : Answer). increased.Refused x.number) e
 
 -- ---- the calls
 
-pub unused-coincides : (r u : Sketch) → r ≡ unusedSketch → u ≡ unusedSketch → r ≡ u
-unused-coincides r u p q = p ∙ sym q
+pub unused_coincides : (r u : Sketch) → r ≡ unused_sketch → u ≡ unused_sketch → r ≡ u
+unused_coincides r u p q = p ∙ sym q
 
-pub ensure-coincides : (t : List ℕ) (s : Sketch) (capacity : ℕ) (r u : Ensured) (a b : List ℕ)
+pub ensure_coincides : (t : List ℕ) (s : Sketch) (capacity : ℕ) (r u : Ensured) (a b : List ℕ)
     → Ensures t s capacity r a → Ensures t s capacity u b → (r ≡ u) × (a ≡ b)
-ensure-coincides t s capacity r u a b p q = (ensured-only r u (p.says ∙ sym q.says), p.table ∙ sym q.table)
+ensure_coincides t s capacity r u a b p q = (ensured_only r u (p.says ∙ sym q.says), p.table ∙ sym q.table)
 
-pub estimate-coincides : (t : List ℕ) (s : Sketch) (hash : ℕ) (r u : Estimated) → Estimates t s hash r → Estimates t s hash u → r ≡ u
-estimate-coincides t s hash r u p q = estimated-only r u (p.says ∙ sym q.says)
+pub estimate_coincides : (t : List ℕ) (s : Sketch) (hash : ℕ) (r u : Estimated) → Estimates t s hash r → Estimates t s hash u → r ≡ u
+estimate_coincides t s hash r u p q = estimated_only r u (p.says ∙ sym q.says)
 
-pub increase-coincides : (t : List ℕ) (s : Sketch) (hash : ℕ) (r u : Increased) (a b : List ℕ)
+pub increase_coincides : (t : List ℕ) (s : Sketch) (hash : ℕ) (r u : Increased) (a b : List ℕ)
     → Increases t s hash r a → Increases t s hash u b → (r ≡ u) × (a ≡ b)
-increase-coincides t s hash r u a b p q = (increased-only r u (p.says ∙ sym q.says), p.table ∙ sym q.table)
+increase_coincides t s hash r u a b p q = (increased_only r u (p.says ∙ sym q.says), p.table ∙ sym q.table)
 
 -- the host's function
-pub word-index-coincides : (hash depth mask r u : ℕ) → r ≡ wordIndex hash depth mask → u ≡ wordIndex hash depth mask → r ≡ u
-word-index-coincides hash depth mask r u p q = p ∙ sym q
+pub word_index_coincides : (hash depth mask r u : ℕ) → r ≡ word_index hash depth mask → u ≡ word_index hash depth mask → r ≡ u
+word_index_coincides hash depth mask r u p q = p ∙ sym q

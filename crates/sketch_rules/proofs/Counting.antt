@@ -10,71 +10,71 @@ use lib.Dec.{ltb}
 use lib.ListN.{length, get_or, set, length-set}
 use lib.Seq.{set-get_or}
 use borrow.Author.Tests.{ltb-true, ltb-false}
-use Rattle.sketch_rules.specs.Sketch.{counter, raised, word_at, counterOf, countAt, least, raisedAt, risesAt, counted, rose}
-use Rattle.sketch_rules.proofs.Words.{counter-below}
-use Rattle.sketch_rules.proofs.Rises.{raised-new, raised-same, one_up}
+use Rattle.sketch_rules.specs.Sketch.{counter, raised, word_at, counter_of, count_at, least, raised_at, rises_at, counted, rose}
+use Rattle.sketch_rules.proofs.Words.{counter_below}
+use Rattle.sketch_rules.proofs.Rises.{raised_new, raised_same, one_up}
 
 -- ---- raising: the word changes just where the counter rises
 
-pub word-changed : (w k v : ℕ) → v ≡ raised w k → (v ≡ w → ⊥) → ◌≡◌ {A = ℕ} 1 (cond (ltb (counter w k) 15) 1 0)
-word-changed w k v e n = go (ltb (counter w k) 15) refl
+pub word_changed : (w k v : ℕ) → v ≡ raised w k → (v ≡ w → ⊥) → ◌≡◌ {A = ℕ} 1 (cond (ltb (counter w k) 15) 1 0)
+word_changed w k v e n = go (ltb (counter w k) 15) refl
   where
     go : (b : Bool) → ltb (counter w k) 15 ≡ b → ◌≡◌ {A = ℕ} 1 (cond b 1 0)
     go true h = refl
-    go false h = absurd (n (e ∙ raised-same w k (ltb-false (counter w k) 15 h)))
+    go false h = absurd (n (e ∙ raised_same w k (ltb-false (counter w k) 15 h)))
 
 pub word_same : (w k v : ℕ) → v ≡ raised w k → v ≡ w → ◌≡◌ {A = ℕ} 0 (cond (ltb (counter w k) 15) 1 0)
 word_same w k v e q = go (ltb (counter w k) 15) refl
   where
     go : (b : Bool) → ltb (counter w k) 15 ≡ b → ◌≡◌ {A = ℕ} 0 (cond b 1 0)
-    go true h = absurd (omega (arith, e, q, raised-new w k (ltb-true (counter w k) 15 h), one_up k))
+    go true h = absurd (omega (arith, e, q, raised_new w k (ltb-true (counter w k) 15 h), one_up k))
     go false h = refl
 
 -- and then the table is as it was
-pub table_same : (t : List ℕ) (at k v : ℕ) → v ≡ raised (get_or t at 0) k → v ≡ get_or t at 0 → t ≡ raisedAt t at k
+pub table_same : (t : List ℕ) (at k v : ℕ) → v ≡ raised (get_or t at 0) k → v ≡ get_or t at 0 → t ≡ raised_at t at k
 table_same t at k v e q = sym (ap (set t at) (sym e ∙ q) ∙ set-get_or t at 0)
 
-pub rises-le : (t : List ℕ) (at k : ℕ) → risesAt t at k ≤ 1
-rises-le t at k = go (ltb (counter (get_or t at 0) k) 15)
+pub rises_le : (t : List ℕ) (at k : ℕ) → rises_at t at k ≤ 1
+rises_le t at k = go (ltb (counter (get_or t at 0) k) 15)
   where
     go : (b : Bool) → cond b 1 0 ≤ 1
     go true = le_refl 1
     go false = zero-le
 
-pub counted-length : (hash n i : ℕ) (t : List ℕ) → length (counted hash n i t) ≡ length t
+pub counted_length : (hash n i : ℕ) (t : List ℕ) → length (counted hash n i t) ≡ length t
 unfolding counted
-counted-length hash n zero t = refl
-counted-length hash n (suc i) t = length-set (counted hash n i t) (word_at hash i n) _ ∙ counted-length hash n i t
+counted_length hash n zero t = refl
+counted_length hash n (suc i) t = length-set (counted hash n i t) (word_at hash i n) _ ∙ counted_length hash n i t
 
 -- ---- a turn of the counting loop
 
-module _ (hash n i : ℕ) (t₀ t : List ℕ) (at k : ℕ) (e : t ≡ counted hash n i t₀) (a : at ≡ word_at hash i n) (b : k ≡ counterOf hash i) where
-  pub turn-table : (t' : List ℕ) → t' ≡ raisedAt t at k → t' ≡ counted hash n (i + 1) t₀
+module _ (hash n i : ℕ) (t₀ t : List ℕ) (at k : ℕ) (e : t ≡ counted hash n i t₀) (a : at ≡ word_at hash i n) (b : k ≡ counter_of hash i) where
+  pub turn_table : (t' : List ℕ) → t' ≡ raised_at t at k → t' ≡ counted hash n (i + 1) t₀
   unfolding counted
-  turn-table t' p = p ∙ (λ j. raisedAt (e j) (a j) (b j)) ∙ ap (λ (m : ℕ). counted hash n m t₀) (sym (add-one i))
+  turn_table t' p = p ∙ (λ j. raised_at (e j) (a j) (b j)) ∙ ap (λ (m : ℕ). counted hash n m t₀) (sym (add-one i))
 
-  pub turn-rose : (u r : ℕ) → u ≡ rose hash n i t₀ → r ≡ risesAt t at k → u + r ≡ rose hash n (i + 1) t₀
+  pub turn_rose : (u r : ℕ) → u ≡ rose hash n i t₀ → r ≡ rises_at t at k → u + r ≡ rose hash n (i + 1) t₀
   unfolding rose
-  turn-rose u r p q = (λ j. p j + (q ∙ (λ l. risesAt (e l) (a l) (b l))) j) ∙ ap (λ (m : ℕ). rose hash n m t₀) (sym (add-one i))
+  turn_rose u r p q = (λ j. p j + (q ∙ (λ l. rises_at (e l) (a l) (b l))) j) ∙ ap (λ (m : ℕ). rose hash n m t₀) (sym (add-one i))
 
 -- ---- the least of the counters at the first i depths, and 15
 
-unfoldable pub leastTo : ℕ → ℕ → ℕ → List ℕ → ℕ
-leastTo hash n zero t = 15
-leastTo hash n (suc i) t = min (leastTo hash n i t) (countAt hash n i t)
+unfoldable pub least_to : ℕ → ℕ → ℕ → List ℕ → ℕ
+least_to hash n zero t = 15
+least_to hash n (suc i) t = min (least_to hash n i t) (count_at hash n i t)
 
-pub turn-least : (hash n i : ℕ) (t : List ℕ) (at k : ℕ) → at ≡ word_at hash i n → k ≡ counterOf hash i
-    → (m c r : ℕ) → m ≡ leastTo hash n i t → c ≡ counter (get_or t at 0) k → r ≡ min m c → r ≡ leastTo hash n (i + 1) t
-unfolding leastTo
-turn-least hash n i t at k a b m c r p q e =
-    e ∙ ap₂ min p (q ∙ (λ j. counter (get_or t (a j) 0) (b j))) ∙ ap (λ (l : ℕ). leastTo hash n l t) (sym (add-one i))
+pub turn_least : (hash n i : ℕ) (t : List ℕ) (at k : ℕ) → at ≡ word_at hash i n → k ≡ counter_of hash i
+    → (m c r : ℕ) → m ≡ least_to hash n i t → c ≡ counter (get_or t at 0) k → r ≡ min m c → r ≡ least_to hash n (i + 1) t
+unfolding least_to
+turn_least hash n i t at k a b m c r p q e =
+    e ∙ ap₂ min p (q ∙ (λ j. counter (get_or t (a j) 0) (b j))) ∙ ap (λ (l : ℕ). least_to hash n l t) (sym (add-one i))
 
 -- no counter is above 15, so at four depths it is the least of the four
-pub least-of-four : (hash n : ℕ) (t : List ℕ) → leastTo hash n 4 t ≡ least hash n t
-unfolding leastTo least
-least-of-four hash n t =
-    ap (λ (m : ℕ). min (min (min m (countAt hash n 1 t)) (countAt hash n 2 t)) (countAt hash n 3 t))
-    (capped (countAt hash n 0 t) (counter-below (get_or t (word_at hash 0 n) 0) (counterOf hash 0)))
+pub least_of_four : (hash n : ℕ) (t : List ℕ) → least_to hash n 4 t ≡ least hash n t
+unfolding least_to least
+least_of_four hash n t =
+    ap (λ (m : ℕ). min (min (min m (count_at hash n 1 t)) (count_at hash n 2 t)) (count_at hash n 3 t))
+    (capped (count_at hash n 0 t) (counter_below (get_or t (word_at hash 0 n) 0) (counter_of hash 0)))
   where
     capped : (c : ℕ) → c < 16 → min 15 c ≡ c
     capped c l = omega arith

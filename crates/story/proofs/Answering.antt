@@ -10,135 +10,135 @@ use Rattle.face_rules.specs.declared.Scheduled.{Scheduled}
 use Rattle.face_rules.specs.declared.Scheduled.TheVariants.{Armed, Refused as ScheduledRefused}
 use Rattle.face_rules.specs.declared.Pulled.{Pulled}
 use Rattle.face_rules.specs.declared.Pulled.TheVariants.{Expired, Rescheduled as Placed, End, Refused as PulledRefused}
-use Rattle.face_rules.specs.Face.{scheduledSays, pulledSays}
+use Rattle.face_rules.specs.Face.{scheduled_says, pulled_says}
 use Rattle.wheel_rules.specs.declared.calls.Noted.{Noted}
 use Rattle.wheel_rules.specs.declared.calls.Noted.TheVariants.{Done, Refused as NotedRefused}
 use Rattle.wheel_rules.specs.declared.calls.Counted.{Counted}
 use Rattle.wheel_rules.specs.declared.calls.Counted.TheVariants.{Armed as Count, Refused as CountedRefused}
-use Rattle.wheel_rules.specs.Promise.{notedSays, countedSays}
+use Rattle.wheel_rules.specs.Promise.{noted_says, counted_says}
 use Rattle.story.specs.Tests.{Whether, Agree}
 
 -- the answer is the expected one, or cannot be
-it-is : (a b : Answer) → a ≡ b → Whether a b true
-it-is a b e = record { yes = λ i. refl; only = λ t. e }
+it_is : (a b : Answer) → a ≡ b → Whether a b true
+it_is a b e = record { yes = λ i. refl; only = λ t. e }
 
-it-is-not : (a b : Answer) → (a ≡ b → ⊥) → Whether a b false
-it-is-not a b n = record { yes = λ i. absurd (n i); only = λ t. absurd (false≢true t) }
+it_is_not : (a b : Answer) → (a ≡ b → ⊥) → Whether a b false
+it_is_not a b n = record { yes = λ i. absurd (n i); only = λ t. absurd (false≢true t) }
 
 -- ---- done, or a refusal
 module _ (a : Noted) where
-  pub noted-yes : a ≡ Done → Whether (notedSays a) ok true
-  noted-yes e = it-is _ _ (ap notedSays e)
+  pub noted_yes : a ≡ Done → Whether (noted_says a) ok true
+  noted_yes e = it_is _ _ (ap noted_says e)
 
-  pub noted-no : (n : ℕ) → a ≡ NotedRefused n → Whether (notedSays a) ok false
-  noted-no n e = it-is-not _ _ (λ i. let s : notedSays a ≡ refused n = ap notedSays e in let z : ◌≡◌ {A = ℕ} 0 1 = cc in omega arith)
+  pub noted_no : (n : ℕ) → a ≡ NotedRefused n → Whether (noted_says a) ok false
+  noted_no n e = it_is_not _ _ (λ i. let s : noted_says a ≡ refused n = ap noted_says e in let z : ◌≡◌ {A = ℕ} 0 1 = cc in omega arith)
 
-  pub refused-no : (n : ℕ) → a ≡ Done → Whether (notedSays a) (refused n) false
-  refused-no n e = it-is-not _ _ (λ i. let s : notedSays a ≡ ok = ap notedSays e in let z : ◌≡◌ {A = ℕ} 0 1 = cc in omega arith)
+  pub refused_no : (n : ℕ) → a ≡ Done → Whether (noted_says a) (refused n) false
+  refused_no n e = it_is_not _ _ (λ i. let s : noted_says a ≡ ok = ap noted_says e in let z : ◌≡◌ {A = ℕ} 0 1 = cc in omega arith)
 
-  pub refused_as : (n k : ℕ) → a ≡ NotedRefused k → Whether (notedSays a) (refused n) (eqb k n)
+  pub refused_as : (n k : ℕ) → a ≡ NotedRefused k → Whether (noted_says a) (refused n) (eqb k n)
   refused_as n k e =
-      let s : notedSays a ≡ refused k = ap notedSays e in
+      let s : noted_says a ≡ refused k = ap noted_says e in
       record { yes = λ i. eq-eqb k n (cc); only = λ t. s ∙ ap refused (eqb-true k n t) }
 
 -- ---- a handle
 module _ (a : Scheduled) (x n : ℕ) where
-  pub handle-as : (y m : ℕ) → a ≡ Armed y m → y ≡ x → Whether (scheduledSays a) (handle x n) (eqb m n)
-  handle-as y m e p =
-      let s : scheduledSays a ≡ handle y m = ap scheduledSays e in
+  pub handle_as : (y m : ℕ) → a ≡ Armed y m → y ≡ x → Whether (scheduled_says a) (handle x n) (eqb m n)
+  handle_as y m e p =
+      let s : scheduled_says a ≡ handle y m = ap scheduled_says e in
       record { yes = λ i. eq-eqb m n (cc); only = λ t. let q : m ≡ n = eqb-true m n t in cc }
 
-  pub handle-other : (y m : ℕ) → a ≡ Armed y m → (y ≡ x → ⊥) → Whether (scheduledSays a) (handle x n) false
-  handle-other y m e p = it-is-not _ _ (λ i. let s : scheduledSays a ≡ handle y m = ap scheduledSays e in p (cc))
+  pub handle_other : (y m : ℕ) → a ≡ Armed y m → (y ≡ x → ⊥) → Whether (scheduled_says a) (handle x n) false
+  handle_other y m e p = it_is_not _ _ (λ i. let s : scheduled_says a ≡ handle y m = ap scheduled_says e in p (cc))
 
-  pub handle-no : (k : ℕ) → a ≡ ScheduledRefused k → Whether (scheduledSays a) (handle x n) false
-  handle-no k e = it-is-not _ _ (λ i. let s : scheduledSays a ≡ refused k = ap scheduledSays e in let z : ◌≡◌ {A = ℕ} 0 1 = cc in omega arith)
+  pub handle_no : (k : ℕ) → a ≡ ScheduledRefused k → Whether (scheduled_says a) (handle x n) false
+  handle_no k e = it_is_not _ _ (λ i. let s : scheduled_says a ≡ refused k = ap scheduled_says e in let z : ◌≡◌ {A = ℕ} 0 1 = cc in omega arith)
 
 -- ---- events
 module _ (e n k x m l : ℕ) where
-  pub agree-not-first : (e ≡ x → ⊥) → Agree e n k x m l false
-  agree-not-first z = record { yes = λ p q r. absurd (z p); only = λ t. absurd (false≢true t) }
+  pub agree_not_first : (e ≡ x → ⊥) → Agree e n k x m l false
+  agree_not_first z = record { yes = λ p q r. absurd (z p); only = λ t. absurd (false≢true t) }
 
-  pub agree-not-second : (n ≡ m → ⊥) → Agree e n k x m l false
-  agree-not-second z = record { yes = λ p q r. absurd (z q); only = λ t. absurd (false≢true t) }
+  pub agree_not_second : (n ≡ m → ⊥) → Agree e n k x m l false
+  agree_not_second z = record { yes = λ p q r. absurd (z q); only = λ t. absurd (false≢true t) }
 
-  pub agree-third : e ≡ x → n ≡ m → Agree e n k x m l (eqb k l)
-  agree-third p q = record { yes = λ p q r. eq-eqb k l r; only = λ t. (p, q, eqb-true k l t) }
+  pub agree_third : e ≡ x → n ≡ m → Agree e n k x m l (eqb k l)
+  agree_third p q = record { yes = λ p q r. eq-eqb k l r; only = λ t. (p, q, eqb-true k l t) }
 
-pub ruleset agreeing = (agree-not-first, agree-not-second, agree-third)
+pub ruleset agreeing = (agree_not_first, agree_not_second, agree_third)
 
 module _ (a : Pulled) (e n d : ℕ) (r : Bool) (x m l : ℕ) (g : Agree e n d x m l r) where
-  pub expired-as : a ≡ Expired e n d → Whether (pulledSays a) (expired x m l) r
-  expired-as i =
-      let s : pulledSays a ≡ expired e n d = ap pulledSays i in
+  pub expired_as : a ≡ Expired e n d → Whether (pulled_says a) (expired x m l) r
+  expired_as i =
+      let s : pulled_says a ≡ expired e n d = ap pulled_says i in
       record { yes = λ j. g.yes (cc) (cc) (cc); only = λ t. let u = g.only t in cc (u.0, u.1, u.2) }
 
-  pub moved_as : a ≡ Placed e n d → Whether (pulledSays a) (rescheduled x m l) r
+  pub moved_as : a ≡ Placed e n d → Whether (pulled_says a) (rescheduled x m l) r
   moved_as i =
-      let s : pulledSays a ≡ rescheduled e n d = ap pulledSays i in
+      let s : pulled_says a ≡ rescheduled e n d = ap pulled_says i in
       record { yes = λ j. g.yes (cc) (cc) (cc); only = λ t. let u = g.only t in cc (u.0, u.1, u.2) }
 
 module _ (a : Pulled) (x m l : ℕ) where
-  pub expired-not-moved : (e n d : ℕ) → a ≡ Placed e n d → Whether (pulledSays a) (expired x m l) false
-  expired-not-moved e n d i = it-is-not _ _ (λ j. let s = ap pulledSays i in let z : ◌≡◌ {A = ℕ} 0 1 = cc in omega arith)
+  pub expired_not_moved : (e n d : ℕ) → a ≡ Placed e n d → Whether (pulled_says a) (expired x m l) false
+  expired_not_moved e n d i = it_is_not _ _ (λ j. let s = ap pulled_says i in let z : ◌≡◌ {A = ℕ} 0 1 = cc in omega arith)
 
-  pub expired-not-end : a ≡ End → Whether (pulledSays a) (expired x m l) false
-  expired-not-end i = it-is-not _ _ (λ j. let s = ap pulledSays i in let z : ◌≡◌ {A = ℕ} 0 1 = cc in omega arith)
+  pub expired_not_end : a ≡ End → Whether (pulled_says a) (expired x m l) false
+  expired_not_end i = it_is_not _ _ (λ j. let s = ap pulled_says i in let z : ◌≡◌ {A = ℕ} 0 1 = cc in omega arith)
 
-  pub expired-not-refused : (k : ℕ) → a ≡ PulledRefused k → Whether (pulledSays a) (expired x m l) false
-  expired-not-refused k i = it-is-not _ _ (λ j. let s = ap pulledSays i in let z : ◌≡◌ {A = ℕ} 0 1 = cc in omega arith)
+  pub expired_not_refused : (k : ℕ) → a ≡ PulledRefused k → Whether (pulled_says a) (expired x m l) false
+  expired_not_refused k i = it_is_not _ _ (λ j. let s = ap pulled_says i in let z : ◌≡◌ {A = ℕ} 0 1 = cc in omega arith)
 
-  pub moved-not-expired : (e n d : ℕ) → a ≡ Expired e n d → Whether (pulledSays a) (rescheduled x m l) false
-  moved-not-expired e n d i = it-is-not _ _ (λ j. let s = ap pulledSays i in let z : ◌≡◌ {A = ℕ} 0 1 = cc in omega arith)
+  pub moved_not_expired : (e n d : ℕ) → a ≡ Expired e n d → Whether (pulled_says a) (rescheduled x m l) false
+  moved_not_expired e n d i = it_is_not _ _ (λ j. let s = ap pulled_says i in let z : ◌≡◌ {A = ℕ} 0 1 = cc in omega arith)
 
-  pub moved-not-end : a ≡ End → Whether (pulledSays a) (rescheduled x m l) false
-  moved-not-end i = it-is-not _ _ (λ j. let s = ap pulledSays i in let z : ◌≡◌ {A = ℕ} 0 1 = cc in omega arith)
+  pub moved_not_end : a ≡ End → Whether (pulled_says a) (rescheduled x m l) false
+  moved_not_end i = it_is_not _ _ (λ j. let s = ap pulled_says i in let z : ◌≡◌ {A = ℕ} 0 1 = cc in omega arith)
 
-  pub moved-not-refused : (k : ℕ) → a ≡ PulledRefused k → Whether (pulledSays a) (rescheduled x m l) false
-  moved-not-refused k i = it-is-not _ _ (λ j. let s = ap pulledSays i in let z : ◌≡◌ {A = ℕ} 0 1 = cc in omega arith)
+  pub moved_not_refused : (k : ℕ) → a ≡ PulledRefused k → Whether (pulled_says a) (rescheduled x m l) false
+  moved_not_refused k i = it_is_not _ _ (λ j. let s = ap pulled_says i in let z : ◌≡◌ {A = ℕ} 0 1 = cc in omega arith)
 
 module _ (a : Pulled) where
-  pub end-yes : a ≡ End → Whether (pulledSays a) end true
-  end-yes e = it-is _ _ (ap pulledSays e)
+  pub end_yes : a ≡ End → Whether (pulled_says a) end true
+  end_yes e = it_is _ _ (ap pulled_says e)
 
-  pub end-not-expired : (e n d : ℕ) → a ≡ Expired e n d → Whether (pulledSays a) end false
-  end-not-expired e n d i = it-is-not _ _ (λ j. let s = ap pulledSays i in let z : ◌≡◌ {A = ℕ} 0 1 = cc in omega arith)
+  pub end_not_expired : (e n d : ℕ) → a ≡ Expired e n d → Whether (pulled_says a) end false
+  end_not_expired e n d i = it_is_not _ _ (λ j. let s = ap pulled_says i in let z : ◌≡◌ {A = ℕ} 0 1 = cc in omega arith)
 
-  pub end-not-moved : (e n d : ℕ) → a ≡ Placed e n d → Whether (pulledSays a) end false
-  end-not-moved e n d i = it-is-not _ _ (λ j. let s = ap pulledSays i in let z : ◌≡◌ {A = ℕ} 0 1 = cc in omega arith)
+  pub end_not_moved : (e n d : ℕ) → a ≡ Placed e n d → Whether (pulled_says a) end false
+  end_not_moved e n d i = it_is_not _ _ (λ j. let s = ap pulled_says i in let z : ◌≡◌ {A = ℕ} 0 1 = cc in omega arith)
 
-  pub end-not-refused : (k : ℕ) → a ≡ PulledRefused k → Whether (pulledSays a) end false
-  end-not-refused k i = it-is-not _ _ (λ j. let s = ap pulledSays i in let z : ◌≡◌ {A = ℕ} 0 1 = cc in omega arith)
+  pub end_not_refused : (k : ℕ) → a ≡ PulledRefused k → Whether (pulled_says a) end false
+  end_not_refused k i = it_is_not _ _ (λ j. let s = ap pulled_says i in let z : ◌≡◌ {A = ℕ} 0 1 = cc in omega arith)
 
 -- ---- a count
-pub count-as : (a : Counted) (n k : ℕ) → a ≡ Count k → Whether (countedSays a) (number n) (eqb k n)
-count-as a n k e =
-    let s : countedSays a ≡ number k = ap countedSays e in
+pub count_as : (a : Counted) (n k : ℕ) → a ≡ Count k → Whether (counted_says a) (number n) (eqb k n)
+count_as a n k e =
+    let s : counted_says a ≡ number k = ap counted_says e in
     record { yes = λ i. eq-eqb k n (cc); only = λ t. s ∙ ap number (eqb-true k n t) }
 
-pub count_no : (a : Counted) (n k : ℕ) → a ≡ CountedRefused k → Whether (countedSays a) (number n) false
-count_no a n k e = it-is-not _ _ (λ i. let s : countedSays a ≡ refused k = ap countedSays e in let z : ◌≡◌ {A = ℕ} 0 1 = cc in omega arith)
+pub count_no : (a : Counted) (n k : ℕ) → a ≡ CountedRefused k → Whether (counted_says a) (number n) false
+count_no a n k e = it_is_not _ _ (λ i. let s : counted_says a ≡ refused k = ap counted_says e in let z : ◌≡◌ {A = ℕ} 0 1 = cc in omega arith)
 
 pub ruleset answering = (
-  noted-yes,
-  noted-no,
-  refused-no,
+  noted_yes,
+  noted_no,
+  refused_no,
   refused_as,
-  handle-as,
-  handle-other,
-  handle-no,
-  expired-as,
+  handle_as,
+  handle_other,
+  handle_no,
+  expired_as,
   moved_as,
-  expired-not-moved,
-  expired-not-end,
-  expired-not-refused,
-  moved-not-expired,
-  moved-not-end,
-  moved-not-refused,
-  end-yes,
-  end-not-expired,
-  end-not-moved,
-  end-not-refused,
-  count-as,
+  expired_not_moved,
+  expired_not_end,
+  expired_not_refused,
+  moved_not_expired,
+  moved_not_end,
+  moved_not_refused,
+  end_yes,
+  end_not_expired,
+  end_not_moved,
+  end_not_refused,
+  count_as,
   count_no,
 )

@@ -12,8 +12,8 @@ use Rattle.story.specs.Held.{held}
 -- records of these lengths fit
 module _ (s : Held) (eh : length s.heads ≡ 165) (et : length s.tails ≡ 165) (en : length s.nodes ≡ 168) (ed : length s.dated ≡ 2)
     (el : length s.deadline ≡ 2) (em : length s.stamp ≡ 2) where
-  lengths-fit : enabling (held s) ≡ enable 168 2 true
-  lengths-fit =
+  lengths_fit : enabling (held s) ≡ enable 168 2 true
+  lengths_fit =
       rw (
         eh,
         et,
@@ -28,5 +28,5 @@ module _ (s : Held) (eh : length s.heads ≡ 165) (et : length s.tails ≡ 165) 
         em,
       ) refl
 
-  pub enabling-so : {S : Records} {a : Answer} → Promised (enabling (held s)) (held s) S a → Promised (enable 168 2 true) (held s) S a
-  enabling-so {S = S} {a = a} M = subst (λ (x : Call). Promised x (held s) S a) lengths-fit M
+  pub enabling_so : {S : Records} {a : Answer} → Promised (enabling (held s)) (held s) S a → Promised (enable 168 2 true) (held s) S a
+  enabling_so {S = S} {a = a} M = subst (λ (x : Call). Promised x (held s) S a) lengths_fit M

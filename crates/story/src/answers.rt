@@ -1,14 +1,14 @@
 // Whether an answer is the one that is expected.
 ghost use Rattle.rules.specs.Wheel.{ok, handle, end, expired, rescheduled, number};
-ghost use Rattle.face_rules.specs.Face.{scheduledSays, pulledSays};
-ghost use Rattle.wheel_rules.specs.Promise.{notedSays, countedSays};
+ghost use Rattle.face_rules.specs.Face.{scheduled_says, pulled_says};
+ghost use Rattle.wheel_rules.specs.Promise.{noted_says, counted_says};
 ghost use Rattle.rules.specs.Wheel as rules;
 ghost use Rattle.story.specs.Tests.{Whether, Agree};
 
 use face::{Counted, Noted, Pulled, Scheduled};
 
 pub fn is_refused(answer: Noted, n: u64) -> bool
-    ensures { Whether (notedSays answer) (rules.refused n) result }
+    ensures { Whether (noted_says answer) (rules.refused n) result }
 {
     match answer {
         Noted::Done => false,
@@ -17,7 +17,7 @@ pub fn is_refused(answer: Noted, n: u64) -> bool
 }
 
 pub fn is_noted(answer: Noted) -> bool
-    ensures { Whether (notedSays answer) ok result }
+    ensures { Whether (noted_says answer) ok result }
 {
     match answer {
         Noted::Done => true,
@@ -26,7 +26,7 @@ pub fn is_noted(answer: Noted) -> bool
 }
 
 pub fn is_handle(answer: Scheduled, slot: usize, serial: u64) -> bool
-    ensures { Whether (scheduledSays answer) (handle slot serial) result }
+    ensures { Whether (scheduled_says answer) (handle slot serial) result }
 {
     match answer {
         Scheduled::Armed { slot: x, serial: n } => if x == slot { n == serial } else { false },
@@ -35,7 +35,7 @@ pub fn is_handle(answer: Scheduled, slot: usize, serial: u64) -> bool
 }
 
 pub fn is_end(answer: Pulled) -> bool
-    ensures { Whether (pulledSays answer) end result }
+    ensures { Whether (pulled_says answer) end result }
 {
     match answer {
         Pulled::Expired {
@@ -54,7 +54,7 @@ pub fn is_end(answer: Pulled) -> bool
 }
 
 pub fn is_moved(answer: Pulled, entry: usize, serial: u64, place: u64) -> bool
-    ensures { Whether (pulledSays answer) (rescheduled entry serial place) result }
+    ensures { Whether (pulled_says answer) (rescheduled entry serial place) result }
 {
     match answer {
         Pulled::Expired {
@@ -73,7 +73,7 @@ pub fn is_moved(answer: Pulled, entry: usize, serial: u64, place: u64) -> bool
 }
 
 pub fn is_expired(answer: Pulled, entry: usize, serial: u64, deadline: u64) -> bool
-    ensures { Whether (pulledSays answer) (expired entry serial deadline) result }
+    ensures { Whether (pulled_says answer) (expired entry serial deadline) result }
 {
     match answer {
         Pulled::Expired {
@@ -105,7 +105,7 @@ fn agree(e: usize, n: u64, k: u64, entry: usize, serial: u64, last: u64) -> bool
 }
 
 pub fn is_count(answer: Counted, n: usize) -> bool
-    ensures { Whether (countedSays answer) (number n) result }
+    ensures { Whether (counted_says answer) (number n) result }
 {
     match answer {
         Counted::Armed(k) => k == n,

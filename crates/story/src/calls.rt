@@ -1,8 +1,8 @@
 // The face's calls on held records, each with the wheel's own promise.
 ghost use Rattle.std.proofs.Math.Option.{some};
-ghost use Rattle.rules.specs.Wheel.{setEntry, schedule, deschedule, start, pull, abandon, armedCount};
-ghost use Rattle.face_rules.specs.Face.{scheduledSays, pulledSays};
-ghost use Rattle.wheel_rules.specs.Promise.{notedSays, countedSays, Promised};
+ghost use Rattle.rules.specs.Wheel.{set_entry, schedule, deschedule, start, pull, abandon, armed_count};
+ghost use Rattle.face_rules.specs.Face.{scheduled_says, pulled_says};
+ghost use Rattle.wheel_rules.specs.Promise.{noted_says, counted_says, Promised};
 ghost use Rattle.story.specs.Held.{held};
 
 use crate::held::Held;
@@ -30,7 +30,7 @@ pub struct Pulling {
 
 // Sets the entry e to a deadline and a generation.
 pub fn set(s: Held, e: usize, due: u64, h: u32) -> Noting
-    ensures { Promised (setEntry e (some due) h) (held s) (held result.after) (notedSays result.answer) }
+    ensures { Promised (set_entry e (some due) h) (held s) (held result.after) (noted_says result.answer) }
 {
     let heads = s.heads;
     let tails = s.tails;
@@ -66,7 +66,7 @@ pub fn set(s: Held, e: usize, due: u64, h: u32) -> Noting
 
 // Arms a timer for the entry e.
 pub fn schedule(s: Held, e: usize, h: u32) -> Arming
-    ensures { Promised (schedule e h) (held s) (held result.after) (scheduledSays result.answer) }
+    ensures { Promised (schedule e h) (held s) (held result.after) (scheduled_says result.answer) }
 {
     let mut heads = s.heads;
     let mut tails = s.tails;
@@ -95,7 +95,7 @@ pub fn schedule(s: Held, e: usize, h: u32) -> Arming
 
 // Cancels the timer with the handle (slot, number).
 pub fn deschedule(s: Held, slot: usize, number: u64, h: u32) -> Noting
-    ensures { Promised (deschedule slot number h) (held s) (held result.after) (notedSays result.answer) }
+    ensures { Promised (deschedule slot number h) (held s) (held result.after) (noted_says result.answer) }
 {
     let mut heads = s.heads;
     let mut tails = s.tails;
@@ -124,7 +124,7 @@ pub fn deschedule(s: Held, slot: usize, number: u64, h: u32) -> Noting
 
 // Opens an advance to q.
 pub fn start(s: Held, q: u64) -> Noting
-    ensures { Promised (start q) (held s) (held result.after) (notedSays result.answer) }
+    ensures { Promised (start q) (held s) (held result.after) (noted_says result.answer) }
 {
     let heads = s.heads;
     let tails = s.tails;
@@ -150,7 +150,7 @@ pub fn start(s: Held, q: u64) -> Noting
 
 // One event of the advance, or End.
 pub fn pull(s: Held) -> Pulling
-    ensures { Promised pull (held s) (held result.after) (pulledSays result.answer) }
+    ensures { Promised pull (held s) (held result.after) (pulled_says result.answer) }
 {
     let mut heads = s.heads;
     let mut tails = s.tails;
@@ -179,7 +179,7 @@ pub fn pull(s: Held) -> Pulling
 
 // Abandons the advance.
 pub fn abandon(s: Held) -> Noting
-    ensures { Promised abandon (held s) (held result.after) (notedSays result.answer) }
+    ensures { Promised abandon (held s) (held result.after) (noted_says result.answer) }
 {
     let heads = s.heads;
     let tails = s.tails;
@@ -205,7 +205,7 @@ pub fn abandon(s: Held) -> Noting
 
 // How many timers are armed.
 pub fn armed_count(s: Held) -> Counted
-    ensures { Promised armedCount (held s) (held s) (countedSays result) }
+    ensures { Promised armed_count (held s) (held s) (counted_says result) }
 {
     let heads = s.heads;
     let tails = s.tails;

@@ -1,7 +1,7 @@
 // The chapters of the story: what is called, and what is expected of each answer. Unchecked: a chapter asks that the
 // story has come that far.
 ghost use Rattle.story.specs.Held.{held};
-ghost use Rattle.story.specs.Story.{Reached, begun, Watched, cancelled, abandoned, tooEarly, steppedBack, handedOut};
+ghost use Rattle.story.specs.Story.{Reached, begun, Watched, cancelled, abandoned, too_early, stepped_back, handed_out};
 
 use crate::answers::{is_count, is_end, is_expired, is_handle, is_moved, is_noted, is_refused};
 use crate::calls::{abandon, armed_count, deschedule, pull, schedule, set, start};
@@ -84,7 +84,7 @@ pub fn abandon_one(s: Held) -> Held
 // An advance to just before the deadline, in its tick, is read to its end: the timer is placed anew and not handed out.
 pub fn come_too_early(s: Held) -> Held
     requires { Reached abandoned (held s) }
-    ensures { Reached tooEarly (held result) }
+    ensures { Reached too_early (held result) }
 {
     let opening = start(s, DUE - 1);
     let opened = opening.answer;
@@ -102,8 +102,8 @@ pub fn come_too_early(s: Held) -> Held
 
 // The clock is stepped back to 5: nothing is handed out.
 pub fn step_back(s: Held) -> Held
-    requires { Reached tooEarly (held s) }
-    ensures { Reached steppedBack (held result) }
+    requires { Reached too_early (held s) }
+    ensures { Reached stepped_back (held result) }
 {
     let opening = start(s, 5);
     let opened = opening.answer;
@@ -120,8 +120,8 @@ pub fn step_back(s: Held) -> Held
 
 // An advance into a later tick than the deadline's hands the timer out, once.
 pub fn hand_out(s: Held) -> Held
-    requires { Reached steppedBack (held s) }
-    ensures { Reached handedOut (held result) }
+    requires { Reached stepped_back (held s) }
+    ensures { Reached handed_out (held result) }
 {
     let opening = start(s, 2 * TICK);
     let opened = opening.answer;
@@ -139,7 +139,7 @@ pub fn hand_out(s: Held) -> Held
 
 // No timer is armed any more.
 pub fn count_none(s: Held)
-    requires { Reached handedOut (held s) }
+    requires { Reached handed_out (held s) }
 {
     let count = armed_count(s);
     check::expect(is_count(count, 0));

@@ -2,9 +2,9 @@
 // call changed of them, with its answer. The other records are lent on.
 ghost use Rattle.std.specs.Prelude.{cond};
 ghost use Rattle.std.proofs.Math.Option.{none, some};
-ghost use Rattle.rules.specs.Wheel.{setEntry, schedule, deschedule, start, pull, abandon, armedCount};
-ghost use Rattle.face_rules.specs.Face.{scheduledSays, pulledSays};
-ghost use Rattle.wheel_rules.specs.Promise.{enabling, notedSays, countedSays, Promised};
+ghost use Rattle.rules.specs.Wheel.{set_entry, schedule, deschedule, start, pull, abandon, armed_count};
+ghost use Rattle.face_rules.specs.Face.{scheduled_says, pulled_says};
+ghost use Rattle.wheel_rules.specs.Promise.{enabling, noted_says, counted_says, Promised};
 ghost use Rattle.story.specs.Held.{before, after};
 
 use face::{Clock, Counted, Node, Noted, Pulled, Scheduled};
@@ -49,7 +49,7 @@ pub fn enable(
 ) -> NotedLeft
     ensures { Promised (enabling (before heads tails nodes dated deadline stamp clock))
         (before heads tails nodes dated deadline stamp clock)
-        (after heads tails result.nodes dated deadline stamp result.clock) (notedSays result.answer) }
+        (after heads tails result.nodes dated deadline stamp result.clock) (noted_says result.answer) }
 {
     let answer = face::enable(&mut nodes, &mut clock, heads, tails, dated, deadline, stamp);
     NotedLeft {
@@ -72,9 +72,9 @@ pub fn set_entry(
     due: u64,
     h: u32,
 ) -> Noted
-    ensures { Promised (setEntry e (cond has (some due) none) h)
+    ensures { Promised (set_entry e (cond has (some due) none) h)
         (before heads tails nodes dated deadline stamp clock)
-        (after heads tails nodes dated deadline stamp clock) (notedSays result) }
+        (after heads tails nodes dated deadline stamp clock) (noted_says result) }
 {
     face::set_entry(
         &nodes, clock, heads, tails, dated, deadline, stamp, e, has, due, h,
@@ -94,7 +94,7 @@ pub fn schedule(
 ) -> ScheduledLeft
     ensures { Promised (schedule e h)
         (before heads tails nodes dated deadline stamp clock)
-        (after heads tails result.nodes dated deadline stamp result.clock) (scheduledSays result.answer) }
+        (after heads tails result.nodes dated deadline stamp result.clock) (scheduled_says result.answer) }
 {
     let answer = face::schedule(
         &mut nodes, &mut clock, heads, tails, dated, deadline, stamp, e, h,
@@ -120,7 +120,7 @@ pub fn deschedule(
 ) -> NotedLeft
     ensures { Promised (deschedule slot number h)
         (before heads tails nodes dated deadline stamp clock)
-        (after heads tails result.nodes dated deadline stamp result.clock) (notedSays result.answer) }
+        (after heads tails result.nodes dated deadline stamp result.clock) (noted_says result.answer) }
 {
     let answer = face::deschedule(
         &mut nodes, &mut clock, heads, tails, dated, deadline, stamp, slot, number, h,
@@ -144,7 +144,7 @@ pub fn start(
 ) -> ClockLeft
     ensures { Promised (start q)
         (before heads tails nodes dated deadline stamp clock)
-        (after heads tails nodes dated deadline stamp result.clock) (notedSays result.answer) }
+        (after heads tails nodes dated deadline stamp result.clock) (noted_says result.answer) }
 {
     let answer = face::start(&nodes, &mut clock, heads, tails, dated, deadline, stamp, q);
     ClockLeft { clock, answer }
@@ -161,7 +161,7 @@ pub fn pull(
 ) -> PulledLeft
     ensures { Promised pull
         (before heads tails nodes dated deadline stamp clock)
-        (after heads tails result.nodes dated deadline stamp result.clock) (pulledSays result.answer) }
+        (after heads tails result.nodes dated deadline stamp result.clock) (pulled_says result.answer) }
 {
     let answer = face::pull(&mut nodes, &mut clock, heads, tails, dated, deadline, stamp);
     PulledLeft {
@@ -182,7 +182,7 @@ pub fn abandon(
 ) -> ClockLeft
     ensures { Promised abandon
         (before heads tails nodes dated deadline stamp clock)
-        (after heads tails nodes dated deadline stamp result.clock) (notedSays result.answer) }
+        (after heads tails nodes dated deadline stamp result.clock) (noted_says result.answer) }
 {
     let answer = face::abandon(&nodes, &mut clock, heads, tails, dated, deadline, stamp);
     ClockLeft { clock, answer }
@@ -197,9 +197,9 @@ pub fn armed_count(
     deadline: &[u64],
     stamp: &[u32],
 ) -> Counted
-    ensures { Promised armedCount
+    ensures { Promised armed_count
         (before heads tails nodes dated deadline stamp clock)
-        (after heads tails nodes dated deadline stamp clock) (countedSays result) }
+        (after heads tails nodes dated deadline stamp clock) (counted_says result) }
 {
     face::armed_count(&nodes, clock, heads, tails, dated, deadline, stamp)
 }

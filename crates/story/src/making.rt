@@ -1,7 +1,7 @@
 // Create and enable on held records, each with the wheel's own promise.
 ghost use Rattle.std.specs.Prelude.{true};
 ghost use Rattle.rules.specs.Wheel.{create, enable, ok};
-ghost use Rattle.wheel_rules.specs.Promise.{notedSays, Promised};
+ghost use Rattle.wheel_rules.specs.Promise.{noted_says, Promised};
 ghost use Rattle.story.specs.Held.{held};
 
 use crate::calls::Noting;
@@ -42,7 +42,7 @@ pub fn create(first: u64) -> Held
 
 // Enables the wheel over the held records.
 pub fn enable(s: Held) -> Noting
-    ensures { Promised (enable 168 2 true) (held s) (held result.after) (notedSays result.answer) }
+    ensures { Promised (enable 168 2 true) (held s) (held result.after) (noted_says result.answer) }
 {
     let mut heads = s.heads;
     let mut tails = s.tails;

@@ -1,7 +1,7 @@
 // Start and abandon: refusals in order, then the clock. They move no node. No `requires`. A refused call leaves every
 // record as found.
 ghost use Rattle.rules.specs.Wheel.{start, abandon};
-ghost use Rattle.wheel_rules.specs.Promise.{timedClock, timedSays, Promised};
+ghost use Rattle.wheel_rules.specs.Promise.{timed_clock, timed_says, Promised};
 ghost use Rattle.wheel_rules.specs.Lent.{before, after};
 
 use wheel_refusals::{closed_refusal, open_refusal};
@@ -26,8 +26,8 @@ pub fn start(
 ) -> Timed
     ensures { Promised (start q)
         (before heads tails next prev bucket entry generation serial dated deadline stamp clock)
-        (after heads tails next prev bucket entry generation serial dated deadline stamp (timedClock clock result))
-        (timedSays result) }
+        (after heads tails next prev bucket entry generation serial dated deadline stamp (timed_clock clock result))
+        (timed_says result) }
 {
     let no = closed_refusal(
         heads, tails, next, prev, bucket, entry, generation, serial, dated, deadline, stamp, clock,
@@ -57,8 +57,8 @@ pub fn abandon(
 ) -> Timed
     ensures { Promised abandon
         (before heads tails next prev bucket entry generation serial dated deadline stamp clock)
-        (after heads tails next prev bucket entry generation serial dated deadline stamp (timedClock clock result))
-        (timedSays result) }
+        (after heads tails next prev bucket entry generation serial dated deadline stamp (timed_clock clock result))
+        (timed_says result) }
 {
     let no = open_refusal(
         heads, tails, next, prev, bucket, entry, generation, serial, dated, deadline, stamp, clock,

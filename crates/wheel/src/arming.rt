@@ -1,6 +1,6 @@
 // Schedule: refusals in order, then the work. No `requires`. A refused call leaves every record as found.
 ghost use Rattle.rules.specs.Wheel.{schedule};
-ghost use Rattle.wheel_rules.specs.Promise.{scheduledClock, scheduledSays, Promised};
+ghost use Rattle.wheel_rules.specs.Promise.{scheduled_clock, scheduled_says, Promised};
 ghost use Rattle.wheel_rules.specs.Lent.{before, after};
 
 use wheel_refusals::schedule_refusal;
@@ -27,8 +27,8 @@ pub fn schedule(
 ) -> Scheduled
     ensures { Promised (schedule e h)
         (before heads tails next prev bucket entry generation serial dated deadline stamp clock)
-        (after heads tails next prev bucket entry generation serial dated deadline stamp (scheduledClock clock result))
-        (scheduledSays result) }
+        (after heads tails next prev bucket entry generation serial dated deadline stamp (scheduled_clock clock result))
+        (scheduled_says result) }
 {
     let no = schedule_refusal(
         heads, tails, next, prev, bucket, entry, generation, serial, dated, deadline, stamp, clock,

@@ -1,6 +1,6 @@
 // Armed count and next due: refusals in order, then the count. They change nothing. No `requires`.
-ghost use Rattle.rules.specs.Wheel.{armedCount, nextDue};
-ghost use Rattle.wheel_rules.specs.Promise.{countedSays, dueSays, Promised};
+ghost use Rattle.rules.specs.Wheel.{armed_count, next_due};
+ghost use Rattle.wheel_rules.specs.Promise.{counted_says, due_says, Promised};
 ghost use Rattle.wheel_rules.specs.Lent.{before, after};
 ghost use Rattle.wheel_rules.specs.calls.Answers.{TellsDue};
 
@@ -33,9 +33,9 @@ pub fn armed_count(
     stamp: &[u32],
     clock: Clock,
 ) -> Counted
-    ensures { Promised armedCount
+    ensures { Promised armed_count
         (before heads tails next prev bucket entry generation serial dated deadline stamp clock)
-        (after heads tails next prev bucket entry generation serial dated deadline stamp clock) (countedSays result) }
+        (after heads tails next prev bucket entry generation serial dated deadline stamp clock) (counted_says result) }
 {
     let no = standing_refusal(
         heads, tails, next, prev, bucket, entry, generation, serial, dated, deadline, stamp, clock,
@@ -62,9 +62,9 @@ pub fn next_due(
     stamp: &[u32],
     clock: Clock,
 ) -> Due
-    ensures { Promised nextDue
+    ensures { Promised next_due
         (before heads tails next prev bucket entry generation serial dated deadline stamp clock)
-        (after heads tails next prev bucket entry generation serial dated deadline stamp clock) (dueSays result) }
+        (after heads tails next prev bucket entry generation serial dated deadline stamp clock) (due_says result) }
 {
     let no = closed_refusal(
         heads, tails, next, prev, bucket, entry, generation, serial, dated, deadline, stamp, clock,

@@ -1,5 +1,5 @@
 // Enable: refusals in order, then the work. No `requires`. A refused call leaves every record as found.
-ghost use Rattle.wheel_rules.specs.Promise.{timedClock, timedSays, enabling, Promised};
+ghost use Rattle.wheel_rules.specs.Promise.{timed_clock, timed_says, enabling, Promised};
 ghost use Rattle.wheel_rules.specs.Lent.{before, after};
 
 use wheel_refusals::enable_refusal;
@@ -26,8 +26,8 @@ pub fn enable(
     ensures { Promised
         (enabling (before heads tails next prev bucket entry generation serial dated deadline stamp clock))
         (before heads tails next prev bucket entry generation serial dated deadline stamp clock)
-        (after heads tails next prev bucket entry generation serial dated deadline stamp (timedClock clock result))
-        (timedSays result) }
+        (after heads tails next prev bucket entry generation serial dated deadline stamp (timed_clock clock result))
+        (timed_says result) }
 {
     let no = enable_refusal(
         heads, tails, next, prev, bucket, entry, generation, serial, dated, deadline, stamp, clock,

@@ -1,7 +1,7 @@
 // The calls with a handle, reschedule and deschedule: refusals in order, then the work. No `requires`. A refused call
 // leaves every record as found.
 ghost use Rattle.rules.specs.Wheel.{reschedule, deschedule};
-ghost use Rattle.wheel_rules.specs.Promise.{rescheduledClock, timedClock, rescheduledSays, timedSays, Promised};
+ghost use Rattle.wheel_rules.specs.Promise.{rescheduled_clock, timed_clock, rescheduled_says, timed_says, Promised};
 ghost use Rattle.wheel_rules.specs.Lent.{before, after};
 
 use wheel_refusals::handle_refusal;
@@ -29,8 +29,8 @@ pub fn reschedule(
 ) -> Rescheduled
     ensures { Promised (reschedule slot number h)
         (before heads tails next prev bucket entry generation serial dated deadline stamp clock)
-        (after heads tails next prev bucket entry generation serial dated deadline stamp (rescheduledClock clock result))
-        (rescheduledSays result) }
+        (after heads tails next prev bucket entry generation serial dated deadline stamp (rescheduled_clock clock result))
+        (rescheduled_says result) }
 {
     let no = handle_refusal(
         heads, tails, next, prev, bucket, entry, generation, serial, dated, deadline, stamp, clock,
@@ -71,8 +71,8 @@ pub fn deschedule(
 ) -> Timed
     ensures { Promised (deschedule slot number h)
         (before heads tails next prev bucket entry generation serial dated deadline stamp clock)
-        (after heads tails next prev bucket entry generation serial dated deadline stamp (timedClock clock result))
-        (timedSays result) }
+        (after heads tails next prev bucket entry generation serial dated deadline stamp (timed_clock clock result))
+        (timed_says result) }
 {
     let no = handle_refusal(
         heads, tails, next, prev, bucket, entry, generation, serial, dated, deadline, stamp, clock,

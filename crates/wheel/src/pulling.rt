@@ -1,6 +1,6 @@
 // Pull: refusals in order, then the work. No `requires`. A refused call leaves every record as found.
 ghost use Rattle.rules.specs.Wheel.{pull};
-ghost use Rattle.wheel_rules.specs.Promise.{pulledClock, pulledSays, Promised};
+ghost use Rattle.wheel_rules.specs.Promise.{pulled_clock, pulled_says, Promised};
 ghost use Rattle.wheel_rules.specs.Lent.{before, after};
 ghost use Rattle.wheel_rules.specs.calls.Answers.{TellsEvent};
 
@@ -55,8 +55,8 @@ pub fn pull(
 ) -> Pulled
     ensures { Promised pull
         (before heads tails next prev bucket entry generation serial dated deadline stamp clock)
-        (after heads tails next prev bucket entry generation serial dated deadline stamp (pulledClock clock result))
-        (pulledSays result) }
+        (after heads tails next prev bucket entry generation serial dated deadline stamp (pulled_clock clock result))
+        (pulled_says result) }
 {
     let no = open_refusal(
         heads, tails, next, prev, bucket, entry, generation, serial, dated, deadline, stamp, clock,

@@ -1,8 +1,8 @@
 // Set entry: refusals in order, then the work. No `requires`. A refused call leaves every record as found.
 ghost use Rattle.std.specs.Prelude.{◌≡◌, cond};
 ghost use Rattle.std.proofs.Math.Option.{none, some};
-ghost use Rattle.rules.specs.Wheel.{setEntry};
-ghost use Rattle.wheel_rules.specs.Promise.{notedSays, Promised};
+ghost use Rattle.rules.specs.Wheel.{set_entry};
+ghost use Rattle.wheel_rules.specs.Promise.{noted_says, Promised};
 ghost use Rattle.wheel_rules.specs.Lent.{before, after};
 
 use wheel_refusals::entry_refusal;
@@ -35,9 +35,9 @@ pub fn set_entry(
     due: u64,
     h: u32,
 ) -> Noted
-    ensures { Promised (setEntry e (cond has (some due) none) h)
+    ensures { Promised (set_entry e (cond has (some due) none) h)
         (before heads tails next prev bucket entry generation serial dated deadline stamp clock)
-        (after heads tails next prev bucket entry generation serial dated deadline stamp clock) (notedSays result) }
+        (after heads tails next prev bucket entry generation serial dated deadline stamp clock) (noted_says result) }
 {
     let no = entry_refusal(
         heads, tails, next, prev, bucket, entry, generation, serial, dated, deadline, stamp, clock,

@@ -1,6 +1,6 @@
 // For proved code only, unchecked: what a pull answers, and the turn of a pull that pops one node.
 ghost use Rattle.rules.specs.Places.{wheel01};
-ghost use Rattle.wheel_rules.specs.Lent.{nodes, nodesBefore, nodesAfter};
+ghost use Rattle.wheel_rules.specs.Lent.{nodes, nodes_before, nodes_after};
 ghost use Rattle.wheel_rules.specs.popping.Pop.{PopReady, Pops};
 
 use wheel_rules::calls::Clock;
@@ -30,9 +30,9 @@ pub fn pop(
         dated.now deadline.now clock x }
     ensures { Pops
         wheel01
-        (nodesBefore heads tails next prev bucket entry generation serial) dated.now deadline.now
+        (nodes_before heads tails next prev bucket entry generation serial) dated.now deadline.now
         clock x
-        (nodesAfter heads tails next prev bucket entry generation serial) result }
+        (nodes_after heads tails next prev bucket entry generation serial) result }
 {
     let e = entry[x];
     let n = serial[x];

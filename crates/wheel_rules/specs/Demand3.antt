@@ -13,7 +13,7 @@ use Rattle.std.proofs.Math.Option.{some}
 use Rattle.deque_rules.specs.Links.{list_from, home_of}
 use Rattle.rules.specs.Places.{wheel01, buckets}
 use Rattle.rules.specs.Wheel.{Call, Answer, refused, schedule, reschedule, ok, handle, Timely, hit, count, start, pull, end, Later, abandon, handed}
-use Rattle.rules.specs.Wheel.{expired, LeftAlone, handsOut}
+use Rattle.rules.specs.Wheel.{expired, LeftAlone, hands_out}
 use Rattle.wheel_rules.specs.Promise.{Promised}
 use Rattle.wheel_rules.specs.Lent.{Records, entry_at}
 
@@ -45,8 +45,8 @@ pub record Arms (P R : Records) (x n e d : ℕ) : Type 0 where
 
 -- ---- where it stands
 -- the slots that the links of the bucket b lead through, from its head on
-abbrev pub chainOf : Records → ℕ → List ℕ
-chainOf R b = list_from (length R.nodes.links.next) R.nodes.links.next (get_or R.nodes.links.heads b 0)
+abbrev pub chain_of : Records → ℕ → List ℕ
+chain_of R b = list_from (length R.nodes.links.next) R.nodes.links.next (get_or R.nodes.links.heads b 0)
 
 -- "It stands in exactly one bucket": its slot is armed, with its serial and its entry, and one bucket's chain of links
 -- holds it, once
@@ -54,7 +54,7 @@ pub record InOneBucket (x n e : ℕ) (R : Records) : Type 0 where
   pub armed : home_of R.nodes.links x < buckets wheel01
   pub serial : get_or R.nodes.serial x 0 ≡ n
   pub entry : get_or R.nodes.entry x 0 ≡ e
-  pub once : (b : ℕ) → b < buckets wheel01 → count x (chainOf R b) ≡ hit (home_of R.nodes.links x) b
+  pub once : (b : ℕ) → b < buckets wheel01 → count x (chain_of R b) ≡ hit (home_of R.nodes.links x) b
 
 -- ---- advances
 -- an advance is open before each of the calls, and after them
@@ -98,7 +98,7 @@ pub record Among (R : Records) (cs : List Call) (rs : List Answer) (S : Records)
   pub further : List Answer
   pub on : Leads closed rest further S
   pub calls_are : cs ≡ before ++ ((start q ∷ ps) ++ (c ∷ rest))
-  pub answers-are : rs ≡ told ++ ((ok ∷ answers) ++ (a ∷ further))
+  pub answers_are : rs ≡ told ++ ((ok ∷ answers) ++ (a ∷ further))
 
 -- "the first": there is no such advance among the calls before
 abbrev pub NoneBefore : ℕ → Records → List Call → List Answer → Records → Type 0
@@ -111,27 +111,27 @@ AbandonedOneHad n R cs rs S = (a : Among R cs rs S abandon ok) × (handed n a.an
 -- ---- the demand, of the records R just after the timer was armed, over every history from there on
 pub record Demand3 (x n e d : ℕ) (R : Records) : Type 0 where
   -- "It stands in exactly one bucket until it is handed out."
-  pub oneBucket :
+  pub one_bucket :
       (cs : List Call) (rs : List Answer) (S : Records) → Leads R cs rs S → LeftAlone x n e d cs rs → handed n rs ≡ 0 → InOneBucket x n e S
   -- "No advance to a reading before the deadline hands it out."
-  pub notEarly :
+  pub not_early :
       (cs : List Call) (rs : List Answer) (S : Records) → Leads R cs rs S → LeftAlone x n e d cs rs →
       (q : ℕ) (ps : List Call) (ts : List Answer) (T : Records) → Advancing S q ps ts T → LeftAlone x n e d ps ts → q < d → handed n ts ≡ 0
   -- "The first advance that is read to its end, goes to the deadline or later and enters a later tick than the one it
   -- started in hands it out once, unless an abandoned one already had."
-  pub firstHandsOut :
+  pub first_hands_out :
       (cs : List Call) (rs : List Answer) (S : Records) → Leads R cs rs S → LeftAlone x n e d cs rs →
       (q : ℕ) (ps : List Call) (ts : List Answer) (U : Records) → Full d S q ps ts U → LeftAlone x n e d ps ts → NoneBefore d R cs rs S →
       (handed n ts ≡ 1) ⊎ AbandonedOneHad n R cs rs S
   -- At the end of every such advance, the first or a later one, it has been handed out, once.
-  pub byThen :
+  pub by_then :
       (cs : List Call) (rs : List Answer) (S : Records) → Leads R cs rs S → LeftAlone x n e d cs rs →
       (q : ℕ) (ps : List Call) (ts : List Answer) (U : Records) → Full d S q ps ts U → LeftAlone x n e d ps ts → handed n (rs ++ ts) ≡ 1
   -- It is handed out once at most.
-  pub atMostOnce : (cs : List Call) (rs : List Answer) (S : Records) → Leads R cs rs S → LeftAlone x n e d cs rs → handed n rs ≤ 1
+  pub at_most_once : (cs : List Call) (rs : List Answer) (S : Records) → Leads R cs rs S → LeftAlone x n e d cs rs → handed n rs ≤ 1
   -- What hands it out says its entry, serial and deadline, and is a pull of an open advance that goes to the deadline
   -- or later and enters a later tick.
   pub says :
       (cs : List Call) (rs : List Answer) (S : Records) → Leads R cs rs S → LeftAlone x n e d cs rs →
-      (c : Call) (a : Answer) (T : Records) → Promised c S T a → LeftAlone x n e d (c ∷ []) (a ∷ []) → 0 < handsOut n a →
+      (c : Call) (a : Answer) (T : Records) → Promised c S T a → LeftAlone x n e d (c ∷ []) (a ∷ []) → 0 < hands_out n a →
       (a ≡ expired e n d) × (S.clock.open ≡ true) × (d ≤ S.clock.reading) × Later wheel01 S.clock.previous S.clock.reading

@@ -2,8 +2,8 @@
 use Rattle.std.specs.Prelude.{ℕ, ◌≤◌, ◌<◌, suc, zero, Bool, true, false, cond, List, [], ◌⊎◌, ◌≡◌, ltb, length, get_or}
 use Rattle.std.proofs.Math.Option.{none, some}
 use Rattle.deque_rules.specs.Links.{Links, links, Whole, home_of, first, Deques, deq, Rep, listed}
-use Rattle.numbers.specs.Shared.{Numbers, Flags, no_slot, beforeIn, afterIn}
-use Rattle.rules.specs.Places.{Geometry, SoundPosition, buckets, visits, visitedAt, bucketAt, ahead}
+use Rattle.numbers.specs.Shared.{Numbers, Flags, no_slot, before_in, after_in}
+use Rattle.rules.specs.Places.{Geometry, SoundPosition, buckets, visits, visited_at, bucket_at, ahead}
 use Rattle.rules.specs.Wheel.{Slot, Entry, Advance, closed, poised, within, whole, Wheel, Bucket}
 use Rattle.wheel_rules.specs.declared.calls.Clock.{Clock}
 
@@ -42,19 +42,19 @@ records n e c = record { nodes = n; entries = e; clock = c }
 -- the records that lent slices and a clock are, before a call and after it, in the order in which every call takes
 -- them: heads, tails; next, prev, bucket, entry, generation, serial; dated, deadline, stamp (an entry's generation);
 -- clock
-abbrev pub nodesBefore : Numbers → Numbers → Numbers → Numbers → Numbers → Numbers → Numbers → Numbers → Nodes
-nodesBefore h t n p b e g s =
+abbrev pub nodes_before : Numbers → Numbers → Numbers → Numbers → Numbers → Numbers → Numbers → Numbers → Nodes
+nodes_before h t n p b e g s =
     nodes h.entry.now t.entry.now n.entry.now p.entry.now b.entry.now e.entry.now g.entry.now s.entry.now
 
-abbrev pub nodesAfter : Numbers → Numbers → Numbers → Numbers → Numbers → Numbers → Numbers → Numbers → Nodes
-nodesAfter h t n p b e g s =
+abbrev pub nodes_after : Numbers → Numbers → Numbers → Numbers → Numbers → Numbers → Numbers → Numbers → Nodes
+nodes_after h t n p b e g s =
     nodes h.exit.now t.exit.now n.exit.now p.exit.now b.exit.now e.exit.now g.exit.now s.exit.now
 
 abbrev pub before : Numbers → Numbers → Numbers → Numbers → Numbers → Numbers → Numbers → Numbers → Flags → Numbers → Numbers → Clock → Records
-before h t n p b e g s d l m c = records (nodesBefore h t n p b e g s) (entries d.entry.now l.entry.now m.entry.now) c
+before h t n p b e g s d l m c = records (nodes_before h t n p b e g s) (entries d.entry.now l.entry.now m.entry.now) c
 
 abbrev pub after : Numbers → Numbers → Numbers → Numbers → Numbers → Numbers → Numbers → Numbers → Flags → Numbers → Numbers → Clock → Records
-after h t n p b e g s d l m c = records (nodesAfter h t n p b e g s) (entries d.exit.now l.exit.now m.exit.now) c
+after h t n p b e g s d l m c = records (nodes_after h t n p b e g s) (entries d.exit.now l.exit.now m.exit.now) c
 
 -- the answer r is true exactly where P holds
 pub record Decides (P : Type 0) (r : Bool) : Type 0 where
@@ -98,29 +98,29 @@ pub record SerialsDiffer (total : ℕ) (bucket serial : List ℕ) : Type 0 where
 -- beyond the sentinels, and an entry or more.
 pub record Ranges (total nodes entries : ℕ) : Type 0 where
   pub room : total < nodes
-  pub nodes-most : nodes ≤ 4096
+  pub nodes_most : nodes ≤ 4096
   pub some : 0 < entries
-  pub entries-most : entries ≤ 4096
+  pub entries_most : entries ≤ 4096
 
 -- "lengths are those at enabling": of the heads and tails
 pub record EndsLengths (total heads tails : ℕ) : Type 0 where
-  pub heads-len : heads ≡ total
-  pub tails-len : tails ≡ total
+  pub heads_len : heads ≡ total
+  pub tails_len : tails ≡ total
 
 -- of the node records
 pub record NodesLengths (nodes next prev bucket entry generation serial : ℕ) : Type 0 where
-  pub next-len : next ≡ nodes
-  pub prev-len : prev ≡ nodes
-  pub bucket-len : bucket ≡ nodes
-  pub entry-len : entry ≡ nodes
-  pub generation-len : generation ≡ nodes
-  pub serial-len : serial ≡ nodes
+  pub next_len : next ≡ nodes
+  pub prev_len : prev ≡ nodes
+  pub bucket_len : bucket ≡ nodes
+  pub entry_len : entry ≡ nodes
+  pub generation_len : generation ≡ nodes
+  pub serial_len : serial ≡ nodes
 
 -- of the entries
 pub record EntriesLengths (entries dated deadline generation : ℕ) : Type 0 where
-  pub dated-len : dated ≡ entries
-  pub deadline-len : deadline ≡ entries
-  pub generation-len : generation ≡ entries
+  pub dated_len : dated ≡ entries
+  pub deadline_len : deadline ≡ entries
+  pub generation_len : generation ≡ entries
 
 pub record Lengths (total : ℕ) (R : Records) : Type 0 where
   pub ranges : Ranges total R.clock.nodes R.clock.entries
@@ -167,8 +167,8 @@ SoundRecords g R = SoundWith g (buckets g) R
 -- ======== the wheel that records show
 
 -- what the record of a slot after the sentinels says: it is armed where its bucket is one of the D buckets
-abbrev pub nodeAt : ℕ → Nodes → ℕ → Slot
-nodeAt D N x = record {
+abbrev pub node_at : ℕ → Nodes → ℕ → Slot
+node_at D N x = record {
   armed = ltb (home_of N.links x) D;
   bucket = home_of N.links x;
   entry = get_or N.entry x 0;
@@ -189,8 +189,8 @@ ShowsAdvance g c closed = c.open ≡ false
 ShowsAdvance g c (poised p bs) =
     (c.open ≡ true) × (c.previous ≡ p) × (c.level ≡ 0) × (c.step ≡ 0) × (bs ≡ visits g p c.reading)
 ShowsAdvance g c (within p b bs) =
-    (i : ℕ) × (c.open ≡ true) × (c.previous ≡ p) × (c.step ≡ suc i) × (i < visitedAt g p c.reading c.level) ×
-    (b ≡ bucketAt g p c.level i) × (bs ≡ ahead g p c.reading c.level (suc i))
+    (i : ℕ) × (c.open ≡ true) × (c.previous ≡ p) × (c.step ≡ suc i) × (i < visited_at g p c.reading c.level) ×
+    (b ≡ bucket_at g p c.level i) × (bs ≡ ahead g p c.reading c.level (suc i))
 
 -- the records of an enabled wheel stand for the wheel w
 pub record Shows (g : Geometry) (R : Records) (w : Wheel) : Type 0 where
@@ -201,50 +201,50 @@ pub record Shows (g : Geometry) (R : Records) (w : Wheel) : Type 0 where
   pub slots : lists.slots ≡ w.nodes
   pub bucket : (b : ℕ) → b < buckets g → deq lists b ≡ whole b (w.lists.bucket b)
   pub free : w.lists.free ≡ lists.free
-  pub free-is : first lists.free ≡ R.clock.free
+  pub free_is : first lists.free ≡ R.clock.free
   -- the slots after the sentinels: armed or free as the record says, and the other fields where it is armed
   pub room : buckets g < w.nodes
-  pub armed : (x : ℕ) → buckets g ≤ x → x < w.nodes → (w.lists.node x).armed ≡ (nodeAt (buckets g) R.nodes x).armed
-  pub node : (x : ℕ) → buckets g ≤ x → x < w.nodes → (w.lists.node x).armed ≡ true → w.lists.node x ≡ nodeAt (buckets g) R.nodes x
-  pub entry-len : length R.nodes.entry ≡ w.nodes
-  pub generation-len : length R.nodes.generation ≡ w.nodes
-  pub serial-len : length R.nodes.serial ≡ w.nodes
+  pub armed : (x : ℕ) → buckets g ≤ x → x < w.nodes → (w.lists.node x).armed ≡ (node_at (buckets g) R.nodes x).armed
+  pub node : (x : ℕ) → buckets g ≤ x → x < w.nodes → (w.lists.node x).armed ≡ true → w.lists.node x ≡ node_at (buckets g) R.nodes x
+  pub entry_len : length R.nodes.entry ≡ w.nodes
+  pub generation_len : length R.nodes.generation ≡ w.nodes
+  pub serial_len : length R.nodes.serial ≡ w.nodes
   -- the entries
   pub entry : (e : ℕ) → e < w.entries → w.entry e ≡ entry_at R.entries e
-  pub dated-len : length R.entries.dated ≡ w.entries
-  pub deadline-len : length R.entries.deadline ≡ w.entries
-  pub entries-generation-len : length R.entries.generation ≡ w.entries
+  pub dated_len : length R.entries.dated ≡ w.entries
+  pub deadline_len : length R.entries.deadline ≡ w.entries
+  pub entries_generation_len : length R.entries.generation ≡ w.entries
   -- the clock
   pub enabled : w.enabled ≡ true
-  pub is-enabled : R.clock.enabled ≡ true
+  pub is_enabled : R.clock.enabled ≡ true
   pub reading : R.clock.reading ≡ w.reading
   pub next : R.clock.serial ≡ w.next
-  pub nodes-len : R.clock.nodes ≡ w.nodes
-  pub entries-len : R.clock.entries ≡ w.entries
+  pub nodes_len : R.clock.nodes ≡ w.nodes
+  pub entries_len : R.clock.entries ≡ w.entries
   pub advance : ShowsAdvance g R.clock w.advance
 
 -- a bucket's list, parted at its sentinel b
 abbrev pub parted : Deques → ℕ → Bucket
-parted v b = record { early = beforeIn b (deq v b); late = afterIn b (deq v b) }
+parted v b = record { early = before_in b (deq v b); late = after_in b (deq v b) }
 
 -- what the record of a slot says; of a sentinel, or of a slot that is absent, nothing
 abbrev pub unarmed : Slot
 unarmed = record { armed = false; bucket = 0; entry = 0; generation = 0; serial = 0 }
 
 abbrev pub node_of : ℕ → ℕ → Nodes → ℕ → Slot
-node_of total nodes N x = cond (ltb x total) unarmed (cond (ltb x nodes) (nodeAt total N x) unarmed)
+node_of total nodes N x = cond (ltb x total) unarmed (cond (ltb x nodes) (node_at total N x) unarmed)
 
 -- the position of an advance, as the buckets that it has yet to enter
-abbrev pub within-at : Geometry → Clock → ℕ → Advance
-within-at g c zero = poised c.previous (visits g c.previous c.reading)
-within-at g c (suc i) = within c.previous (bucketAt g c.previous c.level i) (ahead g c.previous c.reading c.level (suc i))
+abbrev pub within_at : Geometry → Clock → ℕ → Advance
+within_at g c zero = poised c.previous (visits g c.previous c.reading)
+within_at g c (suc i) = within c.previous (bucket_at g c.previous c.level i) (ahead g c.previous c.reading c.level (suc i))
 
-abbrev pub advanceOf : Geometry → Clock → Advance
-advanceOf g c = cond c.open (within-at g c c.step) closed
+abbrev pub advance_of : Geometry → Clock → Advance
+advance_of g c = cond c.open (within_at g c c.step) closed
 
 -- the wheel that sound records show, computed from them
-abbrev pub wheelOf : Geometry → Records → Wheel
-wheelOf g R =
+abbrev pub wheel_of : Geometry → Records → Wheel
+wheel_of g R =
     let v = listed R.nodes.links R.clock.free in
     record {
       enabled = R.clock.enabled;
@@ -252,7 +252,7 @@ wheelOf g R =
       entries = R.clock.entries;
       reading = R.clock.reading;
       next = R.clock.serial;
-      advance = advanceOf g R.clock;
+      advance = advance_of g R.clock;
       lists = record { bucket = parted v; free = v.free; node = node_of (buckets g) R.clock.nodes R.nodes };
       entry = entry_at R.entries;
     }

@@ -5,11 +5,11 @@ use Rattle.std.specs.Prelude.{ℕ, ◌<◌, true, false, Bool, ◌&&◌, not, Li
 use Rattle.std.proofs.Math.Option.{none, some, Option}
 use Rattle.deque_rules.specs.Links.{home_of, links}
 use Rattle.numbers.specs.Shared.{no_slot}
-use Rattle.rules.specs.Calls.{act, is_none, refusalIf, stepIf}
+use Rattle.rules.specs.Calls.{act, is_none, refusal_if, step_if}
 use Rattle.rules.specs.Places.{wheel01, buckets, place_of}
-use Rattle.rules.specs.Wheel.{Answer, refused, ok, handle, removed, end, expired, rescheduled, number, due, Call, enable, create, setEntry, schedule}
-use Rattle.rules.specs.Wheel.{reschedule, deschedule, start, pull, abandon, armedCount, nextDue}
-use Rattle.wheel_rules.specs.Lent.{Nodes, nodes, Records, records, Entries, entries, Decides, SoundRecords, Shows, wheelOf}
+use Rattle.rules.specs.Wheel.{Answer, refused, ok, handle, removed, end, expired, rescheduled, number, due, Call, enable, create, set_entry, schedule}
+use Rattle.rules.specs.Wheel.{reschedule, deschedule, start, pull, abandon, armed_count, next_due}
+use Rattle.wheel_rules.specs.Lent.{Nodes, nodes, Records, records, Entries, entries, Decides, SoundRecords, Shows, wheel_of}
 use Rattle.wheel_rules.specs.declared.calls.Counted.{Counted}
 use Rattle.wheel_rules.specs.declared.calls.Counted.TheVariants.{Armed as Count, Refused as CountedRefused}
 use Rattle.wheel_rules.specs.declared.calls.Due.{Due}
@@ -30,57 +30,57 @@ use Rattle.wheel_rules.specs.declared.calls.Clock.{Clock}
 
 -- ---- number and values
 -- "A refusal carries its number and no value"
-abbrev pub timedSays : Timed → Answer
-timedSays (Done c) = ok
-timedSays (TimedRefused n) = refused n
+abbrev pub timed_says : Timed → Answer
+timed_says (Done c) = ok
+timed_says (TimedRefused n) = refused n
 
-abbrev pub notedSays : Noted → Answer
-notedSays Set = ok
-notedSays (NotedRefused n) = refused n
+abbrev pub noted_says : Noted → Answer
+noted_says Set = ok
+noted_says (NotedRefused n) = refused n
 
-abbrev pub scheduledSays : Scheduled → Answer
-scheduledSays (Armed slot serial c) = handle slot serial
-scheduledSays (ScheduledRefused n) = refused n
+abbrev pub scheduled_says : Scheduled → Answer
+scheduled_says (Armed slot serial c) = handle slot serial
+scheduled_says (ScheduledRefused n) = refused n
 
-abbrev pub rescheduledSays : Rescheduled → Answer
-rescheduledSays Moved = ok
-rescheduledSays (Removed c) = removed
-rescheduledSays (RescheduledRefused n) = refused n
+abbrev pub rescheduled_says : Rescheduled → Answer
+rescheduled_says Moved = ok
+rescheduled_says (Removed c) = removed
+rescheduled_says (RescheduledRefused n) = refused n
 
-abbrev pub pulledSays : Pulled → Answer
-pulledSays (Expired entry serial deadline c) = expired entry serial deadline
-pulledSays (PlacedAnew entry serial place c) = rescheduled entry serial place
-pulledSays (End c) = end
-pulledSays (PulledRefused n) = refused n
+abbrev pub pulled_says : Pulled → Answer
+pulled_says (Expired entry serial deadline c) = expired entry serial deadline
+pulled_says (PlacedAnew entry serial place c) = rescheduled entry serial place
+pulled_says (End c) = end
+pulled_says (PulledRefused n) = refused n
 
-abbrev pub countedSays : Counted → Answer
-countedSays (Count k) = number k
-countedSays (CountedRefused n) = refused n
+abbrev pub counted_says : Counted → Answer
+counted_says (Count k) = number k
+counted_says (CountedRefused n) = refused n
 
-abbrev pub dueSays : Due → Answer
-dueSays (At d) = due (some d)
-dueSays Never = due none
-dueSays (DueRefused n) = refused n
+abbrev pub due_says : Due → Answer
+due_says (At d) = due (some d)
+due_says Never = due none
+due_says (DueRefused n) = refused n
 
 -- ---- the clock afterwards: the one that the answer hands back, and the caller's own, c, where it hands none
-abbrev pub timedClock : Clock → Timed → Clock
-timedClock c (Done k) = k
-timedClock c (TimedRefused n) = c
+abbrev pub timed_clock : Clock → Timed → Clock
+timed_clock c (Done k) = k
+timed_clock c (TimedRefused n) = c
 
-abbrev pub scheduledClock : Clock → Scheduled → Clock
-scheduledClock c (Armed slot serial k) = k
-scheduledClock c (ScheduledRefused n) = c
+abbrev pub scheduled_clock : Clock → Scheduled → Clock
+scheduled_clock c (Armed slot serial k) = k
+scheduled_clock c (ScheduledRefused n) = c
 
-abbrev pub rescheduledClock : Clock → Rescheduled → Clock
-rescheduledClock c Moved = c
-rescheduledClock c (Removed k) = k
-rescheduledClock c (RescheduledRefused n) = c
+abbrev pub rescheduled_clock : Clock → Rescheduled → Clock
+rescheduled_clock c Moved = c
+rescheduled_clock c (Removed k) = k
+rescheduled_clock c (RescheduledRefused n) = c
 
-abbrev pub pulledClock : Clock → Pulled → Clock
-pulledClock c (Expired entry serial deadline k) = k
-pulledClock c (PlacedAnew entry serial place k) = k
-pulledClock c (End k) = k
-pulledClock c (PulledRefused n) = c
+abbrev pub pulled_clock : Clock → Pulled → Clock
+pulled_clock c (Expired entry serial deadline k) = k
+pulled_clock c (PlacedAnew entry serial place k) = k
+pulled_clock c (End k) = k
+pulled_clock c (PulledRefused n) = c
 
 -- ======== what a wheel does not show
 
@@ -90,27 +90,27 @@ pub record Payload : Type 0 where
   pub generation : ℕ
   pub serial : ℕ
 
-abbrev pub payloadAt : Nodes → ℕ → Payload
-payloadAt N x = record { entry = get_or N.entry x 0; generation = get_or N.generation x 0; serial = get_or N.serial x 0 }
+abbrev pub payload_at : Nodes → ℕ → Payload
+payload_at N x = record { entry = get_or N.entry x 0; generation = get_or N.generation x 0; serial = get_or N.serial x 0 }
 
 abbrev pub blank : Payload
 blank = record { entry = 0; generation = 0; serial = 0 }
 
-abbrev pub prevAt : Nodes → ℕ → ℕ
-prevAt N x = get_or N.links.prev x 0
+abbrev pub prev_at : Nodes → ℕ → ℕ
+prev_at N x = get_or N.links.prev x 0
 
 -- of node records with D buckets, before and after a call
 pub record DeadFields (D : ℕ) (N N' : Nodes) : Type 0 where
   -- a sentinel's payload stays
-  pub sentinel : (x : ℕ) → x < D → payloadAt N' x ≡ payloadAt N x
+  pub sentinel : (x : ℕ) → x < D → payload_at N' x ≡ payload_at N x
   -- a slot that is free before and after is as it was
   pub idle :
       (x : ℕ) → x < length N.links.next → home_of N.links x ≡ no_slot → home_of N'.links x ≡ no_slot →
-      (prevAt N' x ≡ prevAt N x) × (payloadAt N' x ≡ payloadAt N x)
+      (prev_at N' x ≡ prev_at N x) × (payload_at N' x ≡ payload_at N x)
   -- one that the call freed: prev is none and the payload 0
   pub freed :
       (x : ℕ) → x < length N.links.next → (home_of N.links x ≡ no_slot → ⊥) → home_of N'.links x ≡ no_slot →
-      (prevAt N' x ≡ no_slot) × (payloadAt N' x ≡ blank)
+      (prev_at N' x ≡ no_slot) × (payload_at N' x ≡ blank)
 
 -- of a clock before and after a call: an advance that it closed has previous, level and step 0; where none was open
 -- before and after they stay
@@ -120,14 +120,14 @@ pub record DeadClock (c c' : Clock) : Type 0 where
 
 -- of node records laid out for D buckets: no payload anywhere, and no prev in a free slot
 pub record Blank (D : ℕ) (N : Nodes) : Type 0 where
-  pub payload : (x : ℕ) → x < length N.links.next → payloadAt N x ≡ blank
-  pub prev : (x : ℕ) → x < length N.links.next → home_of N.links x ≡ no_slot → prevAt N x ≡ no_slot
+  pub payload : (x : ℕ) → x < length N.links.next → payload_at N x ≡ blank
+  pub prev : (x : ℕ) → x < length N.links.next → home_of N.links x ≡ no_slot → prev_at N x ≡ no_slot
 
 -- ======== create
 
 -- "Create(first serial): reading 0, not enabled." No advance, no recorded lengths, no first free slot
-abbrev pub createdClock : ℕ → Clock
-createdClock first = record {
+abbrev pub created_clock : ℕ → Clock
+created_clock first = record {
   enabled = false;
   reading = 0;
   serial = first;
@@ -141,37 +141,37 @@ createdClock first = record {
 }
 
 -- "The 165 bucket heads and tails start out empty as one block each"
-abbrev pub emptyEnds : List ℕ
-emptyEnds = replicate (buckets wheel01) no_slot
+abbrev pub empty_ends : List ℕ
+empty_ends = replicate (buckets wheel01) no_slot
 
 -- the records that create begins a wheel over: nodes and entries stay as found
 abbrev pub created : Records → ℕ → Records
 created R first =
     records
-    (nodes emptyEnds emptyEnds R.nodes.links.next R.nodes.links.prev R.nodes.links.home R.nodes.entry R.nodes.generation
+    (nodes empty_ends empty_ends R.nodes.links.next R.nodes.links.prev R.nodes.links.home R.nodes.entry R.nodes.generation
     R.nodes.serial)
-    R.entries (createdClock first)
+    R.entries (created_clock first)
 
 -- "each entry set to no deadline, generation 0"
-abbrev pub bareEntries : ℕ → Entries
-bareEntries k = entries (replicate k false) (replicate k 0) (replicate k 0)
+abbrev pub bare_entries : ℕ → Entries
+bare_entries k = entries (replicate k false) (replicate k 0) (replicate k 0)
 
 -- ======== the promise
 
 -- ---- what a call looks at
 -- each of the lengths is m
-abbrev pub allAre : ℕ → List ℕ → Bool
-allAre m [] = true
-allAre m (k ∷ ks) = eqb k m && allAre m ks
+abbrev pub all_are : ℕ → List ℕ → Bool
+all_are m [] = true
+all_are m (k ∷ ks) = eqb k m && all_are m ks
 
 -- all that is lent goes together: as many heads and tails as there are buckets, parallel slices of one length
 abbrev pub fits : Records → Bool
 fits R =
-    allAre (buckets wheel01) (length R.nodes.links.heads ∷ length R.nodes.links.tails ∷ []) &&
-    (allAre (length R.nodes.links.next)
+    all_are (buckets wheel01) (length R.nodes.links.heads ∷ length R.nodes.links.tails ∷ []) &&
+    (all_are (length R.nodes.links.next)
     (length R.nodes.links.prev ∷ length R.nodes.links.home ∷ length R.nodes.entry ∷ length R.nodes.generation ∷
     length R.nodes.serial ∷ []) &&
-    allAre (length R.entries.dated) (length R.entries.deadline ∷ length R.entries.generation ∷ []))
+    all_are (length R.entries.dated) (length R.entries.deadline ∷ length R.entries.generation ∷ []))
 
 -- enable is given the lent lengths
 abbrev pub enabling : Records → Call
@@ -182,20 +182,20 @@ enabling R = enable (length R.nodes.links.next) (length R.entries.dated) (fits R
 abbrev pub Looks : Call → Records → Bool → Type 0
 Looks (create n) R sound = Unit {0}
 Looks (enable m k f) R sound = enable m k f ≡ enabling R
-Looks (setEntry e o h) R sound = R.clock.enabled ≡ true → Decides (SoundRecords wheel01 R) sound
+Looks (set_entry e o h) R sound = R.clock.enabled ≡ true → Decides (SoundRecords wheel01 R) sound
 Looks (schedule e h) R sound = R.clock.enabled ≡ true → Decides (SoundRecords wheel01 R) sound
 Looks (reschedule x n h) R sound = R.clock.enabled ≡ true → Decides (SoundRecords wheel01 R) sound
 Looks (deschedule x n h) R sound = R.clock.enabled ≡ true → Decides (SoundRecords wheel01 R) sound
 Looks (start q) R sound = R.clock.enabled ≡ true → Decides (SoundRecords wheel01 R) sound
 Looks pull R sound = R.clock.enabled ≡ true → Decides (SoundRecords wheel01 R) sound
 Looks abandon R sound = R.clock.enabled ≡ true → Decides (SoundRecords wheel01 R) sound
-Looks armedCount R sound = R.clock.enabled ≡ true → Decides (SoundRecords wheel01 R) sound
-Looks nextDue R sound = R.clock.enabled ≡ true → Decides (SoundRecords wheel01 R) sound
+Looks armed_count R sound = R.clock.enabled ≡ true → Decides (SoundRecords wheel01 R) sound
+Looks next_due R sound = R.clock.enabled ≡ true → Decides (SoundRecords wheel01 R) sound
 
 -- ---- what a call leaves
 -- the records show the rules' wheel after the call, and are sound
 pub record Shown (c : Call) (R R' : Records) : Type 0 where
-  pub shows : Shows wheel01 R' (act wheel01 (wheelOf wheel01 R) c).1
+  pub shows : Shows wheel01 R' (act wheel01 (wheel_of wheel01 R) c).1
   pub sound : SoundRecords wheel01 R'
 
 -- in what a wheel does not show little is written, and the entries are E
@@ -210,30 +210,30 @@ pub record Cleared (R R' : Records) : Type 0 where
   pub previous : R'.clock.previous ≡ 0
   pub level : R'.clock.level ≡ 0
   pub step : R'.clock.step ≡ 0
-  pub entries : R'.entries ≡ bareEntries (length R.entries.dated)
+  pub entries : R'.entries ≡ bare_entries (length R.entries.dated)
 
 abbrev pub or_zero : Option ℕ → ℕ
 or_zero none = 0
 or_zero (some d) = d
 
 -- "Set entry: deadline or none, and generation, as given"; without a deadline 0 is written for it
-abbrev pub entriesWith : ℕ → Option ℕ → ℕ → Entries → Entries
-entriesWith e o h E =
+abbrev pub entries_with : ℕ → Option ℕ → ℕ → Entries → Entries
+entries_with e o h E =
     entries (set E.dated e (not (is_none o))) (set E.deadline e (or_zero o)) (set E.generation e h)
 
 -- every record afterwards, by the call
 abbrev pub Leaves : Call → Records → Records → Type 0
 Leaves (create n) R R' = R' ≡ created R n
 Leaves (enable m k f) R R' = Shown (enable m k f) R R' × Cleared R R'
-Leaves (setEntry e o h) R R' = Shown (setEntry e o h) R R' × Kept (entriesWith e o h R.entries) R R'
+Leaves (set_entry e o h) R R' = Shown (set_entry e o h) R R' × Kept (entries_with e o h R.entries) R R'
 Leaves (schedule e h) R R' = Shown (schedule e h) R R' × Kept R.entries R R'
 Leaves (reschedule x n h) R R' = Shown (reschedule x n h) R R' × Kept R.entries R R'
 Leaves (deschedule x n h) R R' = Shown (deschedule x n h) R R' × Kept R.entries R R'
 Leaves (start q) R R' = Shown (start q) R R' × Kept R.entries R R'
 Leaves pull R R' = Shown pull R R' × Kept R.entries R R'
 Leaves abandon R R' = Shown abandon R R' × Kept R.entries R R'
-Leaves armedCount R R' = Shown armedCount R R' × Kept R.entries R R'
-Leaves nextDue R R' = Shown nextDue R R' × Kept R.entries R R'
+Leaves armed_count R R' = Shown armed_count R R' × Kept R.entries R R'
+Leaves next_due R R' = Shown next_due R R' × Kept R.entries R R'
 
 -- ---- the promise
 pub record Promised (c : Call) (R R' : Records) (a : Answer) : Type 0 where
@@ -241,10 +241,10 @@ pub record Promised (c : Call) (R R' : Records) (a : Answer) : Type 0 where
   pub sound : Bool
   pub looks : Looks c R sound
   -- the answer is the rules' answer on the wheel that the records show, a refusal where the rows say so
-  pub answer-is : a ≡ (stepIf wheel01 sound (wheelOf wheel01 R) c).0
+  pub answer_is : a ≡ (step_if wheel01 sound (wheel_of wheel01 R) c).0
   -- "every lent record stays as found"
-  pub stays : (refusalIf wheel01 sound (wheelOf wheel01 R) c ≡ 0 → ⊥) → R' ≡ R
-  pub leaves : refusalIf wheel01 sound (wheelOf wheel01 R) c ≡ 0 → Leaves c R R'
+  pub stays : (refusal_if wheel01 sound (wheel_of wheel01 R) c ≡ 0 → ⊥) → R' ≡ R
+  pub leaves : refusal_if wheel01 sound (wheel_of wheel01 R) c ≡ 0 → Leaves c R R'
 
 -- Create hands out a clock, heads and tails by value: laid over any records, which keep nodes and entries, they are
 -- what the call promises.

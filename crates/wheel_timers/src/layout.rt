@@ -1,10 +1,10 @@
 // For proved code only, unchecked: the records as enabling lays them out, whatever they held.
 ghost use Rattle.std.specs.Prelude.{◌≡◌, length};
-ghost use Rattle.deque_rules.specs.Lending.{linksBefore, linksAfter};
+ghost use Rattle.deque_rules.specs.Lending.{links_before, links_after};
 ghost use Rattle.deque_rules.specs.Links.{links};
 ghost use Rattle.rules.specs.Places.{wheel01};
-ghost use Rattle.wheel_rules.specs.Lent.{nodes, entries, nodesBefore, nodesAfter};
-ghost use Rattle.wheel_rules.specs.layout.Layout.{enabledWith, SeatReady, Seats, Clears, ClearsEntries, LayReady, Lays};
+ghost use Rattle.wheel_rules.specs.Lent.{nodes, entries, nodes_before, nodes_after};
+ghost use Rattle.wheel_rules.specs.layout.Layout.{enabled_with, SeatReady, Seats, Clears, ClearsEntries, LayReady, Lays};
 
 use crate::moments::end;
 use deque::change::push;
@@ -19,7 +19,7 @@ fn seat(
     bucket: &mut [usize],
 )
     requires { SeatReady (links heads.old tails.old next.old prev.old bucket.old) }
-    ensures { Seats (linksBefore heads tails next prev bucket) (linksAfter heads tails next prev bucket) }
+    ensures { Seats (links_before heads tails next prev bucket) (links_after heads tails next prev bucket) }
 {
     let mut free = deque::layout::lay_out(heads, tails, next, prev, bucket);
     let mut b: usize = 0;
@@ -63,7 +63,7 @@ pub fn clear_entries(dated: &mut [bool], deadline: &mut [u64], generation: &mut 
 
 // The clock of a wheel just enabled.
 pub fn enabled(clock: Clock, total: usize, nodes: usize, entries: usize) -> Clock
-    ensures { result ≡ enabledWith total nodes entries clock }
+    ensures { result ≡ enabled_with total nodes entries clock }
 {
     let mut after = end(clock);
     after.enabled = true;
@@ -94,9 +94,9 @@ pub fn lay_out(
         (entries dated.old deadline.old age.old) }
     ensures { Lays
         wheel01
-        (nodesBefore heads tails next prev bucket entry generation serial)
+        (nodes_before heads tails next prev bucket entry generation serial)
         (entries dated.old deadline.old age.old) clock
-        (nodesAfter heads tails next prev bucket entry generation serial)
+        (nodes_after heads tails next prev bucket entry generation serial)
         (entries dated.new deadline.new age.new) result }
 {
     let after = enabled(clock, heads.len(), next.len(), dated.len());

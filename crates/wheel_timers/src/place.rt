@@ -3,7 +3,7 @@
 // Each level is tried with its number written out, so that the compiler works out the numbers of levels.rt.
 ghost use Rattle.std.specs.Prelude.{◌≡◌, ◌-◌};
 ghost use Rattle.wheel_rules.specs.Promise.{Placed};
-ghost use Rattle.wheel_rules.specs.place.Levels.{index_at, placeAt};
+ghost use Rattle.wheel_rules.specs.place.Levels.{index_at, place_at};
 ghost use Rattle.wheel_rules.specs.place.Promises.{Found, InBucket};
 
 pub mod levels;
@@ -34,7 +34,7 @@ pub fn index_at(level: usize, time: u64) -> u64
 
 // The place of a time at a level.
 fn place_at(level: usize, time: u64) -> Place
-    ensures { result ≡ placeAt level time }
+    ensures { result ≡ place_at level time }
 {
     let index = index_at(level, time);
     Place {

@@ -10,26 +10,26 @@ invariant-loop block₀ line₀ out₀ told₀ source₀ waiting₀ turns₀ blo
 abbrev decreases-loop : tie.decreases-loop
 decreases-loop block₀ line₀ out₀ told₀ source₀ waiting₀ turns₀ block line out told source waiting turns = turns
 
-begin-requires : tie.Need-begin-requires invariant-loop decreases-loop
-begin-requires c κs = tt
+begin_requires : tie.Need-begin-requires invariant-loop decreases-loop
+begin_requires c κs = tt
 
 loop-holds : tie.Need-loop-init invariant-loop decreases-loop
 loop-holds c = tt
 
-next-line-requires : tie.Need-next-line-requires invariant-loop decreases-loop
-next-line-requires c κs = tt
+next_line_requires : tie.Need-next-line-requires invariant-loop decreases-loop
+next_line_requires c κs = tt
 
-asked-by-requires : tie.Need-asked-by-requires invariant-loop decreases-loop
-asked-by-requires c κs = tt
+asked_by_requires : tie.Need-asked-by-requires invariant-loop decreases-loop
+asked_by_requires c κs = tt
 
-answer-requires : tie.Need-answer-requires invariant-loop decreases-loop
-answer-requires c κs = tt
+answer_requires : tie.Need-answer-requires invariant-loop decreases-loop
+answer_requires c κs = tt
 
-say-requires : tie.Need-say-requires invariant-loop decreases-loop
-say-requires c κs = tt
+say_requires : tie.Need-say-requires invariant-loop decreases-loop
+say_requires c κs = tt
 
-turns-left-requires : tie.Need-turns-left-requires invariant-loop decreases-loop
-turns-left-requires c κs = tt
+turns_left_requires : tie.Need-turns-left-requires invariant-loop decreases-loop
+turns_left_requires c κs = tt
 
 loop-less : tie.Need-loop-smaller invariant-loop decreases-loop
 loop-less c = c.turns-left.ensures.less (omega arith)
@@ -37,8 +37,8 @@ loop-less c = c.turns-left.ensures.less (omega arith)
 loop-again : tie.Need-loop-preserved invariant-loop decreases-loop
 loop-again c = tt
 
-flush-requires : tie.Need-flush-requires invariant-loop decreases-loop
-flush-requires c κs = tt
+flush_requires : tie.Need-flush-requires invariant-loop decreases-loop
+flush_requires c κs = tt
 
 returns : tie.Need-returns invariant-loop decreases-loop
 returns c = tt
@@ -49,14 +49,14 @@ main_spec =
     (tie.spec
     invariant-loop
     decreases-loop
-    begin-requires
+    begin_requires
     loop-holds
-    next-line-requires
-    asked-by-requires
-    answer-requires
-    say-requires
-    turns-left-requires
+    next_line_requires
+    asked_by_requires
+    answer_requires
+    say_requires
+    turns_left_requires
     loop-less
     loop-again
-    flush-requires
+    flush_requires
     returns)

@@ -16,11 +16,11 @@ pub record Filled (l₀ l : List ℕ) (v d : ℕ) : Type 0 where
   pub within : d ≤ length l₀
   pub all : (i : ℕ) → i < d → get_or l i 0 ≡ v
 
-fill-starts : (l : List ℕ) (v : ℕ) → Filled l l v 0
-fill-starts l v = record { same_len = refl; within = omega arith; all = λ i j. absurd (omega (arith, j)) }
+fill_starts : (l : List ℕ) (v : ℕ) → Filled l l v 0
+fill_starts l v = record { same_len = refl; within = omega arith; all = λ i j. absurd (omega (arith, j)) }
 
-fill-goes : (l₀ l : List ℕ) (v d : ℕ) → d < length l → Filled l₀ l v d → Filled l₀ (set l d v) v (d + 1)
-fill-goes l₀ l v d h k =
+fill_goes : (l₀ l : List ℕ) (v d : ℕ) → d < length l → Filled l₀ l v d → Filled l₀ (set l d v) v (d + 1)
+fill_goes l₀ l v d h k =
     record {
       same_len = simp length-set k.same_len;
       within = omega (arith, h, k.same_len);
@@ -31,8 +31,8 @@ fill-goes l₀ l v d h k =
           (same? i d);
     }
 
-fill-ends : (l₀ l : List ℕ) (v d n : ℕ) → length l ≤ d → Filled l₀ l v d → length l₀ ≡ n → l ≡ replicate n v
-fill-ends l₀ l v d n h k e =
+fill_ends : (l₀ l : List ℕ) (v d n : ℕ) → length l ≤ d → Filled l₀ l v d → length l₀ ≡ n → l ≡ replicate n v
+fill_ends l₀ l v d n h k e =
     ext_get_or 0 l (replicate n v) (k.same_len ∙ e ∙ sym (length-replicate n v))
     (λ i j. k.all i (omega (arith, h, j)) ∙ sym (get_or-replicate n i v 0 (omega (arith, j, k.same_len, e))))
 
@@ -41,29 +41,29 @@ pub record Cleared (l₀ c₀ l c : List ℕ) (d : ℕ) : Type 0 where
   pub lens : Filled l₀ l 0 d
   pub cursors : Filled c₀ c none d
 
-pub clear-starts : (l c : List ℕ) → Cleared l c l c 0
-clear-starts l c = record { lens = fill-starts l 0; cursors = fill-starts c none }
+pub clear_starts : (l c : List ℕ) → Cleared l c l c 0
+clear_starts l c = record { lens = fill_starts l 0; cursors = fill_starts c none }
 
-pub clear-goes : (l₀ c₀ l c : List ℕ) (d : ℕ) → length c₀ ≡ length l₀ → d < length l → Cleared l₀ c₀ l c d → Cleared l₀ c₀ (set l d 0) (set c d none) (d + 1)
-clear-goes l₀ c₀ l c d e h k =
+pub clear_goes : (l₀ c₀ l c : List ℕ) (d : ℕ) → length c₀ ≡ length l₀ → d < length l → Cleared l₀ c₀ l c d → Cleared l₀ c₀ (set l d 0) (set c d none) (d + 1)
+clear_goes l₀ c₀ l c d e h k =
     record {
-      lens = fill-goes l₀ l 0 d h k.lens;
-      cursors = fill-goes c₀ c none d (omega (arith, h, e, k.lens.same_len, k.cursors.same_len)) k.cursors;
+      lens = fill_goes l₀ l 0 d h k.lens;
+      cursors = fill_goes c₀ c none d (omega (arith, h, e, k.lens.same_len, k.cursors.same_len)) k.cursors;
     }
 
-pub clear-ends : (l₀ c₀ l c : List ℕ) (d : ℕ) → length c₀ ≡ length l₀ → length l ≤ d → Cleared l₀ c₀ l c d → Clears l₀ l c
-clear-ends l₀ c₀ l c d e h k =
+pub clear_ends : (l₀ c₀ l c : List ℕ) (d : ℕ) → length c₀ ≡ length l₀ → length l ≤ d → Cleared l₀ c₀ l c d → Clears l₀ l c
+clear_ends l₀ c₀ l c d e h k =
     record {
-      lens-is = fill-ends l₀ l 0 d (length l₀) h k.lens refl;
-      cursors-is = fill-ends c₀ c none d (length l₀) (omega (arith, h, e, k.lens.same_len, k.cursors.same_len)) k.cursors e;
+      lens_is = fill_ends l₀ l 0 d (length l₀) h k.lens refl;
+      cursors_is = fill_ends c₀ c none d (length l₀) (omega (arith, h, e, k.lens.same_len, k.cursors.same_len)) k.cursors e;
     }
 
 -- ---- zero
-pub zero-starts : (l : List ℕ) → Filled l l 0 0
-zero-starts l = fill-starts l 0
+pub zero_starts : (l : List ℕ) → Filled l l 0 0
+zero_starts l = fill_starts l 0
 
-pub zero-goes : (l₀ l : List ℕ) (d : ℕ) → d < length l → Filled l₀ l 0 d → Filled l₀ (set l d 0) 0 (d + 1)
-zero-goes l₀ l d h k = fill-goes l₀ l 0 d h k
+pub zero_goes : (l₀ l : List ℕ) (d : ℕ) → d < length l → Filled l₀ l 0 d → Filled l₀ (set l d 0) 0 (d + 1)
+zero_goes l₀ l d h k = fill_goes l₀ l 0 d h k
 
-pub zero-ends : (l₀ l : List ℕ) (d : ℕ) → length l ≤ d → Filled l₀ l 0 d → l ≡ replicate (length l₀) 0
-zero-ends l₀ l d h k = fill-ends l₀ l 0 d (length l₀) h k refl
+pub zero_ends : (l₀ l : List ℕ) (d : ℕ) → length l ≤ d → Filled l₀ l 0 d → l ≡ replicate (length l₀) 0
+zero_ends l₀ l d h k = fill_ends l₀ l 0 d (length l₀) h k refl

@@ -7,14 +7,14 @@ use mathlib.Core.Path.{◌≡◌, refl}
 use mathlib.Core.Logic.{inl, inr, ⊎_elim}
 use mathlib.Core.List.{List, [], ◌∷◌}
 use Rattle.numbers.specs.Shared.{no_slot as none}
-use Rattle.deque_rules.specs.Links.{fresh, linkBack, cutOut, removed, handBack}
-use Rattle.deque_rules.specs.Deque.{State, state, Lent, Sound, make, pushBack, popFront, DequePromised as Promised, Event, event, DequeLeads as Leads}
+use Rattle.deque_rules.specs.Links.{fresh, link_back, cut_out, removed, hand_back}
+use Rattle.deque_rules.specs.Deque.{State, state, Lent, Sound, make, push_back, pop_front, DequePromised as Promised, Event, event, DequeLeads as Leads}
 use Rattle.deque_rules.specs.Deque.{done, then}
 use Rattle.deque_rules.specs.declared.alone.Made.TheVariants.{First}
 use Rattle.deque_rules.specs.declared.alone.Pushed.TheVariants.{At, Refused as PushedRefused}
 use Rattle.deque_rules.specs.declared.alone.Popped.TheVariants.{Node, Refused as PoppedRefused}
-use Rattle.deque_rules.proofs.alone.Meeting.{no, yes-by}
-use Rattle.deque_rules.proofs.alone.Kept.{make-sound, keeps}
+use Rattle.deque_rules.proofs.alone.Meeting.{no, yes_by}
+use Rattle.deque_rules.proofs.alone.Kept.{make_sound, keeps}
 
 -- ---- heads, tails, lens, cursors; next, prev, home, element
 abbrev found : State
@@ -31,48 +31,48 @@ one = state (0 ∷ []) (0 ∷ []) (1 ∷ []) (none ∷ []) (none ∷ none ∷ []
 not_sound : Sound found 9 → ⊥
 not_sound s = ⊎_elim (λ h. omega (arith, h)) (λ e. omega (arith, e)) (s.nodes 0 (omega arith))
 
-pop-before : Promised (popFront 0) found 9 found (PoppedRefused 4)
-pop-before = record { meets = no _ found _ _ 4 (inl (not_sound, refl)) (λ i. omega (arith, i)) }
+pop_before : Promised (pop_front 0) found 9 found (PoppedRefused 4)
+pop_before = record { meets = no _ found _ _ 4 (inl (not_sound, refl)) (λ i. omega (arith, i)) }
 
 lent : Lent found
 lent =
     record {
-      deques = record { some = omega arith; few = omega arith; tails-len = refl; lens-len = refl; cursors-len = refl };
-      nodes = record { some = omega arith; small = omega arith; prev-len = refl; home-len = refl; elements-len = refl };
+      deques = record { some = omega arith; few = omega arith; tails_len = refl; lens_len = refl; cursors_len = refl };
+      nodes = record { some = omega arith; small = omega arith; prev_len = refl; home_len = refl; elements_len = refl };
     }
 
 makes : Promised make found 9 empty (First 0)
 unfolding fresh
-makes = record { meets = yes-by _ found empty _ _ _ 0 (inr (lent, refl)) refl refl refl }
+makes = record { meets = yes_by _ found empty _ _ _ 0 (inr (lent, refl)) refl refl refl }
 
-empty-sound : Sound empty 0
-empty-sound = make-sound found empty 9 0 makes
+empty_sound : Sound empty 0
+empty_sound = make_sound found empty 9 0 makes
 
-push-7 : Promised (pushBack 0 7) empty 0 one (At 0 1)
-unfolding linkBack
-push-7 = record { meets = yes-by _ empty one _ _ _ 0 (inr (empty-sound, inr ((λ i. omega (arith, i)), inr (omega arith, refl)))) refl refl refl }
+push_7 : Promised (push_back 0 7) empty 0 one (At 0 1)
+unfolding link_back
+push_7 = record { meets = yes_by _ empty one _ _ _ 0 (inr (empty_sound, inr ((λ i. omega (arith, i)), inr (omega arith, refl)))) refl refl refl }
 
-one-sound : Sound one 1
-one-sound = keeps (pushBack 0 7) empty 0 one (At 0 1) empty-sound push-7
+one_sound : Sound one 1
+one_sound = keeps (push_back 0 7) empty 0 one (At 0 1) empty_sound push_7
 
-push-elsewhere : Promised (pushBack 3 7) one 1 one (PushedRefused 16)
-push-elsewhere = record {
-  meets = no _ one _ _ 16 (inr (one-sound, inr ((λ i. omega (arith, i)), inl ((λ h. omega (arith, h)), refl)))) (λ i. omega (arith, i));
+push_elsewhere : Promised (push_back 3 7) one 1 one (PushedRefused 16)
+push_elsewhere = record {
+  meets = no _ one _ _ 16 (inr (one_sound, inr ((λ i. omega (arith, i)), inl ((λ h. omega (arith, h)), refl)))) (λ i. omega (arith, i));
 }
 
-pop-7 : Promised (popFront 0) one 1 empty (Node 0 7 0)
-unfolding removed cutOut handBack
-pop-7 = record { meets = yes-by _ one empty _ _ _ 0 (inr (one-sound, inr (omega arith, refl))) refl refl refl }
+pop_7 : Promised (pop_front 0) one 1 empty (Node 0 7 0)
+unfolding removed cut_out hand_back
+pop_7 = record { meets = yes_by _ one empty _ _ _ 0 (inr (one_sound, inr (omega arith, refl))) refl refl refl }
 
 -- ---- the history
 abbrev events : List Event
 events =
-    event (popFront 0) (PoppedRefused 4)
+    event (pop_front 0) (PoppedRefused 4)
     ∷ event make (First 0)
-    ∷ event (pushBack 0 7) (At 0 1)
-    ∷ event (pushBack 3 7) (PushedRefused 16)
-    ∷ event (popFront 0) (Node 0 7 0)
+    ∷ event (push_back 0 7) (At 0 1)
+    ∷ event (push_back 3 7) (PushedRefused 16)
+    ∷ event (pop_front 0) (Node 0 7 0)
     ∷ []
 
 pub example : Leads found 9 events empty 0
-example = then pop-before (then makes (then push-7 (then push-elsewhere (then pop-7 done))))
+example = then pop_before (then makes (then push_7 (then push_elsewhere (then pop_7 done))))

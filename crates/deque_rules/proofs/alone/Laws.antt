@@ -9,46 +9,46 @@ use lib.Seq.{get_or-set_same}
 use borrow.Author.Tests.{eq-eqb, ne_eqb}
 use Rattle.deque_rules.specs.Links.{first, Deques as Lists, deq}
 use Rattle.numbers.specs.Lists.{rest, remove}
-use Rattle.numbers.specs.Shared.{no_slot as none, In, up_from, pastEnd}
-use Rattle.deque_rules.specs.Lists.{withDeque, pushBack, takeOut, taken, freed, allFree}
+use Rattle.numbers.specs.Shared.{no_slot as none, In, up_from, past_end}
+use Rattle.deque_rules.specs.Lists.{with_deque, push_back, take_out, taken, freed, all_free}
 use Rattle.numbers.proofs.Cases.{same?}
 use Rattle.numbers.proofs.Members.{in-same, remove_first}
-use Rattle.deque_rules.proofs.Laws.{some_first, in-home, slot-real, head-is}
-use Rattle.deque_rules.specs.Deque.{State, dequeCount as deques, nodeCount as nodes, Lent, Sound, next_of, frontOf, elementOf, cursorNode, released}
-use Rattle.deque_rules.specs.Deque.{DequeAnswer as Told, refused, nothing, values, lookTold, nextTold, popTold, makeRows, dequeRows, pushRows, nodeRows, Meets, make}
-use Rattle.deque_rules.specs.Deque.{popFront, moveToBack, unlinkAndDrop, DequePromised as Promised, pushBack as pushCall}
+use Rattle.deque_rules.proofs.Laws.{some_first, in-home, slot_real, head_is}
+use Rattle.deque_rules.specs.Deque.{State, deque_count as deques, node_count as nodes, Lent, Sound, next_of, front_of, element_of, cursor_node, released}
+use Rattle.deque_rules.specs.Deque.{DequeAnswer as Told, refused, nothing, values, look_told, next_told, pop_told, make_rows, deque_rows, push_rows, node_rows, Meets, make}
+use Rattle.deque_rules.specs.Deque.{pop_front, move_to_back, unlink_and_drop, DequePromised as Promised, push_back as pushCall}
 use Rattle.deque_rules.specs.alone.State.{Shows}
-use Rattle.deque_rules.specs.alone.Work.{toBack}
+use Rattle.deque_rules.specs.alone.Work.{to_back}
 use Rattle.deque_rules.specs.declared.alone.Made.TheVariants.{First}
 use Rattle.deque_rules.specs.declared.alone.Pushed.TheVariants.{At}
 use Rattle.deque_rules.specs.declared.alone.Popped.TheVariants.{Node as PoppedNode, Nothing as PoppedNothing}
 use Rattle.deque_rules.specs.declared.alone.Dropped.TheVariants.{Element}
 use Rattle.deque_rules.specs.declared.alone.Done.TheVariants.{Done as Did}
-use Rattle.deque_rules.proofs.alone.Refusing.{deque-ready, push-ready, node-ready}
-use Rattle.deque_rules.proofs.alone.Keeping.{made-shows}
-use Rattle.deque_rules.proofs.alone.Relinking.{pushed-shows, released-shows, moved-shows}
+use Rattle.deque_rules.proofs.alone.Refusing.{deque_ready, push_ready, node_ready}
+use Rattle.deque_rules.proofs.alone.Keeping.{made_shows}
+use Rattle.deque_rules.proofs.alone.Relinking.{pushed_shows, released_shows, moved_shows}
 
 -- ---- 4 is no number of making
-pub make-not-4 : (a : State) → makeRows a 4 → ⊥
-make-not-4 a u = ⊎_elim (λ w. omega (arith, w.1)) (λ w. omega (arith, w.1)) u
+pub make_not_4 : (a : State) → make_rows a 4 → ⊥
+make_not_4 a u = ⊎_elim (λ w. omega (arith, w.1)) (λ w. omega (arith, w.1)) u
 
 -- ---- on a sound state the rows after 4 decide, and 4 is not among them
 module _ (a : State) (free : ℕ) (s : Sound a free) where
-  past-4 : {B : Type 0} (k : ℕ) → ((Sound a free → ⊥) × (k ≡ 4)) ⊎ (Sound a free × B) → B
-  past-4 k u = ⊎_elim (λ w. absurd (w.0 s)) (λ w. w.1) u
+  past_4 : {B : Type 0} (k : ℕ) → ((Sound a free → ⊥) × (k ≡ 4)) ⊎ (Sound a free × B) → B
+  past_4 k u = ⊎_elim (λ w. absurd (w.0 s)) (λ w. w.1) u
 
-  pub deque-not-4 : (d : ℕ) → dequeRows a free d 4 → ⊥
-  deque-not-4 d u = ⊎_elim (λ w. omega (arith, w.1)) (λ w. omega (arith, w.1)) (past-4 4 u)
+  pub deque_not_4 : (d : ℕ) → deque_rows a free d 4 → ⊥
+  deque_not_4 d u = ⊎_elim (λ w. omega (arith, w.1)) (λ w. omega (arith, w.1)) (past_4 4 u)
 
-  pub push-not-4 : (d : ℕ) → pushRows a free d 4 → ⊥
-  push-not-4 d u = ⊎_elim (λ w. omega (arith, w.1)) (λ w. ⊎_elim (λ x. omega (arith, x.1)) (λ x. omega (arith, x.1)) w.1) (past-4 4 u)
+  pub push_not_4 : (d : ℕ) → push_rows a free d 4 → ⊥
+  push_not_4 d u = ⊎_elim (λ w. omega (arith, w.1)) (λ w. ⊎_elim (λ x. omega (arith, x.1)) (λ x. omega (arith, x.1)) w.1) (past_4 4 u)
 
-  pub node-not-4 : (d x : ℕ) → nodeRows a free d x 4 → ⊥
-  node-not-4 d x u = ⊎_elim (λ w. omega (arith, w.1)) (λ w. ⊎_elim (λ y. omega (arith, y.1)) (λ y. omega (arith, y.1)) w.1) (past-4 4 u)
+  pub node_not_4 : (d x : ℕ) → node_rows a free d x 4 → ⊥
+  node_not_4 d x u = ⊎_elim (λ w. omega (arith, w.1)) (λ w. ⊎_elim (λ y. omega (arith, y.1)) (λ y. omega (arith, y.1)) w.1) (past_4 4 u)
 
 -- so a call whose rows never give 4 does not answer that refusal
-pub no-4 : (rows : ℕ → Type 0) (a b after : State) (t then : Told) → Meets rows a b t after then → (rows 4 → ⊥) → (then ≡ refused 4 → ⊥) → t ≡ refused 4 → ⊥
-no-4 rows a b after t then m n q e =
+pub no_4 : (rows : ℕ → Type 0) (a b after : State) (t then : Told) → Meets rows a b t after then → (rows 4 → ⊥) → (then ≡ refused 4 → ⊥) → t ≡ refused 4 → ⊥
+no_4 rows a b after t then m n q e =
     ⊎_elim
     (λ (z : m.number ≡ 0). q (sym (m.result z).0 ∙ e))
     (λ (z : m.number ≡ 0 → ⊥). n (subst rows (same m.number 4 (sym (m.refusal z).0 ∙ e)) m.by))
@@ -58,9 +58,9 @@ no-4 rows a b after t then m n q e =
     same j k i = cc
 
 -- ---- a result that tells values was no refusal, and what a refusal leaves
-by-0 : (rows : ℕ → Type 0) (a b after : State) (t then : Told) → Meets rows a b t after then → ((k : ℕ) → t ≡ refused k → ⊥) → (number : ℕ) × rows number ×
+by_0 : (rows : ℕ → Type 0) (a b after : State) (t then : Told) → Meets rows a b t after then → ((k : ℕ) → t ≡ refused k → ⊥) → (number : ℕ) × rows number ×
     (number ≡ 0) × (t ≡ then) × (b ≡ after)
-by-0 rows a b after t then m n =
+by_0 rows a b after t then m n =
     ⊎_elim
     (λ (z : m.number ≡ 0). (m.number, m.by, z, (m.result z).0, (m.result z).1))
     (λ (z : m.number ≡ 0 → ⊥). absurd (n m.number (m.refusal z).0))
@@ -70,47 +70,47 @@ pub left_alone : (rows : ℕ → Type 0) (a b after : State) (k : ℕ) (then : T
 left_alone rows a b after k then m n =
     ⊎_elim (λ (z : m.number ≡ 0). absurd (n (m.result z).0)) (λ (z : m.number ≡ 0 → ⊥). (m.refusal z).1) (same? m.number 0)
 
-not-refused : (xs : List ℕ) (k : ℕ) → values xs ≡ refused k → ⊥
-not-refused xs k e = let z : ◌≡◌ {A = ℕ} 0 1 = cc in omega arith
+not_refused_lem : (xs : List ℕ) (k : ℕ) → values xs ≡ refused k → ⊥
+not_refused_lem xs k e = let z : ◌≡◌ {A = ℕ} 0 1 = cc in omega arith
 
-pub not-values : (xs : List ℕ) (k : ℕ) → refused k ≡ values xs → ⊥
-not-values xs k e = let z : ◌≡◌ {A = ℕ} 0 1 = cc in omega arith
+pub not_values : (xs : List ℕ) (k : ℕ) → refused k ≡ values xs → ⊥
+not_values xs k e = let z : ◌≡◌ {A = ℕ} 0 1 = cc in omega arith
 
-nothing-refused : (k : ℕ) → nothing ≡ refused k → ⊥
-nothing-refused k e = let z : ◌≡◌ {A = ℕ} 0 1 = cc in omega arith
+nothing_refused : (k : ℕ) → nothing ≡ refused k → ⊥
+nothing_refused k e = let z : ◌≡◌ {A = ℕ} 0 1 = cc in omega arith
 
-nothing-values : (xs : List ℕ) → nothing ≡ values xs → ⊥
-nothing-values xs e = let z : ◌≡◌ {A = ℕ} 0 1 = cc in omega arith
+nothing_values : (xs : List ℕ) → nothing ≡ values xs → ⊥
+nothing_values xs e = let z : ◌≡◌ {A = ℕ} 0 1 = cc in omega arith
 
 -- a look tells a node or nothing
-pub look-refused : (a : State) (x k : ℕ) → lookTold a x ≡ refused k → ⊥
-look-refused a x k e =
+pub look_refused : (a : State) (x k : ℕ) → look_told a x ≡ refused k → ⊥
+look_refused a x k e =
     ⊎_elim
-    (λ (i : x ≡ none). nothing-refused k (simp (eq-eqb x none i) at e))
-    (λ (n : x ≡ none → ⊥). not-refused _ k (simp (ne_eqb x none n) at e))
+    (λ (i : x ≡ none). nothing_refused k (simp (eq-eqb x none i) at e))
+    (λ (n : x ≡ none → ⊥). not_refused_lem _ k (simp (ne_eqb x none n) at e))
     (same? x none)
 
-pub pop-refused : (a : State) (d k : ℕ) → refused k ≡ popTold a d → ⊥
-pop-refused a d k e =
+pub pop_refused : (a : State) (d k : ℕ) → refused k ≡ pop_told a d → ⊥
+pop_refused a d k e =
     ⊎_elim
-    (λ (i : frontOf a d ≡ none). nothing-refused k (sym (simp (eq-eqb (frontOf a d) none i) at e)))
-    (λ (n : frontOf a d ≡ none → ⊥). not-values _ k (simp (ne_eqb (frontOf a d) none n) at e))
-    (same? (frontOf a d) none)
+    (λ (i : front_of a d ≡ none). nothing_refused k (sym (simp (eq-eqb (front_of a d) none i) at e)))
+    (λ (n : front_of a d ≡ none → ⊥). not_values _ k (simp (ne_eqb (front_of a d) none n) at e))
+    (same? (front_of a d) none)
 
-pub next-refused : (a : State) (d k : ℕ) → nextTold a d ≡ refused k → ⊥
-next-refused a d k e =
+pub next_refused : (a : State) (d k : ℕ) → next_told a d ≡ refused k → ⊥
+next_refused a d k e =
     ⊎_elim
-    (λ (i : cursorNode a d ≡ pastEnd). nothing-refused k (simp (eq-eqb (cursorNode a d) pastEnd i) at e))
-    (λ (n : cursorNode a d ≡ pastEnd → ⊥). look-refused a (cursorNode a d) k (simp (ne_eqb (cursorNode a d) pastEnd n) at e))
-    (same? (cursorNode a d) pastEnd)
+    (λ (i : cursor_node a d ≡ past_end). nothing_refused k (simp (eq-eqb (cursor_node a d) past_end i) at e))
+    (λ (n : cursor_node a d ≡ past_end → ⊥). look_refused a (cursor_node a d) k (simp (ne_eqb (cursor_node a d) past_end n) at e))
+    (same? (cursor_node a d) past_end)
 
 -- ---- make: all deques empty, all nodes free in ascending order from 0, sound
-pub make-lists : (a b : State) (free f : ℕ) → Promised make a free b (First f) → Shows b f (allFree (deques a) (nodes a)) × (f ≡ first (up_from (nodes a) 0))
-make-lists a b free f m =
-    let u = by-0 _ a b _ _ _ m.meets (not-refused (f ∷ [])) in
+pub make_lists : (a b : State) (free f : ℕ) → Promised make a free b (First f) → Shows b f (all_free (deques a) (nodes a)) × (f ≡ first (up_from (nodes a) 0))
+make_lists a b free f m =
+    let u = by_0 _ a b _ _ _ m.meets (not_refused_lem (f ∷ [])) in
     let z : Lent a = ⊎_elim (λ w. absurd (omega (arith, w.1, u.2))) (λ w. w.0) u.1 in
     let i : f ≡ first (up_from (nodes a) 0) = one f (first (up_from (nodes a) 0)) u.3 in
-    (subst (λ (y : ℕ). Shows b y (allFree (deques a) (nodes a))) (sym i) (rw u.4 (made-shows a z)), i)
+    (subst (λ (y : ℕ). Shows b y (all_free (deques a) (nodes a))) (sym i) (rw u.4 (made_shows a z)), i)
   where
     one : (x y : ℕ) → values (x ∷ []) ≡ values (y ∷ []) → x ≡ y
     one x y e = cc
@@ -118,21 +118,21 @@ make-lists a b free f m =
 -- ---- the calls on lists
 module _ (a b : State) (free : ℕ) (v : Lists) (s : Shows a free v) (d : ℕ) where
   slot_of : (w : Lists) (t : Shows a free w) (x : ℕ) → x < w.slots → x < v.slots
-  slot_of w t x h = omega (arith, h, t.rep.next-len, s.rep.next-len)
+  slot_of w t x h = omega (arith, h, t.rep.next_len, s.rep.next_len)
 
   count_of : (w : Lists) (t : Shows a free w) → d < w.count → d < v.count
-  count_of w t h = omega (arith, h, t.rep.heads-len, s.rep.heads-len)
+  count_of w t h = omega (arith, h, t.rep.heads_len, s.rep.heads_len)
 
   -- push back: the first free node, with the element, is the last of its deque
-  pub push-lists : (e x f : ℕ) → Promised (pushCall d e) a free b (At x f) → (v.free ≡ x ∷ rest v.free) × (elementOf b x ≡ e) × Shows b f (pushBack d x (taken v))
-  push-lists e x f m =
-      let u = by-0 _ a b _ _ _ m.meets (not-refused (x ∷ f ∷ [])) in
-      let y = push-ready a free d u.0 u.2 (record { by = u.1 }) in
+  pub push_lists : (e x f : ℕ) → Promised (pushCall d e) a free b (At x f) → (v.free ≡ x ∷ rest v.free) × (element_of b x ≡ e) × Shows b f (push_back d x (taken v))
+  push_lists e x f m =
+      let u = by_0 _ a b _ _ _ m.meets (not_refused_lem (x ∷ f ∷ [])) in
+      let y = push_ready a free d u.0 u.2 (record { by = u.1 }) in
       let p = two x f free (next_of a free) u.3 in
       let l : free < v.slots = slot_of y.v y.shows free y.slot in
-      let q = pushed-shows a free v s d e l (count_of y.v y.shows y.deque) in (
-        some_first v.free x (s.free-is ∙ sym p.0) (λ i. omega (arith, i, p.0, l, s.rep.small)),
-        rw (u.4, p.0) (get_or-set_same a.elements free e 0 (omega (arith, l, s.rep.next-len, s.lent.nodes.elements-len))),
+      let q = pushed_shows a free v s d e l (count_of y.v y.shows y.deque) in (
+        some_first v.free x (s.free_is ∙ sym p.0) (λ i. omega (arith, i, p.0, l, s.rep.small)),
+        rw (u.4, p.0) (get_or-set_same a.elements free e 0 (omega (arith, l, s.rep.next_len, s.lent.nodes.elements_len))),
         rw (u.4, p.0, p.1) q,
       )
     where
@@ -140,68 +140,68 @@ module _ (a b : State) (free : ℕ) (v : Lists) (s : Shows a free v) (d : ℕ) w
       two x y z w e = (cc, cc)
 
   -- pop front: the first of the deque leaves it and is the next node to be taken; where there is none nothing happens
-  pub pop-lists : (x e f : ℕ) → Promised (popFront d) a free b (PoppedNode x e f) → (deq v d ≡ x ∷ rest (deq v d)) × (e ≡ elementOf a x) × (f ≡ x) × Shows b x
-      (freed x (withDeque d (rest (deq v d)) v))
-  pop-lists x e f m =
-      let u = by-0 _ a b _ _ _ m.meets (not-refused (x ∷ e ∷ f ∷ [])) in
-      let y = deque-ready a free d u.0 u.2 (record { by = u.1 }) in
+  pub pop_lists : (x e f : ℕ) → Promised (pop_front d) a free b (PoppedNode x e f) → (deq v d ≡ x ∷ rest (deq v d)) × (e ≡ element_of a x) × (f ≡ x) × Shows b x
+      (freed x (with_deque d (rest (deq v d)) v))
+  pop_lists x e f m =
+      let u = by_0 _ a b _ _ _ m.meets (not_refused_lem (x ∷ e ∷ f ∷ [])) in
+      let y = deque_ready a free d u.0 u.2 (record { by = u.1 }) in
       let h : d < v.count = count_of y.v y.shows y.deque in
       ⊎_elim
-      (λ (i : frontOf a d ≡ none). absurd (nothing-values _ (sym (simp (eq-eqb (frontOf a d) none i) at u.3))))
-      (λ (n : frontOf a d ≡ none → ⊥).
-      let p = three x e f (frontOf a d) (elementOf a (frontOf a d)) (simp (ne_eqb (frontOf a d) none n) at u.3) in
-      let r : b ≡ released a free d (frontOf a d) = u.4 ∙ simp (ne_eqb (frontOf a d) none n) in
-      let k : deq v d ≡ x ∷ rest (deq v d) = some_first (deq v d) x (sym (head-is a.links v [] s.rep d h) ∙ sym p.0) (λ i. n (sym p.0 ∙ i)) in
+      (λ (i : front_of a d ≡ none). absurd (nothing_values _ (sym (simp (eq-eqb (front_of a d) none i) at u.3))))
+      (λ (n : front_of a d ≡ none → ⊥).
+      let p = three x e f (front_of a d) (element_of a (front_of a d)) (simp (ne_eqb (front_of a d) none n) at u.3) in
+      let r : b ≡ released a free d (front_of a d) = u.4 ∙ simp (ne_eqb (front_of a d) none n) in
+      let k : deq v d ≡ x ∷ rest (deq v d) = some_first (deq v d) x (sym (head_is a.links v [] s.rep d h) ∙ sym p.0) (λ i. n (sym p.0 ∙ i)) in
       let w = s.rep.member d x h (in-same x (sym k) (inl refl)) in
-      let q : Shows (released a free d x) x (freed x (takeOut d x v)) = released-shows a free v s d x w.0 h w.1 in
+      let q : Shows (released a free d x) x (freed x (take_out d x v)) = released_shows a free v s d x w.0 h w.1 in
       let c : remove x (deq v d) ≡ rest (deq v d) = ap (remove x) k ∙ remove_first x (rest (deq v d)) in (
         k,
-        p.1 ∙ ap (elementOf a) (sym p.0),
+        p.1 ∙ ap (element_of a) (sym p.0),
         p.2 ∙ sym p.0,
-        subst (λ (z : State). Shows z x (freed x (withDeque d (rest (deq v d)) v))) (sym (r ∙ ap (released a free d) (sym p.0)))
-            (subst (λ (ys : List ℕ). Shows (released a free d x) x (freed x (withDeque d ys v))) c q),
+        subst (λ (z : State). Shows z x (freed x (with_deque d (rest (deq v d)) v))) (sym (r ∙ ap (released a free d) (sym p.0)))
+            (subst (λ (ys : List ℕ). Shows (released a free d x) x (freed x (with_deque d ys v))) c q),
       ))
-      (same? (frontOf a d) none)
+      (same? (front_of a d) none)
     where
       three : (x y z u w : ℕ) → values (x ∷ y ∷ z ∷ []) ≡ values (u ∷ w ∷ u ∷ []) → (x ≡ u) × (y ≡ w) × (z ≡ u)
       three x y z u w e = (cc, cc, cc)
 
-  pub pop-empty : Promised (popFront d) a free b PoppedNothing → (deq v d ≡ []) × (b ≡ a)
-  pop-empty m =
-      let u = by-0 _ a b _ _ _ m.meets nothing-refused in
-      let y = deque-ready a free d u.0 u.2 (record { by = u.1 }) in
+  pub pop_empty : Promised (pop_front d) a free b PoppedNothing → (deq v d ≡ []) × (b ≡ a)
+  pop_empty m =
+      let u = by_0 _ a b _ _ _ m.meets nothing_refused in
+      let y = deque_ready a free d u.0 u.2 (record { by = u.1 }) in
       let h : d < v.count = count_of y.v y.shows y.deque in
       ⊎_elim
-      (λ (i : frontOf a d ≡ none). (
-        no-first (deq v d) (slot-real a.links v [] s.rep d h) (sym (head-is a.links v [] s.rep d h) ∙ i),
+      (λ (i : front_of a d ≡ none). (
+        no_first (deq v d) (slot_real a.links v [] s.rep d h) (sym (head_is a.links v [] s.rep d h) ∙ i),
         u.4 ∙ simp
-            (eq-eqb (frontOf a d) none i),
+            (eq-eqb (front_of a d) none i),
       ))
-      (λ (n : frontOf a d ≡ none → ⊥). absurd (nothing-values _ (simp (ne_eqb (frontOf a d) none n) at u.3)))
-      (same? (frontOf a d) none)
+      (λ (n : front_of a d ≡ none → ⊥). absurd (nothing_values _ (simp (ne_eqb (front_of a d) none n) at u.3)))
+      (same? (front_of a d) none)
     where
-      no-first : (xs : List ℕ) → ((x : ℕ) → In x xs → x ≡ none → ⊥) → first xs ≡ none → xs ≡ []
-      no-first [] p i = refl
-      no-first (x ∷ xs) p i = absurd (p x (inl refl) i)
+      no_first : (xs : List ℕ) → ((x : ℕ) → In x xs → x ≡ none → ⊥) → first xs ≡ none → xs ≡ []
+      no_first [] p i = refl
+      no_first (x ∷ xs) p i = absurd (p x (inl refl) i)
 
   -- unlink and drop: the node leaves its deque and is the next to be taken
-  pub drop-lists : (x e f : ℕ) → Promised (unlinkAndDrop d x) a free b (Element e f) → In x (deq v d) × (e ≡ elementOf a x) × (f ≡ x) × Shows b x (freed x (takeOut d x v))
-  drop-lists x e f m =
-      let u = by-0 _ a b _ _ _ m.meets (not-refused (e ∷ f ∷ [])) in
-      let y = node-ready a free d u.0 u.2 x (record { by = u.1 }) in
+  pub drop_lists : (x e f : ℕ) → Promised (unlink_and_drop d x) a free b (Element e f) → In x (deq v d) × (e ≡ element_of a x) × (f ≡ x) × Shows b x (freed x (take_out d x v))
+  drop_lists x e f m =
+      let u = by_0 _ a b _ _ _ m.meets (not_refused_lem (e ∷ f ∷ [])) in
+      let y = node_ready a free d u.0 u.2 x (record { by = u.1 }) in
       let h : d < v.count = count_of y.v y.shows y.deque in
       let l : x < v.slots = slot_of y.v y.shows x y.slot in
-      let p = two e f (elementOf a x) x u.3 in
-      (in-home a.links v [] s.rep x d l h y.homed, p.0, p.1, rw u.4 (released-shows a free v s d x l h y.homed))
+      let p = two e f (element_of a x) x u.3 in
+      (in-home a.links v [] s.rep x d l h y.homed, p.0, p.1, rw u.4 (released_shows a free v s d x l h y.homed))
     where
       two : (x y z w : ℕ) → values (x ∷ y ∷ []) ≡ values (z ∷ w ∷ []) → (x ≡ z) × (y ≡ w)
       two x y z w e = (cc, cc)
 
   -- move to back: the node is the last of its deque, the others in their order
-  pub move-lists : (x : ℕ) → Promised (moveToBack d x) a free b Did → In x (deq v d) × Shows b free (toBack d x v)
-  move-lists x m =
-      let u = by-0 _ a b _ _ _ m.meets (not-refused []) in
-      let y = node-ready a free d u.0 u.2 x (record { by = u.1 }) in
+  pub move_lists : (x : ℕ) → Promised (move_to_back d x) a free b Did → In x (deq v d) × Shows b free (to_back d x v)
+  move_lists x m =
+      let u = by_0 _ a b _ _ _ m.meets (not_refused_lem []) in
+      let y = node_ready a free d u.0 u.2 x (record { by = u.1 }) in
       let h : d < v.count = count_of y.v y.shows y.deque in
       let l : x < v.slots = slot_of y.v y.shows x y.slot in
-      (in-home a.links v [] s.rep x d l h y.homed, rw u.4 (moved-shows a free v s d x l h y.homed))
+      (in-home a.links v [] s.rep x d l h y.homed, rw u.4 (moved_shows a free v s d x l h y.homed))

@@ -7,62 +7,62 @@ use mathlib.Core.Bool.{Bool, true, false, false≢true, not}
 use mathlib.Core.List.{List, []}
 use lib.ListN.{length, get_or}
 use lib.Dec.{eqb}
-use borrow.Author.Tests.{eq-eqb, eqb-true, not-true, not-false}
-use Rattle.numbers.specs.Shared.{no_slot as none, pastEnd}
+use borrow.Author.Tests.{eq-eqb, eqb-true, not_true, not-false}
+use Rattle.numbers.specs.Shared.{no_slot as none, past_end}
 use Rattle.deque_rules.specs.Links.{links, home_of, deq, Whole}
 use Rattle.deque_rules.specs.Layout.{Sizes}
 use Rattle.deque_rules.specs.Sound.{Walked, WalkedFree, SizesFree}
 use Rattle.numbers.proofs.Cases.{same?}
-use Rattle.deque_rules.proofs.Laws.{in-home, Upto, begin, more, no_walk, no-walk-free, walk-counts, too_few, is_whole}
-use Rattle.deque_rules.specs.Deque.{State, state, dequeCount as deques, nodeCount as nodes, LentDeques, LentNodes, Lent, Sound}
+use Rattle.deque_rules.proofs.Laws.{in-home, Upto, begin, more, no_walk, no_walk_free, walk_counts, too_few, is_whole}
+use Rattle.deque_rules.specs.Deque.{State, state, deque_count as deques, node_count as nodes, LentDeques, LentNodes, Lent, Sound}
 use Rattle.deque_rules.specs.alone.Sound.{DequesOk, NodesOk, IsLent, Judged, StandsBy, StandsOk}
-use Rattle.deque_rules.proofs.alone.Sounding.{shows-sound, sound-shows, shows-whole}
+use Rattle.deque_rules.proofs.alone.Sounding.{shows_sound, sound_shows, shows_whole}
 
 -- ---- the lengths
-pub few-deques : (h t l c : List ℕ) → (LentDeques h t l c → ⊥) → DequesOk h t l c false
-few-deques h t l c n = record { sound = λ e. absurd (false≢true e); complete = λ z. absurd (n z) }
+pub few_deques : (h t l c : List ℕ) → (LentDeques h t l c → ⊥) → DequesOk h t l c false
+few_deques h t l c n = record { sound = λ e. absurd (false≢true e); complete = λ z. absurd (n z) }
 
-pub deques-by : (h t l c : List ℕ) → 1 ≤ length h → length h ≤ 256 → length t ≡ length h → length l ≡ length h → DequesOk h t l c (eqb (length c) (length h))
-deques-by h t l c i j k m =
+pub deques_by : (h t l c : List ℕ) → 1 ≤ length h → length h ≤ 256 → length t ≡ length h → length l ≡ length h → DequesOk h t l c (eqb (length c) (length h))
+deques_by h t l c i j k m =
     record {
-      sound = λ e. record { some = i; few = j; tails-len = k; lens-len = m; cursors-len = eqb-true (length c) (length h) e };
-      complete = λ z. eq-eqb (length c) (length h) z.cursors-len;
+      sound = λ e. record { some = i; few = j; tails_len = k; lens_len = m; cursors_len = eqb-true (length c) (length h) e };
+      complete = λ z. eq-eqb (length c) (length h) z.cursors_len;
     }
 
-pub few-nodes : (n p o e : List ℕ) → (LentNodes n p o e → ⊥) → NodesOk n p o e false
-few-nodes n p o e k = record { sound = λ i. absurd (false≢true i); complete = λ z. absurd (k z) }
+pub few_nodes : (n p o e : List ℕ) → (LentNodes n p o e → ⊥) → NodesOk n p o e false
+few_nodes n p o e k = record { sound = λ i. absurd (false≢true i); complete = λ z. absurd (k z) }
 
-pub nodes-by : (n p o e : List ℕ) → 1 ≤ length n → length n ≤ none → length p ≡ length n → length o ≡ length n → NodesOk n p o e (eqb (length e) (length n))
-nodes-by n p o e i j k m =
+pub nodes_by : (n p o e : List ℕ) → 1 ≤ length n → length n ≤ none → length p ≡ length n → length o ≡ length n → NodesOk n p o e (eqb (length e) (length n))
+nodes_by n p o e i j k m =
     record {
-      sound = λ q. record { some = i; small = j; prev-len = k; home-len = m; elements-len = eqb-true (length e) (length n) q };
-      complete = λ z. eq-eqb (length e) (length n) z.elements-len;
+      sound = λ q. record { some = i; small = j; prev_len = k; home_len = m; elements_len = eqb-true (length e) (length n) q };
+      complete = λ z. eq-eqb (length e) (length n) z.elements_len;
     }
 
 module _ (h t l c n p o e : List ℕ) where
-  pub not-deques : (r : Bool) → DequesOk h t l c r → not r ≡ true → IsLent (state h t l c n p o e) false
-  not-deques r z i = record { sound = λ q. absurd (false≢true q); complete = λ y. absurd (false≢true (sym (not-true r i) ∙ z.complete y.deques)) }
+  pub not_deques : (r : Bool) → DequesOk h t l c r → not r ≡ true → IsLent (state h t l c n p o e) false
+  not_deques r z i = record { sound = λ q. absurd (false≢true q); complete = λ y. absurd (false≢true (sym (not_true r i) ∙ z.complete y.deques)) }
 
-  pub both-lent : (r q : Bool) → DequesOk h t l c r → not r ≡ false → NodesOk n p o e q → IsLent (state h t l c n p o e) q
-  both-lent r q z i y = record { sound = λ j. record { deques = z.sound (not-false r i); nodes = y.sound j }; complete = λ x. y.complete x.nodes }
+  pub both_lent : (r q : Bool) → DequesOk h t l c r → not r ≡ false → NodesOk n p o e q → IsLent (state h t l c n p o e) q
+  both_lent r q z i y = record { sound = λ j. record { deques = z.sound (not-false r i); nodes = y.sound j }; complete = λ x. y.complete x.nodes }
 
 -- ---- the cursor
 module _ (c : ℕ) (home : List ℕ) (d : ℕ) where
   pub at_none : c ≡ none → StandsOk c home d true
   at_none e = record { sound = λ _. inl e; complete = λ _. refl }
 
-  pub past : c ≡ pastEnd → StandsOk c home d true
+  pub past : c ≡ past_end → StandsOk c home d true
   past e = record { sound = λ _. inr (inl e); complete = λ _. refl }
 
-  pub off : (c ≡ none → ⊥) → (c ≡ pastEnd → ⊥) → length home ≤ c → StandsOk c home d false
+  pub off : (c ≡ none → ⊥) → (c ≡ past_end → ⊥) → length home ≤ c → StandsOk c home d false
   off n m l =
       record {
         sound = λ e. absurd (false≢true e);
         complete = λ w. absurd (⊎_elim n (λ u. ⊎_elim m (λ (k : (c < length home) × (get_or home c 0 ≡ d)). omega (arith, k.0, l)) u) w);
       }
 
-  pub on-node : (c ≡ none → ⊥) → (c ≡ pastEnd → ⊥) → c < length home → StandsOk c home d (eqb (get_or home c 0) d)
-  on-node n m l =
+  pub on_node : (c ≡ none → ⊥) → (c ≡ past_end → ⊥) → c < length home → StandsOk c home d (eqb (get_or home c 0) d)
+  on_node n m l =
       record {
         sound = λ e. inr (inr (l, eqb-true (get_or home c 0) d e));
         complete = λ w.
@@ -72,7 +72,7 @@ module _ (c : ℕ) (home : List ℕ) (d : ℕ) where
             w;
       }
 
-pub ruleset cursors = (at_none, past, off, on-node)
+pub ruleset cursors = (at_none, past, off, on_node)
 
 -- ---- the loop: the deques below d have been walked, their lengths are those recorded and their cursors stand
 pub record Seen (a : State) (d total : ℕ) : Type 0 where
@@ -85,9 +85,9 @@ module _ (a : State) where
   sizes : Lent a → Sizes a.links
   sizes z =
       record {
-        tails-len = z.deques.tails-len;
-        prev-len = z.nodes.prev-len;
-        home-len = z.nodes.home-len;
+        tails_len = z.deques.tails_len;
+        prev_len = z.nodes.prev_len;
+        home_len = z.nodes.home_len;
         few = omega (arith, z.deques.few);
         small = z.nodes.small;
       }
@@ -105,7 +105,7 @@ module _ (a : State) where
         walked = more a.links d total c s.walked h w l;
         lengths = λ i j free u.
             ⊎_elim
-            (λ (q : i ≡ d). rw q (e ∙ sym (walk-counts a.links free d c h w l u)))
+            (λ (q : i ≡ d). rw q (e ∙ sym (walk_counts a.links free d c h w l u)))
             (λ (m : i ≡ d → ⊥). s.lengths i (omega (arith, j, m)) free u)
             (same? i d);
         stand = λ i j. ⊎_elim (λ (q : i ≡ d). rw q (k.sound (not-false r n))) (λ (m : i ≡ d → ⊥). s.stand i (omega (arith, j, m))) (same? i d);
@@ -116,39 +116,39 @@ module _ (a : State) where
     nay n = record { sound = λ e. absurd (false≢true e); complete = λ s. absurd (n s) }
 
     whole : Sound a free → Whole a.links free
-    whole s = shows-whole a free _ (sound-shows a free s)
+    whole s = shows_whole a free _ (sound_shows a free s)
 
-    pub not-lent : (r : Bool) → IsLent a r → not r ≡ true → Judged a free false
-    not-lent r z e = nay (λ s. false≢true (sym (not-true r e) ∙ z.complete s.lent))
+    pub not_lent : (r : Bool) → IsLent a r → not r ≡ true → Judged a free false
+    not_lent r z e = nay (λ s. false≢true (sym (not_true r e) ∙ z.complete s.lent))
 
-    pub bad-links : (d total c : ℕ) → Seen a d total → d < deques a → Walked a.links d c → none < c → Judged a free false
-    bad-links d total c s h w l = nay (λ z. no_walk a.links free d c h w l (whole z))
+    pub bad_links : (d total c : ℕ) → Seen a d total → d < deques a → Walked a.links d c → none < c → Judged a free false
+    bad_links d total c s h w l = nay (λ z. no_walk a.links free d c h w l (whole z))
 
-    pub bad-length : (d total c : ℕ) → Seen a d total → d < deques a → Walked a.links d c → c ≤ none → (get_or a.lens d 0 ≡ c → ⊥) → Judged a free false
-    bad-length d total c s h w l n =
+    pub bad_length : (d total c : ℕ) → Seen a d total → d < deques a → Walked a.links d c → c ≤ none → (get_or a.lens d 0 ≡ c → ⊥) → Judged a free false
+    bad_length d total c s h w l n =
         nay (λ z.
-        let u = sound-shows a free z in
-        n (u.lengths d h ∙ walk-counts a.links free d c h w l (shows-whole a free _ u)))
+        let u = sound_shows a free z in
+        n (u.lengths d h ∙ walk_counts a.links free d c h w l (shows_whole a free _ u)))
 
-    pub bad-cursor : (d total : ℕ) (r : Bool) → Seen a d total → d < deques a → StandsOk (get_or a.cursors d 0) a.links.home d r → not r ≡ true → Judged a
+    pub bad_cursor : (d total : ℕ) (r : Bool) → Seen a d total → d < deques a → StandsOk (get_or a.cursors d 0) a.links.home d r → not r ≡ true → Judged a
         free false
-    bad-cursor d total r s h k n =
+    bad_cursor d total r s h k n =
         nay (λ z.
-        let u = sound-shows a free z in
+        let u = sound_shows a free z in
         false≢true
-        (sym (not-true r n)
+        (sym (not_true r n)
         ∙ k.complete
         (⊎_elim
         (λ e. inl e)
         (λ q.
         ⊎_elim
         (λ e. inr (inl e))
-        (λ m. let y = u.rep.member d (get_or a.cursors d 0) h m in inr (inr (omega (arith, y.0, z.lent.nodes.home-len), y.1)))
+        (λ m. let y = u.rep.member d (get_or a.cursors d 0) h m in inr (inr (omega (arith, y.0, z.lent.nodes.home_len), y.1)))
         q)
         (u.cursors d h))))
 
-    pub bad-free : (c : ℕ) → WalkedFree a.links.next a.links.home free c → none < c → Judged a free false
-    bad-free c k l = nay (λ z. no-walk-free a.links free c k l (whole z))
+    pub bad_free : (c : ℕ) → WalkedFree a.links.next a.links.home free c → none < c → Judged a free false
+    bad_free c k l = nay (λ z. no_walk_free a.links free c k l (whole z))
 
     pub counted : (d total c : ℕ) → Seen a d total → deques a ≤ d → WalkedFree a.links.next a.links.home free c → c ≤ none → Judged a free
         (eqb (total + c) (nodes a))
@@ -157,12 +157,12 @@ module _ (a : State) where
           sound = λ e.
               let w = is_whole a.links free d total c s.walked h k l (eqb-true (total + c) (nodes a) e) in
               let r = w.rep in
-              let below : (i : ℕ) → i < w.v.count → i < d = λ i j. omega (arith, j, r.heads-len, h) in
-              shows-sound a free w.v
+              let below : (i : ℕ) → i < w.v.count → i < d = λ i j. omega (arith, j, r.heads_len, h) in
+              shows_sound a free w.v
               record {
                 lent = s.lent;
                 rep = r;
-                free-is = w.free-is;
+                free_is = w.free_is;
                 lengths = λ i j. s.lengths i (below i j) free w;
                 cursors = λ i j.
                     ⊎_elim
@@ -171,7 +171,7 @@ module _ (a : State) where
                     ⊎_elim
                     (λ y. inr (inl y))
                     (λ (y : (get_or a.cursors i 0 < length a.links.home) × (home_of a.links (get_or a.cursors i 0) ≡ i)).
-                    inr (inr (in-home a.links w.v [] r (get_or a.cursors i 0) i (omega (arith, y.0, r.home-len)) j y.1)))
+                    inr (inr (in-home a.links w.v [] r (get_or a.cursors i 0) i (omega (arith, y.0, r.home_len)) j y.1)))
                     q)
                     (s.stand i (below i j));
               };
@@ -184,8 +184,8 @@ module _ (a : State) where
 
 -- what the walks ask
 module _ (h t l c n p o e : List ℕ) where
-  pub asks-free : (d total : ℕ) → Seen (state h t l c n p o e) d total → SizesFree n o
-  asks-free d total s = record { home-len = s.lent.nodes.home-len; small = s.lent.nodes.small }
+  pub asks_free : (d total : ℕ) → Seen (state h t l c n p o e) d total → SizesFree n o
+  asks_free d total s = record { home_len = s.lent.nodes.home_len; small = s.lent.nodes.small }
 
 -- the laws of the ways out
-pub ruleset exits = (not-lent, bad-links, bad-length, bad-cursor, bad-free, counted)
+pub ruleset exits = (not_lent, bad_links, bad_length, bad_cursor, bad_free, counted)

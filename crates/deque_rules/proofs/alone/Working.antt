@@ -10,23 +10,23 @@ use mir.Val.{Fits}
 use Rattle.numbers.specs.Shared.{no_slot as none}
 use Rattle.deque_rules.specs.Links.{Links, Deques as Lists, links, home_of}
 use Rattle.deque_rules.specs.Change.{Pushable, PushesBack, Held, Removes, Ahead, MovesBack}
-use Rattle.deque_rules.specs.Deque.{State, state, movedOn, stepOff, pushed, released, movedBack}
+use Rattle.deque_rules.specs.Deque.{State, state, moved_on, step_off, pushed, released, moved_back}
 use Rattle.deque_rules.specs.alone.State.{Shows}
 use Rattle.deque_rules.specs.alone.Ready.{DequeReady, PushReady, NodeReady}
 use Rattle.deque_rules.specs.declared.alone.Popped.TheVariants.{Node as PoppedNode, Nothing as PoppedNothing}
-use Rattle.deque_rules.proofs.alone.Keeping.{front-in}
-use Rattle.deque_rules.proofs.alone.Looking.{head-none, real}
+use Rattle.deque_rules.proofs.alone.Keeping.{front_in}
+use Rattle.deque_rules.proofs.alone.Looking.{head_none, real}
 use Rattle.deque_rules.specs.alone.Work.{Pushes, Drops, Moves, Pops}
-use Rattle.deque_rules.proofs.alone.Relinking.{length-small, length_some, pushed-shows, released-shows, moved-shows}
+use Rattle.deque_rules.proofs.alone.Relinking.{length_small, length_some, pushed_shows, released_shows, moved_shows}
 
 -- a cursor that stood at s, moved on
-pub off-does : (c n : List ℕ) (d s q : ℕ) → get_or c d 0 ≡ s → q ≡ movedOn n s → set c d q ≡ stepOff c n d s
-off-does c n d s q i j = simp (eq-eqb (get_or c d 0) s i) (ap (λ (x : ℕ). set c d x) j)
+pub off_does : (c n : List ℕ) (d s q : ℕ) → get_or c d 0 ≡ s → q ≡ moved_on n s → set c d q ≡ step_off c n d s
+off_does c n d s q i j = simp (eq-eqb (get_or c d 0) s i) (ap (λ (x : ℕ). set c d x) j)
 
 -- two records whose links are the same
-same-links : {x y : Links} (l c e : List ℕ) → x ≡ y → ◌≡◌ {A = State} (record { links = x; lens = l; cursors = c; elements = e })
+same_links : {x y : Links} (l c e : List ℕ) → x ≡ y → ◌≡◌ {A = State} (record { links = x; lens = l; cursors = c; elements = e })
     (record { links = y; lens = l; cursors = c; elements = e })
-same-links l c e i = ap (λ (z : Links). record { links = z; lens = l; cursors = c; elements = e }) i
+same_links l c e i = ap (λ (z : Links). record { links = z; lens = l; cursors = c; elements = e }) i
 
 module _ (h t l c n p o e : List ℕ) (free d : ℕ) where
   abbrev a : State
@@ -35,86 +35,86 @@ module _ (h t l c n p o e : List ℕ) (free d : ℕ) where
   -- ---- push
   module _ (y : PushReady (state h t l c n p o e) free d) where
     counts_same : (v : Lists) → Shows (state h t l c n p o e) free v → (free < v.slots) × (d < v.count)
-    counts_same v s = (omega (arith, s.rep.home-len, y.shows.rep.home-len, y.slot), omega (arith, s.rep.heads-len, y.shows.rep.heads-len, y.deque))
+    counts_same v s = (omega (arith, s.rep.home_len, y.shows.rep.home_len, y.slot), omega (arith, s.rep.heads_len, y.shows.rep.heads_len, y.deque))
 
-    pub push-asks : Pushable (links h t n p o) free d
-    push-asks = record { v = y.v; rep = y.shows.rep; free-is = y.shows.free-is; slot = y.slot; deque = y.deque }
+    pub push_asks : Pushable (links h t n p o) free d
+    push_asks = record { v = y.v; rep = y.shows.rep; free_is = y.shows.free_is; slot = y.slot; deque = y.deque }
 
-    pub push-fits : Fits w64 (get_or l d 0 + 1)
-    push-fits = omega (arith, length-small a free y.v y.shows d y.deque, y.shows.rep.small)
+    pub push_fits : Fits w64 (get_or l d 0 + 1)
+    push_fits = omega (arith, length_small a free y.v y.shows d y.deque, y.shows.rep.small)
 
-    pub push-does : (h' t' n' p' o' : List ℕ) (x r : ℕ) → PushesBack (links h t n p o) (links h' t' n' p' o') free d r → Pushes (state h t l c n p o e)
+    pub push_does : (h' t' n' p' o' : List ℕ) (x r : ℕ) → PushesBack (links h t n p o) (links h' t' n' p' o') free d r → Pushes (state h t l c n p o e)
         (state h' t' (set l d (get_or l d 0 + 1)) c n' p' o' (set e free x)) free d x r
-    push-does h' t' n' p' o' x r b =
-        let i : state h' t' (set l d (get_or l d 0 + 1)) c n' p' o' (set e free x) ≡ pushed a free d x = same-links (set l d (get_or l d 0 + 1)) c (set e free x)
+    push_does h' t' n' p' o' x r b =
+        let i : state h' t' (set l d (get_or l d 0 + 1)) c n' p' o' (set e free x) ≡ pushed a free d x = same_links (set l d (get_or l d 0 + 1)) c (set e free x)
         b.is in
         record {
           is = i;
-          free-is = b.free-is;
+          free_is = b.free_is;
           does = λ v s.
               let u = counts_same v s in
-              rw (i, b.free-is) (pushed-shows a free v s d x u.0 u.1);
+              rw (i, b.free_is) (pushed_shows a free v s d x u.0 u.1);
         }
 
   -- ---- a node of d
   module _ (s : ℕ) (y : NodeReady (state h t l c n p o e) free d s) where
-    node-same : (v : Lists) → Shows (state h t l c n p o e) free v → (s < v.slots) × (d < v.count)
-    node-same v k = (omega (arith, k.rep.home-len, y.shows.rep.home-len, y.slot), omega (arith, k.rep.heads-len, y.shows.rep.heads-len, y.deque))
+    node_same : (v : Lists) → Shows (state h t l c n p o e) free v → (s < v.slots) × (d < v.count)
+    node_same v k = (omega (arith, k.rep.home_len, y.shows.rep.home_len, y.slot), omega (arith, k.rep.heads_len, y.shows.rep.heads_len, y.deque))
 
     homed : home_of (links h t n p o) s ≡ none → ⊥
     homed i = omega (arith, y.homed, i, y.deque, y.shows.rep.few)
 
-    pub node-held : Held (links h t n p o) s
-    node-held = record { v = y.v; loose = []; rep = y.shows.rep; slot = y.slot; homed = homed }
+    pub node_held : Held (links h t n p o) s
+    node_held = record { v = y.v; loose = []; rep = y.shows.rep; slot = y.slot; homed = homed }
 
-    pub node-ahead : (get_or t d 0 ≡ s → ⊥) → Ahead (links h t n p o) d s
-    node-ahead i = record { held = record { v = y.v; loose = []; rep = y.shows.rep; slot = y.slot; deque = y.deque; homed = y.homed }; not_last = i }
+    pub node_ahead : (get_or t d 0 ≡ s → ⊥) → Ahead (links h t n p o) d s
+    node_ahead i = record { held = record { v = y.v; loose = []; rep = y.shows.rep; slot = y.slot; deque = y.deque; homed = y.homed }; not_last = i }
 
-    pub node-some : 1 ≤ get_or l d 0
-    node-some = length_some a free y.v y.shows d s y.slot y.deque y.homed
+    pub node_some : 1 ≤ get_or l d 0
+    node_some = length_some a free y.v y.shows d s y.slot y.deque y.homed
 
-    pub release-does : (c' h' t' n' p' o' : List ℕ) (r : ℕ) → r ≡ get_or e s 0 → c' ≡ stepOff c n d s → Removes (links h t n p o) (links h' t' n' p' o') free s →
+    pub release_does : (c' h' t' n' p' o' : List ℕ) (r : ℕ) → r ≡ get_or e s 0 → c' ≡ step_off c n d s → Removes (links h t n p o) (links h' t' n' p' o') free s →
         Drops (state h t l c n p o e) (state h' t' (set l d (get_or l d 0 - 1)) c' n' p' o' (set e s 0)) free d s r
-    release-does c' h' t' n' p' o' r i j k =
+    release_does c' h' t' n' p' o' r i j k =
         let q : state h' t' (set l d (get_or l d 0 - 1)) c' n' p' o' (set e s 0) ≡ released a free d s =
-        rw j (same-links (set l d (get_or l d 0 - 1)) (stepOff c n d s) (set e s 0) k.is) in
+        rw j (same_links (set l d (get_or l d 0 - 1)) (step_off c n d s) (set e s 0) k.is) in
         record {
           is = q;
-          element-is = i;
-          does = λ v m. let u = node-same v m in rw q (released-shows a free v m d s u.0 u.1 y.homed);
+          element_is = i;
+          does = λ v m. let u = node_same v m in rw q (released_shows a free v m d s u.0 u.1 y.homed);
         }
 
     -- ---- move to back
-    pub shift-stays : get_or t d 0 ≡ s → Moves (state h t l c n p o e) (state h t l c n p o e) free d s
-    shift-stays i =
-        let q : a ≡ movedBack a d s = simp (eq-eqb (get_or t d 0) s i) in
-        record { is = q; does = λ v m. let u = node-same v m in rw q (moved-shows a free v m d s u.0 u.1 y.homed) }
+    pub shift_stays : get_or t d 0 ≡ s → Moves (state h t l c n p o e) (state h t l c n p o e) free d s
+    shift_stays i =
+        let q : a ≡ moved_back a d s = simp (eq-eqb (get_or t d 0) s i) in
+        record { is = q; does = λ v m. let u = node_same v m in rw q (moved_shows a free v m d s u.0 u.1 y.homed) }
 
-    pub shift-does : (c' h' t' n' p' o' : List ℕ) → (get_or t d 0 ≡ s → ⊥) → c' ≡ stepOff c n d s → MovesBack (links h t n p o) (links h' t' n' p' o') d s →
+    pub shift_does : (c' h' t' n' p' o' : List ℕ) → (get_or t d 0 ≡ s → ⊥) → c' ≡ step_off c n d s → MovesBack (links h t n p o) (links h' t' n' p' o') d s →
         Moves (state h t l c n p o e) (state h' t' l c' n' p' o' e) free d s
-    shift-does c' h' t' n' p' o' i j k =
-        let q : state h' t' l c' n' p' o' e ≡ movedBack a d s = simp (ne_eqb (get_or t d 0) s i) (rw j (same-links l (stepOff c n d s) e k.is)) in
-        record { is = q; does = λ v m. let u = node-same v m in rw q (moved-shows a free v m d s u.0 u.1 y.homed) }
+    shift_does c' h' t' n' p' o' i j k =
+        let q : state h' t' l c' n' p' o' e ≡ moved_back a d s = simp (ne_eqb (get_or t d 0) s i) (rw j (same_links l (step_off c n d s) e k.is)) in
+        record { is = q; does = λ v m. let u = node_same v m in rw q (moved_shows a free v m d s u.0 u.1 y.homed) }
 
   -- ---- a deque
   module _ (y : DequeReady (state h t l c n p o e) free d) where
     -- ---- pop front
-    pub pop-empty : length n ≤ get_or h d 0 → Pops (state h t l c n p o e) (state h t l c n p o e) free d PoppedNothing
-    pop-empty i =
-        let k = head-none h t l c n p o e free d y i in
+    pub pop_empty : length n ≤ get_or h d 0 → Pops (state h t l c n p o e) (state h t l c n p o e) free d PoppedNothing
+    pop_empty i =
+        let k = head_none h t l c n p o e free d y i in
         record { is = simp (eq-eqb (get_or h d 0) none k); told = simp (eq-eqb (get_or h d 0) none k) }
 
-    pub pop-asks : get_or h d 0 < length n → NodeReady (state h t l c n p o e) free d (get_or h d 0)
-    pop-asks i =
-        let m = front-in a free y.v y.shows d y.deque (real h t l c n p o e free d y (get_or h d 0) i) in
+    pub pop_asks : get_or h d 0 < length n → NodeReady (state h t l c n p o e) free d (get_or h d 0)
+    pop_asks i =
+        let m = front_in a free y.v y.shows d y.deque (real h t l c n p o e free d y (get_or h d 0) i) in
         let u = y.shows.rep.member d (get_or h d 0) y.deque m in
         record { v = y.v; shows = y.shows; slot = u.0; deque = y.deque; homed = u.1 }
 
-    pub pop-does : (b : State) (s r : ℕ) → s ≡ get_or h d 0 → s < length n → Drops (state h t l c n p o e) b free d s r → Pops (state h t l c n p o e) b free d
+    pub pop_does : (b : State) (s r : ℕ) → s ≡ get_or h d 0 → s < length n → Drops (state h t l c n p o e) b free d s r → Pops (state h t l c n p o e) b free d
         (PoppedNode s r s)
-    pop-does b s r i j k =
+    pop_does b s r i j k =
         let m : get_or h d 0 ≡ none → ⊥ = λ z. real h t l c n p o e free d y s j (i ∙ z) in
         record {
           is = simp (ne_eqb (get_or h d 0) none m) (k.is ∙ ap (λ (x : ℕ). released a free d x) i);
-          told = simp (ne_eqb (get_or h d 0) none m) (rw (k.element-is, i) refl);
+          told = simp (ne_eqb (get_or h d 0) none m) (rw (k.element_is, i) refl);
         }

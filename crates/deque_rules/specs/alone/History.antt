@@ -2,8 +2,8 @@
 -- lists.
 use Rattle.std.specs.Prelude.{ℕ, cond, List, eqb}
 use Rattle.deque_rules.specs.Chain.{following}
-use Rattle.numbers.specs.Shared.{no_slot, pastEnd}
+use Rattle.numbers.specs.Shared.{no_slot, past_end}
 
 -- ---- the cursor moved on from x in a deque that holds xs: to the node after x, or past the end
 abbrev pub move_on : ℕ → List ℕ → ℕ
-move_on x xs = let q = following x xs in cond (eqb q no_slot) pastEnd q
+move_on x xs = let q = following x xs in cond (eqb q no_slot) past_end q

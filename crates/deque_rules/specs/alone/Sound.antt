@@ -1,7 +1,7 @@
 -- inner: sound records: 01's sentences on the deque by itself, a field for each clause.
 use Rattle.std.specs.Prelude.{ℕ, ◌<◌, Bool, true, List, ◌⊎◌, ◌≡◌, length, get_or}
 use Rattle.deque_rules.specs.Deque.{State, LentDeques, LentNodes, Lent, Sound}
-use Rattle.numbers.specs.Shared.{no_slot, pastEnd}
+use Rattle.numbers.specs.Shared.{no_slot, past_end}
 
 -- ---- what the tests answer: each is exact
 pub record DequesOk (heads tails lens cursors : List ℕ) (r : Bool) : Type 0 where
@@ -22,7 +22,7 @@ pub record Judged (a : State) (free : ℕ) (r : Bool) : Type 0 where
 
 -- the cursor c of d stands at none, past the end, or at a node that names d
 abbrev pub StandsBy : ℕ → List ℕ → ℕ → Type 0
-StandsBy c home d = (c ≡ no_slot) ⊎ (c ≡ pastEnd) ⊎ ((c < length home) × (get_or home c 0 ≡ d))
+StandsBy c home d = (c ≡ no_slot) ⊎ (c ≡ past_end) ⊎ ((c < length home) × (get_or home c 0 ≡ d))
 
 pub record StandsOk (c : ℕ) (home : List ℕ) (d : ℕ) (r : Bool) : Type 0 where
   pub sound : r ≡ true → StandsBy c home d

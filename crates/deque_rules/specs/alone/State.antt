@@ -7,6 +7,6 @@ use Rattle.deque_rules.specs.Links.{first, Deques, links, deq, Rep}
 pub record Shows (a : State) (free : ℕ) (v : Deques) : Type 0 where
   pub lent : Lent a
   pub rep : Rep a.links v []
-  pub free-is : first v.free ≡ free
+  pub free_is : first v.free ≡ free
   pub lengths : (d : ℕ) → d < v.count → get_or a.lens d 0 ≡ length (deq v d)
   pub cursors : (d : ℕ) → d < v.count → Stands (get_or a.cursors d 0) (deq v d)

@@ -2,5 +2,5 @@
 use Rattle.std.specs.Prelude.{ℕ, get_or}
 use Rattle.deque_rules.specs.Deque.{State}
 
-abbrev pub cursorOf : State → ℕ → ℕ
-cursorOf a d = get_or a.cursors d 0
+abbrev pub cursor_of : State → ℕ → ℕ
+cursor_of a d = get_or a.cursors d 0

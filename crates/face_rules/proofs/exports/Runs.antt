@@ -9,11 +9,11 @@ use Rattle.wheel_rules.specs.Demand3.{Leads, done, then}
 use Rattle.face_rules.specs.Face.{words_of, Exported}
 use Rattle.face_rules.specs.Face as exported
 
-pub exported-leads : (R S : Records) (cs : List Call) (ws : List (List ℕ)) → Exported R cs ws S → (rs : List Answer) × Leads R cs rs S × (ws ≡ map words_of rs)
-exported-leads R S cs ws exported.done = ([], done, refl)
-exported-leads R S cs ws (exported.begun {M = M} {cs = ds} {ws = vs} p l) =
-    let u = exported-leads M S ds vs l in
+pub exported_leads : (R S : Records) (cs : List Call) (ws : List (List ℕ)) → Exported R cs ws S → (rs : List Answer) × Leads R cs rs S × (ws ≡ map words_of rs)
+exported_leads R S cs ws exported.done = ([], done, refl)
+exported_leads R S cs ws (exported.begun {M = M} {cs = ds} {ws = vs} p l) =
+    let u = exported_leads M S ds vs l in
     (ok ∷ u.0, then p u.1, λ i. words_of ok ∷ u.2 i)
-exported-leads R S cs ws (exported.then {M = M} {cs = ds} {ws = vs} p l) =
-    let u = exported-leads M S ds vs l in
+exported_leads R S cs ws (exported.then {M = M} {cs = ds} {ws = vs} p l) =
+    let u = exported_leads M S ds vs l in
     (p.answer ∷ u.0, then p.promised u.1, λ i. p.written.words_are i ∷ u.2 i)

@@ -1,8 +1,8 @@
 -- A list that is written from the front, one element a turn: what a loop `while i < n { xs[i] = f(i); i += 1 }` makes
 -- of it.
 --     fills f xs i     xs with f 0 … f (i − 1) at its first i places
---     length-fills     it is as long as xs
---     fills-all        once all are written: f 0, f 1 and so on, as many as xs has
+--     length_fills     it is as long as xs
+--     fills_all        once all are written: f 0, f 1 and so on, as many as xs has
 --     fills_field      a field of all of xs, once each is written with one that has the field from a longer ys
 use mathlib.Core.Path.{◌≡◌, refl, ◌∙◌, ap}
 use Prim.Native.Nat.{ℕ, zero, suc, ◌≤◌}
@@ -15,9 +15,9 @@ abbrev pub fills : {X : Type 0} → (ℕ → X) → List X → ℕ → List X
 fills f xs zero = xs
 fills f xs (suc i) = set (fills f xs i) i (f i)
 
-pub length-fills : {X : Type 0} (f : ℕ → X) (xs : List X) (i : ℕ) → length (fills f xs i) ≡ length xs
-length-fills f xs zero = refl
-length-fills f xs (suc i) = length-set (fills f xs i) i (f i) ∙ length-fills f xs i
+pub length_fills : {X : Type 0} (f : ℕ → X) (xs : List X) (i : ℕ) → length (fills f xs i) ≡ length xs
+length_fills f xs zero = refl
+length_fills f xs (suc i) = length-set (fills f xs i) i (f i) ∙ length_fills f xs i
 
 shift : {X : Type 0} (f : ℕ → X) (x : X) (xs : List X) (i : ℕ) → fills f (x ∷ xs) (suc i) ≡ f zero ∷ fills (λ k. f (suc k)) xs i
 shift f x xs zero = refl
@@ -27,9 +27,9 @@ up_one : {X : Type 0} (f : ℕ → X) (n i : ℕ) → map (λ k. f (suc k)) (up_
 up_one f zero i = refl
 up_one f (suc n) i = ap (λ l. f (suc i) ∷ l) (up_one f n (suc i))
 
-pub fills-all : {X : Type 0} (f : ℕ → X) (xs : List X) → fills f xs (length xs) ≡ map f (up_from (length xs) 0)
-fills-all f [] = refl
-fills-all f (x ∷ xs) = shift f x xs (length xs) ∙ ap (λ l. f zero ∷ l) (fills-all (λ k. f (suc k)) xs ∙ up_one f (length xs) 0)
+pub fills_all : {X : Type 0} (f : ℕ → X) (xs : List X) → fills f xs (length xs) ≡ map f (up_from (length xs) 0)
+fills_all f [] = refl
+fills_all f (x ∷ xs) = shift f x xs (length xs) ∙ ap (λ l. f zero ∷ l) (fills_all (λ k. f (suc k)) xs ∙ up_one f (length xs) 0)
 
 pub fills_field : {A X : Type 0} (g : A → X) (f : ℕ → A) (d : X) (ys : List X) (xs : List A) → ((i : ℕ) → g (f i) ≡ get_or ys i d) → length xs ≤ length ys → map
     g (fills f xs (length xs)) ≡ take (length xs) ys

@@ -6,8 +6,8 @@ use Rattle.face_rules.specs.declared.Node.{Node}
 -- the places from `from` to before `to` are places of the nodes and of the column
 pub record Reaches (ns : List Node) (xs : List ℕ) (from to : ℕ) : Type 0 where
   pub forward : from ≤ to
-  pub of-nodes : to ≤ length ns
-  pub of-column : to ≤ length xs
+  pub of_nodes : to ≤ length ns
+  pub of_column : to ≤ length xs
 
 -- the column xs with the numbers ys at the places from `from` to before `to`, and elsewhere as found
 abbrev pub written : List ℕ → ℕ → ℕ → List ℕ → List ℕ

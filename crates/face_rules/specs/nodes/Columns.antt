@@ -1,7 +1,7 @@
 -- inner: six columns of numbers, which lent nodes are read into and stored back from, a field in each: "The node
 -- records are lent as one array of 166 to 4,096 records". Lent nodes that are more than fit go neither way.
 use Rattle.std.specs.Prelude.{ℕ, ◌≤◌, ◌<◌, cond, List, ◌≡◌, leb, length, take}
-use Rattle.face_rules.specs.Face.{nextSlots, prevSlots, bucketNumbers, entryNumbers, generations, serials}
+use Rattle.face_rules.specs.Face.{next_slots, prev_slots, bucket_numbers, entry_numbers, generations, serials}
 use Rattle.face_rules.specs.declared.Node.{Node}
 
 pub record Columns : Type 0 where
@@ -16,8 +16,8 @@ abbrev pub columns : List ℕ → List ℕ → List ℕ → List ℕ → List �
 columns n p b e g s = record { next = n; prev = p; bucket = b; entry = e; generation = g; serial = s }
 
 -- each column is one field of the nodes, in order
-abbrev pub columnsOf : List Node → Columns
-columnsOf ns = columns (nextSlots ns) (prevSlots ns) (bucketNumbers ns) (entryNumbers ns) (generations ns) (serials ns)
+abbrev pub columns_of : List Node → Columns
+columns_of ns = columns (next_slots ns) (prev_slots ns) (bucket_numbers ns) (entry_numbers ns) (generations ns) (serials ns)
 
 -- the first n of each
 abbrev pub front : ℕ → Columns → Columns
@@ -25,23 +25,23 @@ front n c = columns (take n c.next) (take n c.prev) (take n c.bucket) (take n c.
 
 -- there are m or more in each
 pub record Holds (m : ℕ) (c : Columns) : Type 0 where
-  pub next-has : m ≤ length c.next
-  pub prev-has : m ≤ length c.prev
-  pub bucket-has : m ≤ length c.bucket
+  pub next_has : m ≤ length c.next
+  pub prev_has : m ≤ length c.prev
+  pub bucket_has : m ≤ length c.bucket
   pub entry_has : m ≤ length c.entry
-  pub generation-has : m ≤ length c.generation
-  pub serial-has : m ≤ length c.serial
+  pub generation_has : m ≤ length c.generation
+  pub serial_has : m ≤ length c.serial
 
 -- how many of n lent nodes go
-abbrev pub usedOf : ℕ → ℕ
-usedOf n = cond (leb n 4096) n 0
+abbrev pub used_of : ℕ → ℕ
+used_of n = cond (leb n 4096) n 0
 
 -- the columns begin with the fields of the lent nodes, where they fit; what lies after them is not asked
 pub record Loads (ns : List Node) (c : Columns) : Type 0 where
-  pub is : length ns ≤ 4096 → front (length ns) c ≡ columnsOf ns
+  pub is : length ns ≤ 4096 → front (length ns) c ≡ columns_of ns
 
 -- the lent nodes ns, after columns are stored back over them: their fields are those at the columns' front; or they
 -- stay, where they do not fit
 pub record Stores (ns : List Node) (c : Columns) (ns' : List Node) : Type 0 where
-  pub fits : length ns ≤ 4096 → columnsOf ns' ≡ front (length ns) c
+  pub fits : length ns ≤ 4096 → columns_of ns' ≡ front (length ns) c
   pub stays : 4096 < length ns → ns' ≡ ns

@@ -5,12 +5,12 @@ use Rattle.numbers.specs.Shared.{no_slot, up_from}
 use Rattle.rules.specs.Places.{wheel01, buckets}
 
 -- how many of n nodes are written
-abbrev pub turnsOf : Bool → ℕ → ℕ
-turnsOf on n = cond on n 0
+abbrev pub turns_of : Bool → ℕ → ℕ
+turns_of on n = cond on n 0
 
 -- the slot i of n, over D buckets: a sentinel in the bucket i; or free, before the one above it, where there is one
-abbrev pub laidNode : ℕ → ℕ → ℕ → Node
-laidNode D n i = record {
+abbrev pub laid_node : ℕ → ℕ → ℕ → Node
+laid_node D n i = record {
   next = cond (ltb i D) no_slot (cond (ltb (suc i) n) (suc i) no_slot);
   prev = no_slot;
   bucket = cond (ltb i D) i no_slot;
@@ -20,10 +20,10 @@ laidNode D n i = record {
 }
 
 -- n nodes, laid out over D buckets
-abbrev pub laidNodes : ℕ → ℕ → List Node
-laidNodes D n = map (laidNode D n) (up_from n 0)
+abbrev pub laid_nodes : ℕ → ℕ → List Node
+laid_nodes D n = map (laid_node D n) (up_from n 0)
 
 -- the nodes ns became ns': laid out, as many as they are, or left
 pub record Laid (ns : List Node) (on : Bool) (ns' : List Node) : Type 0 where
-  pub lays : on ≡ true → ns' ≡ laidNodes (buckets wheel01) (length ns)
+  pub lays : on ≡ true → ns' ≡ laid_nodes (buckets wheel01) (length ns)
   pub stays : on ≡ false → ns' ≡ ns

@@ -1,5 +1,5 @@
 -- `load` meets its contract: a walk of its MIR. The six columns are opened once, before the loop; each turn lends the
--- row of each to its reader, with the nodes. At the loop's test, at place i, each column's row is `readTo` i.
+-- row of each to its reader, with the nodes. At the loop's test, at place i, each column's row is `read_to` i.
 use mathlib.Core.Path.{◌≡◌, refl, sym, ap, subst}
 use Prim.Native.Nat.{ℕ, ◌<◌, ◌≤◌, ◌^◌}
 use native.Mathlib.Omega.{arith}
@@ -46,14 +46,14 @@ use denote.Triple.Table.{entered, cited}
 use denote.Triple.Walked.{says, needs, Stays, stay_slice, stay_none_slice, walk_of, Goes-slice, Goes-none_slice, Walks, ends_at, walked, walk_Meets}
 use denote.Exit.{yes}
 use Rattle.face_rules.specs.declared.Node.{Node}
-use Rattle.face_rules.specs.nodes.Columns.{columns, usedOf, Holds}
+use Rattle.face_rules.specs.nodes.Columns.{columns, used_of, Holds}
 use Rattle.face_rules.specs.nodes.Blocks.{Reaches, written, end_of}
-use Rattle.nodes.proofs.Counts.{strides, yes-less, not-less}
-use Rattle.face_rules.proofs.nodes.Using.{used_le, used-fits, ends-past, ends-within, readTo, length-readTo, readTo-on, loaded}
-use Rattle.nodes.proofs.CallsUsed.{Used, used-of, to-used, goes-used}
-use Rattle.nodes.proofs.CallsEnd.{End, end-of, to_end, goes_end}
-use Rattle.nodes.proofs.Reading.{next_field, prev-field, bucket-field, entry-field, generation-field, serial-field}
-use Rattle.nodes.proofs.CallsReader.{Reader, reads-block}
+use Rattle.nodes.proofs.Counts.{strides, yes_less, not_less}
+use Rattle.face_rules.proofs.nodes.Using.{used_le, used_fits_lem, ends_past, ends_within, read_to, length_read_to, read_to_on, loaded}
+use Rattle.nodes.proofs.CallsUsed.{Used, used_of_lem, to_used, goes_used}
+use Rattle.nodes.proofs.CallsEnd.{End, end_of_lem, to_end, goes_end}
+use Rattle.nodes.proofs.Reading.{next_field, prev_field, bucket_field, entry_field, generation_field, serial_field}
+use Rattle.nodes.proofs.CallsReader.{Reader, reads_block}
 use Rattle.face_rules.specs.contracts.Node as T
 use Rattle.nodes.specs.contracts.used as used
 use Rattle.nodes.proofs.used.Symbol as used-def
@@ -122,8 +122,8 @@ lent R = ty_ref erased mut (pointee R.written)
 abbrev again : RattleType → Ty
 again R = slice_ty (lent R)
 
-is-unit : {v : Val} → v ≡ vunit → Yes (has_ty ty_unit v) × WT v
-is-unit e = subst (λ (u : Val). Yes (has_ty ty_unit u) × WT u) (sym e) (tt, tt)
+is_unit : {v : Val} → v ≡ vunit → Yes (has_ty ty_unit v) × WT v
+is_unit e = subst (λ (u : Val). Yes (has_ty ty_unit u) × WT u) (sym e) (tt, tt)
 
 module _ {M : Type 1} {𝓤 : Ura M} (𝓛 : Logic 𝓤) (mem : Memory → SProp 𝓤) (run : Routine → Fun 𝓤) (κ₀ κ₁ κ₂ κ₃ κ₄ κ₅ κ₆ : Lft)
     (q₀ q₁ q₂ q₃ q₄ q₅ q₆ : Share)
@@ -141,7 +141,7 @@ module _ {M : Type 1} {𝓤 : Ura M} (𝓛 : Logic 𝓤) (mem : Memory → SProp
 
   -- how many turns there are
   abbrev m : ℕ
-  m = usedOf n
+  m = used_of n
 
   abbrev x : Bor (List Node) × (Bor (List ℕ) × (Bor (List ℕ) × (Bor (List ℕ) × (Bor (List ℕ) × (Bor (List ℕ) × (Bor (List ℕ) × Unit {0}))))))
   x = (r, (c₁, (c₂, (c₃, (c₄, (c₅, (c₆, tt)))))))
@@ -159,25 +159,25 @@ module _ {M : Type 1} {𝓤 : Ura M} (𝓛 : Logic 𝓤) (mem : Memory → SProp
 
   -- the columns at place i
   abbrev z₁ : ℕ → List ℕ
-  z₁ = readTo (λ v. v.next) ys c₁.now
+  z₁ = read_to (λ v. v.next) ys c₁.now
 
   abbrev z₂ : ℕ → List ℕ
-  z₂ = readTo (λ v. v.prev) ys c₂.now
+  z₂ = read_to (λ v. v.prev) ys c₂.now
 
   abbrev z₃ : ℕ → List ℕ
-  z₃ = readTo (λ v. v.bucket) ys c₃.now
+  z₃ = read_to (λ v. v.bucket) ys c₃.now
 
   abbrev z₄ : ℕ → List ℕ
-  z₄ = readTo (λ v. v.entry) ys c₄.now
+  z₄ = read_to (λ v. v.entry) ys c₄.now
 
   abbrev z₅ : ℕ → List ℕ
-  z₅ = readTo (λ v. v.generation) ys c₅.now
+  z₅ = read_to (λ v. v.generation) ys c₅.now
 
   abbrev z₆ : ℕ → List ℕ
-  z₆ = readTo (λ v. v.serial) ys c₆.now
+  z₆ = read_to (λ v. v.serial) ys c₆.now
 
-  len : (g : Node → ℕ) (xs : List ℕ) → 4096 ≤ length xs → (i : ℕ) → i ≤ m → length (readTo g ys xs i) ≡ length xs
-  len g xs has i l = length-readTo g ys xs i (omega (arith, l, used_le n)) (omega (arith, l, used-fits n, has))
+  len : (g : Node → ℕ) (xs : List ℕ) → 4096 ≤ length xs → (i : ℕ) → i ≤ m → length (read_to g ys xs i) ≡ length xs
+  len g xs has i l = length_read_to g ys xs i (omega (arith, l, used_le n)) (omega (arith, l, used_fits_lem n, has))
 
   abbrev Post : Val → SProp 𝓤
   Post = (walk_of 𝓛 load'.ended stayed (load'.clauses 𝓛 mem run)).post
@@ -202,16 +202,16 @@ module _ {M : Type 1} {𝓤 : Ura M} (𝓛 : Logic 𝓤) (mem : Memory → SProp
       (tt, ((z₁ m), ((z₂ m), ((z₃ m), ((z₄ m), ((z₅ m), ((z₆ m), tt))))))) (
         tt,
         (
-          (len (λ v. v.next) c₁.now long.next-has m (omega arith)),
+          (len (λ v. v.next) c₁.now long.next_has m (omega arith)),
           (
-            (len (λ v. v.prev) c₂.now long.prev-has m (omega arith)),
+            (len (λ v. v.prev) c₂.now long.prev_has m (omega arith)),
             (
-              (len (λ v. v.bucket) c₃.now long.bucket-has m (omega arith)),
+              (len (λ v. v.bucket) c₃.now long.bucket_has m (omega arith)),
               (
                 (len (λ v. v.entry) c₄.now long.entry_has m (omega arith)),
                 (
-                  (len (λ v. v.generation) c₅.now long.generation-has m (omega arith)),
-                  ((len (λ v. v.serial) c₆.now long.serial-has m (omega arith)), tt),
+                  (len (λ v. v.generation) c₅.now long.generation_has m (omega arith)),
+                  ((len (λ v. v.serial) c₆.now long.serial_has m (omega arith)), tt),
                 ),
               ),
             ),
@@ -222,14 +222,14 @@ module _ {M : Type 1} {𝓤 : Ura M} (𝓛 : Logic 𝓤) (mem : Memory → SProp
       (6 ∷ 0 ∷ []) $ join ! $ move ! (5 ∷ 0 ∷ []) $ join ! $ move ! (4 ∷ 0 ∷ []) $ join ! $ move ! (3 ∷ 0 ∷ []) $ join ! $ move ! (2 ∷ 0 ∷ []) $ join ! $
       move ! (1 ∷ 0 ∷ []) $ join ! $ frame ! $
       nothing ! $ move ! (12 ∷ 13 ∷ []) $ fjoin ! $ pure_i ! (mut_slice_at u64 (at_last c₆ (z₆ m)) (mut_slice_vals c₆)) (tt, (tt, tt)) (
-        ap (λ (l : ℕ). slice_val c₆.ref_ptr l ∷ []) (sym (len (λ v. v.serial) c₆.now long.serial-has m (omega arith))),
+        ap (λ (l : ℕ). slice_val c₆.ref_ptr l ∷ []) (sym (len (λ v. v.serial) c₆.now long.serial_has m (omega arith))),
         subst (Room u64)
-            (sym (len (λ v. v.serial) c₆.now long.serial-has m (omega arith))) g₆,
+            (sym (len (λ v. v.serial) c₆.now long.serial_has m (omega arith))) g₆,
       ) $ fjoin ! $ fjoin ! $
       move ! (10 ∷ 11 ∷ []) $ fjoin ! $ pure_i ! (mut_slice_at u32 (at_last c₅ (z₅ m)) (mut_slice_vals c₅)) (tt, (tt, tt)) (
-        ap (λ (l : ℕ). slice_val c₅.ref_ptr l ∷ []) (sym (len (λ v. v.generation) c₅.now long.generation-has m (omega arith))),
+        ap (λ (l : ℕ). slice_val c₅.ref_ptr l ∷ []) (sym (len (λ v. v.generation) c₅.now long.generation_has m (omega arith))),
         subst (Room u32)
-            (sym (len (λ v. v.generation) c₅.now long.generation-has m (omega arith))) g₅,
+            (sym (len (λ v. v.generation) c₅.now long.generation_has m (omega arith))) g₅,
       ) $ fjoin ! $ fjoin ! $
       move ! (8 ∷ 9 ∷ []) $ fjoin ! $ pure_i ! (mut_slice_at usize (at_last c₄ (z₄ m)) (mut_slice_vals c₄)) (tt, (tt, tt)) (
         ap (λ (l : ℕ). slice_val c₄.ref_ptr l ∷ []) (sym (len (λ v. v.entry) c₄.now long.entry_has m (omega arith))),
@@ -237,19 +237,19 @@ module _ {M : Type 1} {𝓤 : Ura M} (𝓛 : Logic 𝓤) (mem : Memory → SProp
             (sym (len (λ v. v.entry) c₄.now long.entry_has m (omega arith))) g₄,
       ) $ fjoin ! $ fjoin ! $
       move ! (6 ∷ 7 ∷ []) $ fjoin ! $ pure_i ! (mut_slice_at usize (at_last c₃ (z₃ m)) (mut_slice_vals c₃)) (tt, (tt, tt)) (
-        ap (λ (l : ℕ). slice_val c₃.ref_ptr l ∷ []) (sym (len (λ v. v.bucket) c₃.now long.bucket-has m (omega arith))),
+        ap (λ (l : ℕ). slice_val c₃.ref_ptr l ∷ []) (sym (len (λ v. v.bucket) c₃.now long.bucket_has m (omega arith))),
         subst (Room usize)
-            (sym (len (λ v. v.bucket) c₃.now long.bucket-has m (omega arith))) g₃,
+            (sym (len (λ v. v.bucket) c₃.now long.bucket_has m (omega arith))) g₃,
       ) $ fjoin ! $ fjoin ! $
       move ! (4 ∷ 5 ∷ []) $ fjoin ! $ pure_i ! (mut_slice_at usize (at_last c₂ (z₂ m)) (mut_slice_vals c₂)) (tt, (tt, tt)) (
-        ap (λ (l : ℕ). slice_val c₂.ref_ptr l ∷ []) (sym (len (λ v. v.prev) c₂.now long.prev-has m (omega arith))),
+        ap (λ (l : ℕ). slice_val c₂.ref_ptr l ∷ []) (sym (len (λ v. v.prev) c₂.now long.prev_has m (omega arith))),
         subst (Room usize)
-            (sym (len (λ v. v.prev) c₂.now long.prev-has m (omega arith))) g₂,
+            (sym (len (λ v. v.prev) c₂.now long.prev_has m (omega arith))) g₂,
       ) $ fjoin ! $ fjoin ! $
       move ! (2 ∷ 3 ∷ []) $ fjoin ! $ pure_i ! (mut_slice_at usize (at_last c₁ (z₁ m)) (mut_slice_vals c₁)) (tt, (tt, tt)) (
-        ap (λ (l : ℕ). slice_val c₁.ref_ptr l ∷ []) (sym (len (λ v. v.next) c₁.now long.next-has m (omega arith))),
+        ap (λ (l : ℕ). slice_val c₁.ref_ptr l ∷ []) (sym (len (λ v. v.next) c₁.now long.next_has m (omega arith))),
         subst (Room usize)
-            (sym (len (λ v. v.next) c₁.now long.next-has m (omega arith))) g₁,
+            (sym (len (λ v. v.next) c₁.now long.next_has m (omega arith))) g₁,
       ) $ fjoin ! $ fjoin ! $
       move ! (1 ∷ 0 ∷ []) $ fjoin ! $ frame ! $ feq_i ! (List Val) (vunit ∷ []) (vunit ∷ []) refl $ done !
 
@@ -311,11 +311,11 @@ module _ {M : Type 1} {𝓤 : Ura M} (𝓛 : Logic 𝓤) (mem : Memory → SProp
 
     module _ (known-end : Triple 𝓤 (𝓣.C #nodes·block-end) (End 𝓛 mem run))
         (known_next : Triple 𝓤 (𝓣.C #nodes·fields·read-next) (Reader next_field 𝓛))
-        (known-prev : Triple 𝓤 (𝓣.C #nodes·fields·read-prev) (Reader prev-field 𝓛))
-        (known-bucket : Triple 𝓤 (𝓣.C #nodes·fields·read-bucket) (Reader bucket-field 𝓛))
-        (known-entry : Triple 𝓤 (𝓣.C #nodes·fields·read-entry) (Reader entry-field 𝓛))
-        (known-generation : Triple 𝓤 (𝓣.C #nodes·fields·read-generation) (Reader generation-field 𝓛))
-        (known-serial : Triple 𝓤 (𝓣.C #nodes·fields·read-serial) (Reader serial-field 𝓛)) where
+        (known-prev : Triple 𝓤 (𝓣.C #nodes·fields·read-prev) (Reader prev_field 𝓛))
+        (known-bucket : Triple 𝓤 (𝓣.C #nodes·fields·read-bucket) (Reader bucket_field 𝓛))
+        (known-entry : Triple 𝓤 (𝓣.C #nodes·fields·read-entry) (Reader entry_field 𝓛))
+        (known-generation : Triple 𝓤 (𝓣.C #nodes·fields·read-generation) (Reader generation_field 𝓛))
+        (known-serial : Triple 𝓤 (𝓣.C #nodes·fields·read-serial) (Reader serial_field 𝓛)) where
       more : (i : ℕ) (X : SProp 𝓤) → 0 ≤ i → i < m → ((j : ℕ) → i < j → j ≤ m → ent 𝓤 (⋆ 𝓛 (At j)) X) → ent 𝓤 (⋆ 𝓛 (At i))
           (Wp 𝓤 H C Λ E mir.turn-1 (after_turn 𝓤 H X Left))
       unfolding after_turn
@@ -323,14 +323,14 @@ module _ {M : Type 1} {𝓤 : Ura M} (𝓛 : Logic 𝓤) (mem : Memory → SProp
           qed 𝓛 (At i) ∵ exec ! C Λ E mir.turn-1 (any_q (after_turn 𝓤 H X Left)) $
           assigns ! (bin ! (load ! (from ! (stop !)) (look ! 8 refl)) (load ! (from ! (stop !)) (look ! 31 refl)) tt) (from ! (stop !))
           (init ! 10 refl (tt, tt)) $
-          rewrite ! 10 (λ (t : Bool). ‵ (fat full_share ty_bool l₁₂ 0 (vbool t))) (yes-less i m l) refl $ stays ! (load ! (from ! (stop !)) (look ! 10 refl)) $
+          rewrite ! 10 (λ (t : Bool). ‵ (fat full_share ty_bool l₁₂ 0 (vbool t))) (yes_less i m l) refl $ stays ! (load ! (from ! (stop !)) (look ! 10 refl)) $
           -- where the block ends
-          use0 𝓛 (raw ((End 𝓛 mem run).pre (to_end 𝓛 mem run i m))) (goes_end 𝓛 mem run i m fits-i fits-m (omega (arith, l))) $ calls_at !
+          use0 𝓛 (raw ((End 𝓛 mem run).pre (to_end 𝓛 mem run i m))) (goes_end 𝓛 mem run i m fits_i fits_m (omega (arith, l))) $ calls_at !
           (fm_of 𝓤 H 𝓛.laws 𝓣) (End 𝓛 mem run) known-end (to_end 𝓛 mem run i m)
           (and_then ! (load ! (from ! (stop !)) (look ! 9 refl)) (and_then ! (load ! (from ! (stop !)) (look ! 32 refl)) (no_more !))) (λ w.
           use1 𝓛 (later (some (λ (a : ℕ). (‵ ftrue ⊛ ‵ (usize.own_val a (w ∷ []))) ⊛ raw
           (ensured 𝓛 ends.ended (ends.clauses 𝓛 mem run) tt (i, (m, tt)) tt a)))) (id⊢ 𝓤 _) $ await ! tt $ pick ! (λ a.
-          split ! $ move ! (1 ∷ []) $ use1 𝓛 (raw (fact 𝓤 (a ≡ to i))) (end-of 𝓛 mem run i m a) $ heard ! (a ≡ to i) (λ e. split ! $ drop ! $
+          split ! $ move ! (1 ∷ []) $ use1 𝓛 (raw (fact 𝓤 (a ≡ to i))) (end_of_lem 𝓛 mem run i m a) $ heard ! (a ≡ to i) (λ e. split ! $ drop ! $
           rewrite ! 0 (λ (d : ℕ). ‵ (usize.own_val d (w ∷ []))) e refl $ peeks ! usize (Is usize) (shows 𝓛 usize) (to i) (w ∷ []) (λ is. drop ! $
           land ! (from ! (stop !)) (init ! 9 refl ((uint_Lawful 𝓛 w64).typed (to i) _ is).0) $ rewrite ! 9 (λ (u : Val). ‵ (fat full_share word l₁₀ 0 u))
           (ap only is.0) refl $
@@ -339,108 +339,108 @@ module _ {M : Type 1} {𝓤 : Ura M} (𝓛 : Logic 𝓤) (mem : Memory → SProp
           assigns ! (agg ! (and_then ! (load ! (from ! (stop !)) (look ! 12 refl))
           (and_then ! (load ! (from ! (fld ! refl (stop !))) (look_in ! 25 (sub ! 1 refl (whole !)))) (no_more !)))) (from ! (stop !))
           (init ! 13 refl (tt, (tt, (record { fits = g₁.0 }, tt)))) $
-          move ! (0 ∷ 6 ∷ 7 ∷ []) $ reads-block next_field ! (fm_of 𝓤 H 𝓛.laws 𝓣) known_next κ₀ q₀ r (length c₁.now) g₁ (z₁ i) c₁.ref_ptr.0 c₁.ref_ptr.1
-          (same (λ v. v.next) c₁.now long.next-has) i (to i) fits-i fits-j (reach (λ v. v.next) c₁.now long.next-has)
+          move ! (0 ∷ 6 ∷ 7 ∷ []) $ reads_block next_field ! (fm_of 𝓤 H 𝓛.laws 𝓣) known_next κ₀ q₀ r (length c₁.now) g₁ (z₁ i) c₁.ref_ptr.0 c₁.ref_ptr.1
+          (same (λ v. v.next) c₁.now long.next_has) i (to i) fits_i fits_j (reach (λ v. v.next) c₁.now long.next_has)
           (λ _. and_then ! (load ! (from ! (stop !)) (look ! 23 refl))
           (and_then ! (load ! (from ! (stop !)) (look ! 12 refl))
           (and_then ! (load ! (from ! (stop !)) (look ! 7 refl)) (and_then ! (load ! (from ! (stop !)) (look ! 8 refl)) (no_more !))))) (λ _ e₁.
-          land ! (from ! (stop !)) (init ! 11 refl (is-unit e₁)) $ forget ! 11 refl $ rewrite ! 0
-          (λ (zs : List ℕ). ‵ (row usize full_share zs c₁.ref_ptr.0 c₁.ref_ptr.1)) (on (λ v. v.next) c₁.now long.next-has) refl $
+          land ! (from ! (stop !)) (init ! 11 refl (is_unit e₁)) $ forget ! 11 refl $ rewrite ! 0
+          (λ (zs : List ℕ). ‵ (row usize full_share zs c₁.ref_ptr.0 c₁.ref_ptr.1)) (on (λ v. v.next) c₁.now long.next_has) refl $
           -- prev
           assigns ! (addr ! (from ! (fld ! refl (hop ! (look_in ! 26 (sub ! 0 refl (whole !))) (stop !))))) (from ! (stop !)) (init ! 14 refl (tt, tt)) $
           assigns ! (agg ! (and_then ! (load ! (from ! (stop !)) (look ! 14 refl))
           (and_then ! (load ! (from ! (fld ! refl (stop !))) (look_in ! 26 (sub ! 1 refl (whole !)))) (no_more !)))) (from ! (stop !))
           (init ! 15 refl (tt, (tt, (record { fits = g₂.0 }, tt)))) $
-          move ! (3 ∷ 1 ∷ 2 ∷ []) $ reads-block prev-field ! (fm_of 𝓤 H 𝓛.laws 𝓣) known-prev κ₀ q₀ r (length c₂.now) g₂ (z₂ i) c₂.ref_ptr.0 c₂.ref_ptr.1
-          (same (λ v. v.prev) c₂.now long.prev-has) i (to i) fits-i fits-j (reach (λ v. v.prev) c₂.now long.prev-has)
+          move ! (3 ∷ 1 ∷ 2 ∷ []) $ reads_block prev_field ! (fm_of 𝓤 H 𝓛.laws 𝓣) known-prev κ₀ q₀ r (length c₂.now) g₂ (z₂ i) c₂.ref_ptr.0 c₂.ref_ptr.1
+          (same (λ v. v.prev) c₂.now long.prev_has) i (to i) fits_i fits_j (reach (λ v. v.prev) c₂.now long.prev_has)
           (λ _. and_then ! (load ! (from ! (stop !)) (look ! 23 refl))
           (and_then ! (load ! (from ! (stop !)) (look ! 14 refl))
           (and_then ! (load ! (from ! (stop !)) (look ! 7 refl)) (and_then ! (load ! (from ! (stop !)) (look ! 8 refl)) (no_more !))))) (λ _ e₂.
-          land ! (from ! (stop !)) (init ! 11 refl (is-unit e₂)) $ forget ! 11 refl $ rewrite ! 0
-          (λ (zs : List ℕ). ‵ (row usize full_share zs c₂.ref_ptr.0 c₂.ref_ptr.1)) (on (λ v. v.prev) c₂.now long.prev-has) refl $
+          land ! (from ! (stop !)) (init ! 11 refl (is_unit e₂)) $ forget ! 11 refl $ rewrite ! 0
+          (λ (zs : List ℕ). ‵ (row usize full_share zs c₂.ref_ptr.0 c₂.ref_ptr.1)) (on (λ v. v.prev) c₂.now long.prev_has) refl $
           -- bucket
           assigns ! (addr ! (from ! (fld ! refl (hop ! (look_in ! 27 (sub ! 0 refl (whole !))) (stop !))))) (from ! (stop !)) (init ! 16 refl (tt, tt)) $
           assigns ! (agg ! (and_then ! (load ! (from ! (stop !)) (look ! 16 refl))
           (and_then ! (load ! (from ! (fld ! refl (stop !))) (look_in ! 27 (sub ! 1 refl (whole !)))) (no_more !)))) (from ! (stop !))
           (init ! 17 refl (tt, (tt, (record { fits = g₃.0 }, tt)))) $
-          move ! (4 ∷ 1 ∷ 2 ∷ []) $ reads-block bucket-field ! (fm_of 𝓤 H 𝓛.laws 𝓣) known-bucket κ₀ q₀ r (length c₃.now) g₃ (z₃ i) c₃.ref_ptr.0
-          c₃.ref_ptr.1 (same (λ v. v.bucket) c₃.now long.bucket-has) i (to i) fits-i fits-j (reach (λ v. v.bucket) c₃.now long.bucket-has)
+          move ! (4 ∷ 1 ∷ 2 ∷ []) $ reads_block bucket_field ! (fm_of 𝓤 H 𝓛.laws 𝓣) known-bucket κ₀ q₀ r (length c₃.now) g₃ (z₃ i) c₃.ref_ptr.0
+          c₃.ref_ptr.1 (same (λ v. v.bucket) c₃.now long.bucket_has) i (to i) fits_i fits_j (reach (λ v. v.bucket) c₃.now long.bucket_has)
           (λ _. and_then ! (load ! (from ! (stop !)) (look ! 23 refl))
           (and_then ! (load ! (from ! (stop !)) (look ! 16 refl))
           (and_then ! (load ! (from ! (stop !)) (look ! 7 refl)) (and_then ! (load ! (from ! (stop !)) (look ! 8 refl)) (no_more !))))) (λ _ e₃.
-          land ! (from ! (stop !)) (init ! 11 refl (is-unit e₃)) $ forget ! 11 refl $ rewrite ! 0
-          (λ (zs : List ℕ). ‵ (row usize full_share zs c₃.ref_ptr.0 c₃.ref_ptr.1)) (on (λ v. v.bucket) c₃.now long.bucket-has) refl $
+          land ! (from ! (stop !)) (init ! 11 refl (is_unit e₃)) $ forget ! 11 refl $ rewrite ! 0
+          (λ (zs : List ℕ). ‵ (row usize full_share zs c₃.ref_ptr.0 c₃.ref_ptr.1)) (on (λ v. v.bucket) c₃.now long.bucket_has) refl $
           -- entry
           assigns ! (addr ! (from ! (fld ! refl (hop ! (look_in ! 28 (sub ! 0 refl (whole !))) (stop !))))) (from ! (stop !)) (init ! 18 refl (tt, tt)) $
           assigns ! (agg ! (and_then ! (load ! (from ! (stop !)) (look ! 18 refl))
           (and_then ! (load ! (from ! (fld ! refl (stop !))) (look_in ! 28 (sub ! 1 refl (whole !)))) (no_more !)))) (from ! (stop !))
           (init ! 19 refl (tt, (tt, (record { fits = g₄.0 }, tt)))) $
-          move ! (5 ∷ 1 ∷ 2 ∷ []) $ reads-block entry-field ! (fm_of 𝓤 H 𝓛.laws 𝓣) known-entry κ₀ q₀ r (length c₄.now) g₄ (z₄ i) c₄.ref_ptr.0 c₄.ref_ptr.1
-          (same (λ v. v.entry) c₄.now long.entry_has) i (to i) fits-i fits-j (reach (λ v. v.entry) c₄.now long.entry_has)
+          move ! (5 ∷ 1 ∷ 2 ∷ []) $ reads_block entry_field ! (fm_of 𝓤 H 𝓛.laws 𝓣) known-entry κ₀ q₀ r (length c₄.now) g₄ (z₄ i) c₄.ref_ptr.0 c₄.ref_ptr.1
+          (same (λ v. v.entry) c₄.now long.entry_has) i (to i) fits_i fits_j (reach (λ v. v.entry) c₄.now long.entry_has)
           (λ _. and_then ! (load ! (from ! (stop !)) (look ! 23 refl))
           (and_then ! (load ! (from ! (stop !)) (look ! 18 refl))
           (and_then ! (load ! (from ! (stop !)) (look ! 7 refl)) (and_then ! (load ! (from ! (stop !)) (look ! 8 refl)) (no_more !))))) (λ _ e₄.
-          land ! (from ! (stop !)) (init ! 11 refl (is-unit e₄)) $ forget ! 11 refl $ rewrite ! 0
+          land ! (from ! (stop !)) (init ! 11 refl (is_unit e₄)) $ forget ! 11 refl $ rewrite ! 0
           (λ (zs : List ℕ). ‵ (row usize full_share zs c₄.ref_ptr.0 c₄.ref_ptr.1)) (on (λ v. v.entry) c₄.now long.entry_has) refl $
           -- generation
           assigns ! (addr ! (from ! (fld ! refl (hop ! (look_in ! 29 (sub ! 0 refl (whole !))) (stop !))))) (from ! (stop !)) (init ! 20 refl (tt, tt)) $
           assigns ! (agg ! (and_then ! (load ! (from ! (stop !)) (look ! 20 refl))
           (and_then ! (load ! (from ! (fld ! refl (stop !))) (look_in ! 29 (sub ! 1 refl (whole !)))) (no_more !)))) (from ! (stop !))
           (init ! 21 refl (tt, (tt, (record { fits = g₅.0 }, tt)))) $
-          move ! (6 ∷ 1 ∷ 2 ∷ []) $ reads-block generation-field ! (fm_of 𝓤 H 𝓛.laws 𝓣) known-generation κ₀ q₀ r (length c₅.now) g₅ (z₅ i) c₅.ref_ptr.0
-          c₅.ref_ptr.1 (same (λ v. v.generation) c₅.now long.generation-has) i (to i) fits-i fits-j
-          (reach (λ v. v.generation) c₅.now long.generation-has)
+          move ! (6 ∷ 1 ∷ 2 ∷ []) $ reads_block generation_field ! (fm_of 𝓤 H 𝓛.laws 𝓣) known-generation κ₀ q₀ r (length c₅.now) g₅ (z₅ i) c₅.ref_ptr.0
+          c₅.ref_ptr.1 (same (λ v. v.generation) c₅.now long.generation_has) i (to i) fits_i fits_j
+          (reach (λ v. v.generation) c₅.now long.generation_has)
           (λ _. and_then ! (load ! (from ! (stop !)) (look ! 23 refl))
           (and_then ! (load ! (from ! (stop !)) (look ! 20 refl))
           (and_then ! (load ! (from ! (stop !)) (look ! 7 refl)) (and_then ! (load ! (from ! (stop !)) (look ! 8 refl)) (no_more !))))) (λ _ e₅.
-          land ! (from ! (stop !)) (init ! 11 refl (is-unit e₅)) $ forget ! 11 refl $ rewrite ! 0
-          (λ (zs : List ℕ). ‵ (row u32 full_share zs c₅.ref_ptr.0 c₅.ref_ptr.1)) (on (λ v. v.generation) c₅.now long.generation-has) refl $
+          land ! (from ! (stop !)) (init ! 11 refl (is_unit e₅)) $ forget ! 11 refl $ rewrite ! 0
+          (λ (zs : List ℕ). ‵ (row u32 full_share zs c₅.ref_ptr.0 c₅.ref_ptr.1)) (on (λ v. v.generation) c₅.now long.generation_has) refl $
           -- serial
           assigns ! (addr ! (from ! (fld ! refl (hop ! (look_in ! 30 (sub ! 0 refl (whole !))) (stop !))))) (from ! (stop !)) (init ! 22 refl (tt, tt)) $
           assigns ! (agg ! (and_then ! (load ! (from ! (stop !)) (look ! 22 refl))
           (and_then ! (load ! (from ! (fld ! refl (stop !))) (look_in ! 30 (sub ! 1 refl (whole !)))) (no_more !)))) (from ! (stop !))
           (init ! 23 refl (tt, (tt, (record { fits = g₆.0 }, tt)))) $
-          move ! (7 ∷ 1 ∷ 2 ∷ []) $ reads-block serial-field ! (fm_of 𝓤 H 𝓛.laws 𝓣) known-serial κ₀ q₀ r (length c₆.now) g₆ (z₆ i) c₆.ref_ptr.0
-          c₆.ref_ptr.1 (same (λ v. v.serial) c₆.now long.serial-has) i (to i) fits-i fits-j (reach (λ v. v.serial) c₆.now long.serial-has)
+          move ! (7 ∷ 1 ∷ 2 ∷ []) $ reads_block serial_field ! (fm_of 𝓤 H 𝓛.laws 𝓣) known-serial κ₀ q₀ r (length c₆.now) g₆ (z₆ i) c₆.ref_ptr.0
+          c₆.ref_ptr.1 (same (λ v. v.serial) c₆.now long.serial_has) i (to i) fits_i fits_j (reach (λ v. v.serial) c₆.now long.serial_has)
           (λ _. and_then ! (load ! (from ! (stop !)) (look ! 23 refl))
           (and_then ! (load ! (from ! (stop !)) (look ! 22 refl))
           (and_then ! (load ! (from ! (stop !)) (look ! 7 refl)) (and_then ! (load ! (from ! (stop !)) (look ! 8 refl)) (no_more !))))) (λ _ e₆.
-          land ! (from ! (stop !)) (init ! 11 refl (is-unit e₆)) $ forget ! 11 refl $ rewrite ! 0
-          (λ (zs : List ℕ). ‵ (row u64 full_share zs c₆.ref_ptr.0 c₆.ref_ptr.1)) (on (λ v. v.serial) c₆.now long.serial-has) refl $
+          land ! (from ! (stop !)) (init ! 11 refl (is_unit e₆)) $ forget ! 11 refl $ rewrite ! 0
+          (λ (zs : List ℕ). ‵ (row u64 full_share zs c₆.ref_ptr.0 c₆.ref_ptr.1)) (on (λ v. v.serial) c₆.now long.serial_has) refl $
           -- i = to
-          assigns_last ! (of_opd ! (load ! (from ! (stop !)) (look ! 9 refl))) (from ! (stop !)) (store ! 8 refl (tt, record { fits = fits-j })) $
+          assigns_last ! (of_opd ! (load ! (from ! (stop !)) (look ! 9 refl))) (from ! (stop !)) (store ! 8 refl (tt, record { fits = fits_j })) $
           forget ! 9 refl $ forget ! 10 refl $ forget ! 12 refl $ forget ! 13 refl $ forget ! 14 refl $ forget ! 15 refl $ forget ! 16 refl $ forget ! 17 refl
           $ forget ! 18 refl $ forget ! 19 refl $ forget ! 20 refl $ forget ! 21 refl $ forget ! 22 refl $ forget ! 23 refl $
           move ! (7 ∷ 6 ∷ 5 ∷ 4 ∷ 3 ∷ 0 ∷ 1 ∷ 2 ∷ []) $ by ! (k (to i) past most)))))))))))
         where
           past : i < (to i)
-          past = ends-past i m l
+          past = ends_past i m l
 
           most : (to i) ≤ m
-          most = ends-within i m
+          most = ends_within i m
 
-          fits-m : m < 2 ^ 64
-          fits-m = omega (arith, used-fits n)
+          fits_m : m < 2 ^ 64
+          fits_m = omega (arith, used_fits_lem n)
 
-          fits-i : i < 2 ^ 64
-          fits-i = omega (arith, l, fits-m)
+          fits_i : i < 2 ^ 64
+          fits_i = omega (arith, l, fits_m)
 
-          fits-j : (to i) < 2 ^ 64
-          fits-j = omega (arith, most, fits-m)
+          fits_j : (to i) < 2 ^ 64
+          fits_j = omega (arith, most, fits_m)
 
-          same : (g : Node → ℕ) (xs : List ℕ) → 4096 ≤ length xs → length (readTo g ys xs i) ≡ length xs
+          same : (g : Node → ℕ) (xs : List ℕ) → 4096 ≤ length xs → length (read_to g ys xs i) ≡ length xs
           same g xs has = len g xs has i (omega (arith, l))
 
-          reach : (g : Node → ℕ) (xs : List ℕ) → 4096 ≤ length xs → Reaches ys (readTo g ys xs i) i (to i)
+          reach : (g : Node → ℕ) (xs : List ℕ) → 4096 ≤ length xs → Reaches ys (read_to g ys xs i) i (to i)
           reach g xs has = record {
             forward = omega (arith, past);
-            of-nodes = omega (arith, most, used_le n);
-            of-column = subst (λ (k : ℕ). (to i) ≤ k)
-                (sym (same g xs has)) (omega (arith, most, used-fits n, has));
+            of_nodes = omega (arith, most, used_le n);
+            of_column = subst (λ (k : ℕ). (to i) ≤ k)
+                (sym (same g xs has)) (omega (arith, most, used_fits_lem n, has));
           }
 
-          on : (g : Node → ℕ) (xs : List ℕ) → 4096 ≤ length xs → written (map g ys) i (to i) (readTo g ys xs i) ≡ readTo g ys xs (to i)
-          on g xs has = readTo-on g ys xs i (to i) (omega (arith, past)) (omega (arith, most, used_le n)) (omega (arith, most, used-fits n, has))
+          on : (g : Node → ℕ) (xs : List ℕ) → 4096 ≤ length xs → written (map g ys) i (to i) (read_to g ys xs i) ≡ read_to g ys xs (to i)
+          on g xs has = read_to_on g ys xs i (to i) (omega (arith, past)) (omega (arith, most, used_le n)) (omega (arith, most, used_fits_lem n, has))
 
     last : (X : SProp 𝓤) → ent 𝓤 (⋆ 𝓛 (At m)) (Wp 𝓤 H C Λ E mir.turn-1 (after_turn 𝓤 H X Left))
     unfolding after_turn
@@ -448,21 +448,21 @@ module _ {M : Type 1} {𝓤 : Ura M} (𝓛 : Logic 𝓤) (mem : Memory → SProp
         qed 𝓛 (At m) ∵ exec ! C Λ E mir.turn-1 (any_q (after_turn 𝓤 H X Left)) $
         assigns ! (bin ! (load ! (from ! (stop !)) (look ! 8 refl)) (load ! (from ! (stop !)) (look ! 31 refl)) tt) (from ! (stop !)) (init ! 10 refl (tt, tt))
         $
-        rewrite ! 10 (λ (t : Bool). ‵ (fat full_share ty_bool l₁₂ 0 (vbool t))) (not-less m) refl $ leaves_loop ! (load ! (from ! (stop !)) (look ! 10 refl)) $
+        rewrite ! 10 (λ (t : Bool). ‵ (fat full_share ty_bool l₁₂ 0 (vbool t))) (not_less m) refl $ leaves_loop ! (load ! (from ! (stop !)) (look ! 10 refl)) $
         exec ! C Λ E mir.t-5 (at_ret E Post) $
         assigns ! (of_opd ! (unit_lit !)) (from ! (stop !)) (init ! 32 refl (tt, tt)) $
         -- the columns are closed, at what is read
-        move ! (0 ∷ 34 ∷ 35 ∷ 36 ∷ []) $ closes_slice ! tt usize c₁.now (z₁ m) (len (λ v. v.next) c₁.now long.next-has m (omega arith)) c₁.ref_ptr.0
+        move ! (0 ∷ 34 ∷ 35 ∷ 36 ∷ []) $ closes_slice ! tt usize c₁.now (z₁ m) (len (λ v. v.next) c₁.now long.next_has m (omega arith)) c₁.ref_ptr.0
         c₁.ptr.1 $
-        move ! (3 ∷ 36 ∷ 37 ∷ 38 ∷ []) $ closes_slice ! tt usize c₂.now (z₂ m) (len (λ v. v.prev) c₂.now long.prev-has m (omega arith)) c₂.ref_ptr.0
+        move ! (3 ∷ 36 ∷ 37 ∷ 38 ∷ []) $ closes_slice ! tt usize c₂.now (z₂ m) (len (λ v. v.prev) c₂.now long.prev_has m (omega arith)) c₂.ref_ptr.0
         c₂.ptr.1 $
-        move ! (6 ∷ 38 ∷ 39 ∷ 40 ∷ []) $ closes_slice ! tt usize c₃.now (z₃ m) (len (λ v. v.bucket) c₃.now long.bucket-has m (omega arith))
+        move ! (6 ∷ 38 ∷ 39 ∷ 40 ∷ []) $ closes_slice ! tt usize c₃.now (z₃ m) (len (λ v. v.bucket) c₃.now long.bucket_has m (omega arith))
         c₃.ptr.0 c₃.ptr.1 $
         move ! (9 ∷ 40 ∷ 41 ∷ 42 ∷ []) $ closes_slice ! tt usize c₄.now (z₄ m) (len (λ v. v.entry) c₄.now long.entry_has m (omega arith))
         c₄.ptr.0 c₄.ptr.1 $
-        move ! (12 ∷ 42 ∷ 43 ∷ 44 ∷ []) $ closes_slice ! tt u32 c₅.now (z₅ m) (len (λ v. v.generation) c₅.now long.generation-has m (omega arith))
+        move ! (12 ∷ 42 ∷ 43 ∷ 44 ∷ []) $ closes_slice ! tt u32 c₅.now (z₅ m) (len (λ v. v.generation) c₅.now long.generation_has m (omega arith))
         c₅.ptr.0 c₅.ptr.1 $
-        move ! (15 ∷ 44 ∷ 45 ∷ 46 ∷ []) $ closes_slice ! tt u64 c₆.now (z₆ m) (len (λ v. v.serial) c₆.now long.serial-has m (omega arith))
+        move ! (15 ∷ 44 ∷ 45 ∷ 46 ∷ []) $ closes_slice ! tt u64 c₆.now (z₆ m) (len (λ v. v.serial) c₆.now long.serial_has m (omega arith))
         c₆.ptr.0 c₆.ptr.1 $
         returns ! (look ! 44 refl) $ forget ! 44 refl $ forget ! 36 refl $ forget ! 37 refl $ forget ! 38 refl $ forget ! 39 refl $ forget ! 40 refl $ forget !
         41 refl $ forget ! 42 refl $ forget ! 43 refl $ forget ! 20 refl $ forget ! 22 refl $
@@ -477,11 +477,11 @@ module _ {M : Type 1} {𝓤 : Ura M} (𝓛 : Logic 𝓤) (mem : Memory → SProp
 
   module _ (𝓣 : Tables 𝓤 H) (known-used : Triple 𝓤 (𝓣.C #nodes·used) (Used 𝓛 mem run)) (known-end : Triple 𝓤 (𝓣.C #nodes·block-end) (End 𝓛 mem run))
       (known_next : Triple 𝓤 (𝓣.C #nodes·fields·read-next) (Reader next_field 𝓛))
-      (known-prev : Triple 𝓤 (𝓣.C #nodes·fields·read-prev) (Reader prev-field 𝓛))
-      (known-bucket : Triple 𝓤 (𝓣.C #nodes·fields·read-bucket) (Reader bucket-field 𝓛))
-      (known-entry : Triple 𝓤 (𝓣.C #nodes·fields·read-entry) (Reader entry-field 𝓛))
-      (known-generation : Triple 𝓤 (𝓣.C #nodes·fields·read-generation) (Reader generation-field 𝓛))
-      (known-serial : Triple 𝓤 (𝓣.C #nodes·fields·read-serial) (Reader serial-field 𝓛)) where
+      (known-prev : Triple 𝓤 (𝓣.C #nodes·fields·read-prev) (Reader prev_field 𝓛))
+      (known-bucket : Triple 𝓤 (𝓣.C #nodes·fields·read-bucket) (Reader bucket_field 𝓛))
+      (known-entry : Triple 𝓤 (𝓣.C #nodes·fields·read-entry) (Reader entry_field 𝓛))
+      (known-generation : Triple 𝓤 (𝓣.C #nodes·fields·read-generation) (Reader generation_field 𝓛))
+      (known-serial : Triple 𝓤 (𝓣.C #nodes·fields·read-serial) (Reader serial_field 𝓛)) where
     walk : ent 𝓤 (on_entry 𝓛 load'.signature (κ₀, (κ₁, (κ₂, (κ₃, (κ₄, (κ₅, (κ₆, tt))))))) (q₀, (q₁, (q₂, (q₃, (q₄, (q₅, (q₆, tt))))))) x at)
         (WpFn 𝓤 H 𝓣.C 𝓣.Λ code.function values Post)
     walk =
@@ -503,11 +503,11 @@ module _ {M : Type 1} {𝓤 : Ura M} (𝓛 : Logic 𝓤) (mem : Memory → SProp
         -- `used`
         assigns ! (of_opd ! (load ! (from ! (fld ! refl (stop !))) (look_in ! 48 (sub ! 1 refl (whole !))))) (from ! (stop !))
         (init ! 28 refl (tt, record { fits = gr.0 })) $
-        use0 𝓛 (raw ((Used 𝓛 mem run).pre (to-used 𝓛 mem run n))) (goes-used 𝓛 mem run n gr.0) $ calls_at ! (fm_of 𝓤 H 𝓛.laws 𝓣)
-        (Used 𝓛 mem run) known-used (to-used 𝓛 mem run n) (and_then ! (load ! (from ! (stop !)) (look ! 29 refl)) (no_more !)) (λ w.
+        use0 𝓛 (raw ((Used 𝓛 mem run).pre (to_used 𝓛 mem run n))) (goes_used 𝓛 mem run n gr.0) $ calls_at ! (fm_of 𝓤 H 𝓛.laws 𝓣)
+        (Used 𝓛 mem run) known-used (to_used 𝓛 mem run n) (and_then ! (load ! (from ! (stop !)) (look ! 29 refl)) (no_more !)) (λ w.
         use1 𝓛 (later (some (λ (a : ℕ). (‵ ftrue ⊛ ‵ (usize.own_val a (w ∷ []))) ⊛ raw (ensured 𝓛 used.ended (used.clauses 𝓛 mem run) tt (n, tt) tt a))))
         (id⊢ 𝓤 _) $ await ! tt $ pick ! (λ a.
-        split ! $ move ! (1 ∷ []) $ use1 𝓛 (raw (fact 𝓤 (a ≡ m))) (used-of 𝓛 mem run n a) $ heard ! (a ≡ m) (λ e. split ! $ drop ! $
+        split ! $ move ! (1 ∷ []) $ use1 𝓛 (raw (fact 𝓤 (a ≡ m))) (used_of_lem 𝓛 mem run n a) $ heard ! (a ≡ m) (λ e. split ! $ drop ! $
         rewrite ! 0 (λ (d : ℕ). ‵ (usize.own_val d (w ∷ []))) e refl $ peeks ! usize (Is usize) (shows 𝓛 usize) m (w ∷ []) (λ is. drop ! $
         land ! (from ! (stop !)) (init ! 34 refl ((uint_Lawful 𝓛 w64).typed m _ is).0) $ rewrite ! 34 (λ (u : Val). ‵ (fat full_share word l₈ 0 u))
         (ap only is.0) refl $
@@ -538,12 +538,12 @@ module _ {M : Type 1} {𝓤 : Ura M} (𝓛 : Logic 𝓤) (mem : Memory → SProp
 module _ {M : Type 1} {𝓤 : Ura M} (𝓛 : Logic 𝓤) (mem : Memory → SProp 𝓤) (run : Routine → Fun 𝓤) where
   open 𝓛 use {H}
 
-  load-walks : (𝓣 : Tables 𝓤 H) → Triple 𝓤 (𝓣.C #nodes·used) (Used 𝓛 mem run) → Triple 𝓤 (𝓣.C #nodes·block-end) (End 𝓛 mem run) → Triple 𝓤
-      (𝓣.C #nodes·fields·read-next) (Reader next_field 𝓛) → Triple 𝓤 (𝓣.C #nodes·fields·read-prev) (Reader prev-field 𝓛) → Triple 𝓤
-      (𝓣.C #nodes·fields·read-bucket) (Reader bucket-field 𝓛) → Triple 𝓤 (𝓣.C #nodes·fields·read-entry) (Reader entry-field 𝓛) → Triple 𝓤
-      (𝓣.C #nodes·fields·read-generation) (Reader generation-field 𝓛) → Triple 𝓤 (𝓣.C #nodes·fields·read-serial) (Reader serial-field 𝓛) → Walks 𝓛
+  load_walks : (𝓣 : Tables 𝓤 H) → Triple 𝓤 (𝓣.C #nodes·used) (Used 𝓛 mem run) → Triple 𝓤 (𝓣.C #nodes·block-end) (End 𝓛 mem run) → Triple 𝓤
+      (𝓣.C #nodes·fields·read-next) (Reader next_field 𝓛) → Triple 𝓤 (𝓣.C #nodes·fields·read-prev) (Reader prev_field 𝓛) → Triple 𝓤
+      (𝓣.C #nodes·fields·read-bucket) (Reader bucket_field 𝓛) → Triple 𝓤 (𝓣.C #nodes·fields·read-entry) (Reader entry_field 𝓛) → Triple 𝓤
+      (𝓣.C #nodes·fields·read-generation) (Reader generation_field 𝓛) → Triple 𝓤 (𝓣.C #nodes·fields·read-serial) (Reader serial_field 𝓛) → Walks 𝓛
       load'.ended stayed (WpFn 𝓤 H 𝓣.C 𝓣.Λ code.function) (load'.clauses 𝓛 mem run)
-  load-walks 𝓣 known-used known-end known_next known-prev known-bucket known-entry known-generation known-serial = walked 𝓛 load'.ended stayed
+  load_walks 𝓣 known-used known-end known_next known-prev known-bucket known-entry known-generation known-serial = walked 𝓛 load'.ended stayed
       (load'.clauses 𝓛 mem run) (WpFn 𝓤 H 𝓣.C 𝓣.Λ code.function)
       (λ κs. (shr_slice_vals, (shr_slice_vals, (shr_slice_vals, (shr_slice_vals, (shr_slice_vals, (shr_slice_vals, (shr_slice_vals, tt))))))))
       (λ κs. (
@@ -570,13 +570,13 @@ module _ {M : Type 1} {𝓤 : Ura M} (𝓛 : Logic 𝓤) (mem : Memory → SProp
       are.1.1.1.0.0.1 are.1.1.1.1.0.0.1 are.1.1.1.1.1.0.0.1 are.1.1.1.1.1.1.0.0.1 long 𝓣 known-used known-end
       known_next known-prev known-bucket known-entry known-generation known-serial))
 
-load-meets : {M : Type 1} {𝓤 : Ura M} (𝓛 : Logic 𝓤) → (mem : Memory → SProp 𝓤) (run : Routine → Fun 𝓤) (𝓣 : Tables 𝓤 𝓛.H) → Triple 𝓤
+load_meets : {M : Type 1} {𝓤 : Ura M} (𝓛 : Logic 𝓤) → (mem : Memory → SProp 𝓤) (run : Routine → Fun 𝓤) (𝓣 : Tables 𝓤 𝓛.H) → Triple 𝓤
     (𝓣.C #nodes·used) (Used 𝓛 mem run) → Triple 𝓤 (𝓣.C #nodes·block-end) (End 𝓛 mem run) → Triple 𝓤 (𝓣.C #nodes·fields·read-next)
-    (Reader next_field 𝓛) → Triple 𝓤 (𝓣.C #nodes·fields·read-prev) (Reader prev-field 𝓛) → Triple 𝓤 (𝓣.C #nodes·fields·read-bucket)
-    (Reader bucket-field 𝓛) → Triple 𝓤 (𝓣.C #nodes·fields·read-entry) (Reader entry-field 𝓛) → Triple 𝓤 (𝓣.C #nodes·fields·read-generation)
-    (Reader generation-field 𝓛) → Triple 𝓤 (𝓣.C #nodes·fields·read-serial) (Reader serial-field 𝓛)
+    (Reader next_field 𝓛) → Triple 𝓤 (𝓣.C #nodes·fields·read-prev) (Reader prev_field 𝓛) → Triple 𝓤 (𝓣.C #nodes·fields·read-bucket)
+    (Reader bucket_field 𝓛) → Triple 𝓤 (𝓣.C #nodes·fields·read-entry) (Reader entry_field 𝓛) → Triple 𝓤 (𝓣.C #nodes·fields·read-generation)
+    (Reader generation_field 𝓛) → Triple 𝓤 (𝓣.C #nodes·fields·read-serial) (Reader serial_field 𝓛)
     → Meets 𝓛 load'.signature (WpFn 𝓤 𝓛.H 𝓣.C 𝓣.Λ code.function) (load'.spec 𝓛 mem run)
-load-meets {𝓤 = 𝓤} 𝓛 mem run 𝓣 known-used known-end known_next known-prev known-bucket known-entry known-generation known-serial =
+load_meets {𝓤 = 𝓤} 𝓛 mem run 𝓣 known-used known-end known_next known-prev known-bucket known-entry known-generation known-serial =
     walk_Meets 𝓛 load'.ended stayed (
       Goes-none_slice 𝓛 7 (0 ∷ []) tt (plain (λ _. T.the_row)) yes,
       (
@@ -591,23 +591,23 @@ load-meets {𝓤 = 𝓤} 𝓛 mem run 𝓣 known-used known-end known_next known
       ),
     )
     (load'.clauses 𝓛 mem run) (WpFn 𝓤 𝓛.H 𝓣.C 𝓣.Λ code.function) (WpFn-mono 𝓤 𝓛.H 𝓛.laws 𝓣 code.function)
-    (load-walks 𝓛 mem run 𝓣 known-used known-end known_next known-prev known-bucket known-entry known-generation known-serial)
+    (load_walks 𝓛 mem run 𝓣 known-used known-end known_next known-prev known-bucket known-entry known-generation known-serial)
 
 pub load_spec : {M : Type 1} → stated.statement M
 unfolding code.routine tables_of
 load_spec 𝓤 𝓛 𝓜 𝓡 =
     entered 𝓤 𝓛.H (triple_of 𝓛 load'.signature (load'.spec 𝓛 𝓜.mem 𝓡.run))
     (tables 𝓤 𝓛.H 𝓜 𝓡 code.env).C (tables 𝓤 𝓛.H 𝓜 𝓡 code.env).Λ #nodes·load code.function (code.unfolded 𝓤 𝓛.H 𝓜 𝓡)
-    (load-meets 𝓛 𝓜.mem 𝓡.run (tables_of 𝓤 𝓛.H 𝓜 (tables 𝓤 𝓛.H 𝓜 𝓡 code.env))
+    (load_meets 𝓛 𝓜.mem 𝓡.run (tables_of 𝓤 𝓛.H 𝓜 (tables 𝓤 𝓛.H 𝓜 𝓡 code.env))
     (cited 𝓤 𝓛.H (Used 𝓛 𝓜.mem 𝓡.run) 𝓜 𝓡 code.env #nodes·used used-def.routine code.calls-nodes::used (used-thm.met 𝓤 𝓛 𝓜 𝓡))
     (cited 𝓤 𝓛.H (End 𝓛 𝓜.mem 𝓡.run) 𝓜 𝓡 code.env #nodes·block-end ends-def.routine code.calls-nodes::block-end (ends-thm.met 𝓤 𝓛 𝓜 𝓡))
     (cited 𝓤 𝓛.H (Reader next_field 𝓛) 𝓜 𝓡 code.env #nodes·fields·read-next next-def.routine code.calls-nodes::fields::read-next (next-thm.met 𝓤 𝓛 𝓜 𝓡))
-    (cited 𝓤 𝓛.H (Reader prev-field 𝓛) 𝓜 𝓡 code.env #nodes·fields·read-prev prev-def.routine code.calls-nodes::fields::read-prev (prev-thm.met 𝓤 𝓛 𝓜 𝓡))
-    (cited 𝓤 𝓛.H (Reader bucket-field 𝓛) 𝓜 𝓡 code.env #nodes·fields·read-bucket bucket-def.routine code.calls-nodes::fields::read-bucket
+    (cited 𝓤 𝓛.H (Reader prev_field 𝓛) 𝓜 𝓡 code.env #nodes·fields·read-prev prev-def.routine code.calls-nodes::fields::read-prev (prev-thm.met 𝓤 𝓛 𝓜 𝓡))
+    (cited 𝓤 𝓛.H (Reader bucket_field 𝓛) 𝓜 𝓡 code.env #nodes·fields·read-bucket bucket-def.routine code.calls-nodes::fields::read-bucket
     (bucket-thm.met 𝓤 𝓛 𝓜 𝓡))
-    (cited 𝓤 𝓛.H (Reader entry-field 𝓛) 𝓜 𝓡 code.env #nodes·fields·read-entry entry-def.routine code.calls-nodes::fields::read-entry
+    (cited 𝓤 𝓛.H (Reader entry_field 𝓛) 𝓜 𝓡 code.env #nodes·fields·read-entry entry-def.routine code.calls-nodes::fields::read-entry
     (entry-thm.met 𝓤 𝓛 𝓜 𝓡))
-    (cited 𝓤 𝓛.H (Reader generation-field 𝓛) 𝓜 𝓡 code.env #nodes·fields·read-generation generation-def.routine code.calls-nodes::fields::read-generation
+    (cited 𝓤 𝓛.H (Reader generation_field 𝓛) 𝓜 𝓡 code.env #nodes·fields·read-generation generation-def.routine code.calls-nodes::fields::read-generation
     (generation-thm.met 𝓤 𝓛 𝓜 𝓡))
-    (cited 𝓤 𝓛.H (Reader serial-field 𝓛) 𝓜 𝓡 code.env #nodes·fields·read-serial serial-def.routine code.calls-nodes::fields::read-serial
+    (cited 𝓤 𝓛.H (Reader serial_field 𝓛) 𝓜 𝓡 code.env #nodes·fields·read-serial serial-def.routine code.calls-nodes::fields::read-serial
     (serial-thm.met 𝓤 𝓛 𝓜 𝓡)))

@@ -1,5 +1,5 @@
 -- `store` meets its contract: a walk of its MIR. The columns are looked into and the nodes are opened once, before the
--- loop; at the loop's test, with i turns done, the nodes' row is `storedNodes`.
+-- loop; at the loop's test, with i turns done, the nodes' row is `stored_nodes`.
 use mathlib.Core.Path.{◌≡◌, refl, sym, ap, subst}
 use Prim.Native.Nat.{ℕ, suc, ◌<◌, ◌≤◌, ◌^◌, ◌*◌, ◌+◌}
 use native.Mathlib.Omega.{arith}
@@ -48,11 +48,11 @@ use denote.Triple.Table.{entered, cited}
 use denote.Triple.Walked.{says, needs, Stays, stay_slice, stay_none_slice, walk_of, Goes-slice, Goes-none_slice, Walks, ends_at, walked, walk_Meets}
 use denote.Exit.{yes}
 use Rattle.face_rules.specs.declared.Node.{Node}
-use Rattle.face_rules.specs.nodes.Columns.{Columns, columns, usedOf, Holds}
-use Rattle.face_rules.proofs.nodes.Fills.{length-fills}
-use Rattle.nodes.proofs.Counts.{counts, yes-less, not-less, one_more}
-use Rattle.face_rules.proofs.nodes.Using.{used_le, used-fits, blank, nodeAt, storedNodes, stored}
-use Rattle.nodes.proofs.CallsUsed.{Used, used-of, to-used, goes-used}
+use Rattle.face_rules.specs.nodes.Columns.{Columns, columns, used_of, Holds}
+use Rattle.face_rules.proofs.nodes.Fills.{length_fills}
+use Rattle.nodes.proofs.Counts.{counts, yes_less, not_less, one_more}
+use Rattle.face_rules.proofs.nodes.Using.{used_le, used_fits_lem, blank, node_at, stored_nodes, stored}
+use Rattle.nodes.proofs.CallsUsed.{Used, used_of_lem, to_used, goes_used}
 use Rattle.face_rules.specs.contracts.Node as T
 use Rattle.face_rules.proofs.Node.TheLaws as T'
 use Rattle.nodes.specs.contracts.used as used
@@ -116,10 +116,10 @@ module _ {M : Type 1} {𝓤 : Ura M} (𝓛 : Logic 𝓤) (mem : Memory → SProp
 
   -- how many turns there are
   abbrev m : ℕ
-  m = usedOf n
+  m = used_of n
 
-  abbrev from-columns : Columns
-  from-columns = columns c₁.now c₂.now c₃.now c₄.now c₅.now c₆.now
+  abbrev from_columns : Columns
+  from_columns = columns c₁.now c₂.now c₃.now c₄.now c₅.now c₆.now
 
   abbrev x : Bor (List Node) × (Bor (List ℕ) × (Bor (List ℕ) × (Bor (List ℕ) × (Bor (List ℕ) × (Bor (List ℕ) × (Bor (List ℕ) × Unit {0}))))))
   x = (r, (c₁, (c₂, (c₃, (c₄, (c₅, (c₆, tt)))))))
@@ -133,10 +133,10 @@ module _ {M : Type 1} {𝓤 : Ura M} (𝓛 : Logic 𝓤) (mem : Memory → SProp
 
   -- the nodes after i turns
   abbrev zs : ℕ → List Node
-  zs = storedNodes ys from-columns
+  zs = stored_nodes ys from_columns
 
   len : (i : ℕ) → length (zs i) ≡ n
-  len i = length-fills (nodeAt from-columns) ys i
+  len i = length_fills (node_at from_columns) ys i
 
   abbrev Post : Val → SProp 𝓤
   Post = (walk_of 𝓛 store'.ended stayed (store'.clauses 𝓛 mem run)).post
@@ -156,7 +156,7 @@ module _ {M : Type 1} {𝓤 : Ura M} (𝓛 : Logic 𝓤) (mem : Memory → SProp
       qed 𝓛 Ends ∵ suffices ! _ (ends_at 𝓛 store'.ended stayed (store'.clauses 𝓛 mem run)
       (((κ₀, (κ₁, (κ₂, (κ₃, (κ₄, (κ₅, (κ₆, tt))))))), (q₀, (q₁, (q₂, (q₃, (q₄, (q₅, (q₆, tt))))))), tt, x, at), tt) vunit tt
       (zs m, (tt, (tt, (tt, (tt, (tt, (tt, tt))))))) (len m, (tt, (tt, (tt, (tt, (tt, (tt, tt)))))))) $
-      says ! (stored ys from-columns long) $ nothing ! $ move ! (7 ∷ 0 ∷ []) $ join ! $ move ! (6 ∷ 0 ∷ []) $ join ! $ move ! (5 ∷ 0 ∷ []) $ join ! $ move !
+      says ! (stored ys from_columns long) $ nothing ! $ move ! (7 ∷ 0 ∷ []) $ join ! $ move ! (6 ∷ 0 ∷ []) $ join ! $ move ! (5 ∷ 0 ∷ []) $ join ! $ move !
       (4 ∷ 0 ∷ []) $ join ! $ move ! (3 ∷ 0 ∷ []) $ join ! $ move ! (2 ∷ 0 ∷ []) $ join ! $ move ! (1 ∷ 0 ∷ []) $ join ! $ frame ! $
       nothing ! $ move ! (8 ∷ 0 ∷ []) $ fjoin ! $ move ! (7 ∷ 0 ∷ []) $ fjoin ! $ move ! (6 ∷ 0 ∷ []) $ fjoin ! $ move ! (5 ∷ 0 ∷ []) $ fjoin ! $ move !
       (4 ∷ 0 ∷ []) $ fjoin ! $ move ! (3 ∷ 0 ∷ []) $ fjoin ! $
@@ -238,7 +238,7 @@ module _ {M : Type 1} {𝓤 : Ura M} (𝓛 : Logic 𝓤) (mem : Memory → SProp
     more i X _ l k =
         qed 𝓛 (At i) ∵ exec ! C Λ E mir.turn-1 (any_q (after_turn 𝓤 H X Left)) $
         assigns ! (bin ! (load ! (from ! (stop !)) (look ! 7 refl)) (load ! (from ! (stop !)) (look ! 37 refl)) tt) (from ! (stop !)) (init ! 8 refl (tt, tt)) $
-        rewrite ! 8 (λ (t : Bool). ‵ (fat full_share ty_bool l₁₁ 0 (vbool t))) (yes-less i m l) refl $ stays ! (load ! (from ! (stop !)) (look ! 8 refl)) $
+        rewrite ! 8 (λ (t : Bool). ‵ (fat full_share ty_bool l₁₁ 0 (vbool t))) (yes_less i m l) refl $ stays ! (load ! (from ! (stop !)) (look ! 8 refl)) $
         -- next[i]
         assigns ! (bin ! (load ! (from ! (stop !)) (look ! 7 refl)) (lit ! tt) (record { fits = fits8 })) (from ! (stop !))
         (init ! 9 refl (tt, record { fits = fits8 })) $
@@ -246,10 +246,10 @@ module _ {M : Type 1} {𝓤 : Ura M} (𝓛 : Logic 𝓤) (mem : Memory → SProp
         (from ! (stop !)) (init ! 10 refl (tt, tt)) $
         rewrite ! 10 (λ (p : ℕ). ‵ (fat full_share ty_ptr l₁₃ 0 (vptr c₁.ptr.0 p))) (sym (place_is 8 c₁.ptr.1 i)) refl $
         move ! (1 ∷ []) $ elem_out ! usize (Is usize) (shows 𝓛 usize) (uint_vals w64) (uint_Tells w64) s₁ c₁.now i 0 c₁.ref_ptr.0 c₁.ref_ptr.1
-        (within long.next-has) (λ h₁.
+        (within long.next_has) (λ h₁.
         assigns ! (of_opd ! (load ! (from ! (hop ! (look ! 12 refl) (stop !))) (look ! 0 refl))) (from ! (stop !))
         (init ! 13 refl (tt, record { fits = h₁.1 })) $
-        elem_back ! usize s₁ c₁.now i 0 (vint w64 (get_or c₁.now i 0) ∷ []) c₁.ref_ptr.0 c₁.ref_ptr.1 (within long.next-has) $
+        elem_back ! usize s₁ c₁.now i 0 (vint w64 (get_or c₁.now i 0) ∷ []) c₁.ref_ptr.0 c₁.ref_ptr.1 (within long.next_has) $
         -- prev[i]
         assigns ! (bin ! (load ! (from ! (stop !)) (look ! 7 refl)) (lit ! tt) (record { fits = fits8 })) (from ! (stop !))
         (init ! 12 refl (tt, record { fits = fits8 })) $
@@ -257,10 +257,10 @@ module _ {M : Type 1} {𝓤 : Ura M} (𝓛 : Logic 𝓤) (mem : Memory → SProp
         (from ! (stop !)) (init ! 13 refl (tt, tt)) $
         rewrite ! 13 (λ (p : ℕ). ‵ (fat full_share ty_ptr l₁₆ 0 (vptr c₂.ptr.0 p))) (sym (place_is 8 c₂.ptr.1 i)) refl $
         move ! (2 ∷ []) $ elem_out ! usize (Is usize) (shows 𝓛 usize) (uint_vals w64) (uint_Tells w64) s₂ c₂.now i 0 c₂.ref_ptr.0 c₂.ref_ptr.1
-        (within long.prev-has) (λ h₂.
+        (within long.prev_has) (λ h₂.
         assigns ! (of_opd ! (load ! (from ! (hop ! (look ! 15 refl) (stop !))) (look ! 0 refl))) (from ! (stop !))
         (init ! 16 refl (tt, record { fits = h₂.1 })) $
-        elem_back ! usize s₂ c₂.now i 0 (vint w64 (get_or c₂.now i 0) ∷ []) c₂.ref_ptr.0 c₂.ref_ptr.1 (within long.prev-has) $
+        elem_back ! usize s₂ c₂.now i 0 (vint w64 (get_or c₂.now i 0) ∷ []) c₂.ref_ptr.0 c₂.ref_ptr.1 (within long.prev_has) $
         -- bucket[i]
         assigns ! (bin ! (load ! (from ! (stop !)) (look ! 7 refl)) (lit ! tt) (record { fits = fits8 })) (from ! (stop !))
         (init ! 15 refl (tt, record { fits = fits8 })) $
@@ -268,10 +268,10 @@ module _ {M : Type 1} {𝓤 : Ura M} (𝓛 : Logic 𝓤) (mem : Memory → SProp
         (from ! (stop !)) (init ! 16 refl (tt, tt)) $
         rewrite ! 16 (λ (p : ℕ). ‵ (fat full_share ty_ptr l₁₉ 0 (vptr c₃.ptr.0 p))) (sym (place_is 8 c₃.ptr.1 i)) refl $
         move ! (3 ∷ []) $ elem_out ! usize (Is usize) (shows 𝓛 usize) (uint_vals w64) (uint_Tells w64) s₃ c₃.now i 0 c₃.ref_ptr.0 c₃.ref_ptr.1
-        (within long.bucket-has) (λ h₃.
+        (within long.bucket_has) (λ h₃.
         assigns ! (of_opd ! (load ! (from ! (hop ! (look ! 18 refl) (stop !))) (look ! 0 refl))) (from ! (stop !))
         (init ! 19 refl (tt, record { fits = h₃.1 })) $
-        elem_back ! usize s₃ c₃.now i 0 (vint w64 (get_or c₃.now i 0) ∷ []) c₃.ref_ptr.0 c₃.ref_ptr.1 (within long.bucket-has) $
+        elem_back ! usize s₃ c₃.now i 0 (vint w64 (get_or c₃.now i 0) ∷ []) c₃.ref_ptr.0 c₃.ref_ptr.1 (within long.bucket_has) $
         -- entry[i]
         assigns ! (bin ! (load ! (from ! (stop !)) (look ! 7 refl)) (lit ! tt) (record { fits = fits8 })) (from ! (stop !))
         (init ! 18 refl (tt, record { fits = fits8 })) $
@@ -290,10 +290,10 @@ module _ {M : Type 1} {𝓤 : Ura M} (𝓛 : Logic 𝓤) (mem : Memory → SProp
         (from ! (stop !)) (init ! 22 refl (tt, tt)) $
         rewrite ! 22 (λ (p : ℕ). ‵ (fat full_share ty_ptr l₂₅ 0 (vptr c₅.ptr.0 p))) (sym (place_is 4 c₅.ptr.1 i)) refl $
         move ! (5 ∷ []) $ elem_out ! u32 (Is u32) (shows 𝓛 u32) (uint_vals w32) (uint_Tells w32) s₅ c₅.now i 0 c₅.ref_ptr.0 c₅.ref_ptr.1
-        (within long.generation-has) (λ h₅.
+        (within long.generation_has) (λ h₅.
         assigns ! (of_opd ! (load ! (from ! (hop ! (look ! 24 refl) (stop !))) (look ! 0 refl))) (from ! (stop !))
         (init ! 25 refl (tt, record { fits = h₅.1 })) $
-        elem_back ! u32 s₅ c₅.now i 0 (vint w32 (get_or c₅.now i 0) ∷ []) c₅.ref_ptr.0 c₅.ref_ptr.1 (within long.generation-has) $
+        elem_back ! u32 s₅ c₅.now i 0 (vint w32 (get_or c₅.now i 0) ∷ []) c₅.ref_ptr.0 c₅.ref_ptr.1 (within long.generation_has) $
         -- serial[i]
         assigns ! (bin ! (load ! (from ! (stop !)) (look ! 7 refl)) (lit ! tt) (record { fits = fits8 })) (from ! (stop !))
         (init ! 24 refl (tt, record { fits = fits8 })) $
@@ -301,10 +301,10 @@ module _ {M : Type 1} {𝓤 : Ura M} (𝓛 : Logic 𝓤) (mem : Memory → SProp
         (from ! (stop !)) (init ! 25 refl (tt, tt)) $
         rewrite ! 25 (λ (p : ℕ). ‵ (fat full_share ty_ptr l₂₈ 0 (vptr c₆.ptr.0 p))) (sym (place_is 8 c₆.ptr.1 i)) refl $
         move ! (6 ∷ []) $ elem_out ! u64 (Is u64) (shows 𝓛 u64) (uint_vals w64) (uint_Tells w64) s₆ c₆.now i 0 c₆.ref_ptr.0 c₆.ref_ptr.1
-        (within long.serial-has) (λ h₆.
+        (within long.serial_has) (λ h₆.
         assigns ! (of_opd ! (load ! (from ! (hop ! (look ! 27 refl) (stop !))) (look ! 0 refl))) (from ! (stop !))
         (init ! 28 refl (tt, record { fits = h₆.1 })) $
-        elem_back ! u64 s₆ c₆.now i 0 (vint w64 (get_or c₆.now i 0) ∷ []) c₆.ref_ptr.0 c₆.ref_ptr.1 (within long.serial-has) $
+        elem_back ! u64 s₆ c₆.now i 0 (vint w64 (get_or c₆.now i 0) ∷ []) c₆.ref_ptr.0 c₆.ref_ptr.1 (within long.serial_has) $
         -- nodes[i] is made of them
         assigns ! (agg ! (and_then ! (load ! (from ! (stop !)) (look ! 11 refl))
         (and_then ! (load ! (from ! (stop !)) (look ! 14 refl))
@@ -318,12 +318,12 @@ module _ {M : Type 1} {𝓤 : Ura M} (𝓛 : Logic 𝓤) (mem : Memory → SProp
         (from ! (stop !)) (init ! 29 refl (tt, tt)) $
         rewrite ! 29 (λ (p : ℕ). ‵ (fat full_share ty_ptr l₃₂ 0 (vptr r.ptr.0 p))) (sym (place_is 48 r.ptr.1 i)) refl $
         move ! (6 ∷ []) $ elem_out ! T.the_row (Is T.the_row) (shows 𝓛 T.the_row) vals (LL.tells T.the_type T'.the_laws) full_share (zs i) i blank
-        r.ptr.0 r.ptr.1 within-nodes (λ _.
+        r.ptr.0 r.ptr.1 within_nodes (λ _.
         assigns ! (of_opd ! (load ! (from ! (stop !)) (look ! 29 refl))) (from ! (hop ! (look ! 31 refl) (stop !)))
         (store_raw ! 0 refl (typed (is h₁ h₂ h₃ h₄ h₅ h₆))) $
-        move ! (1 ∷ []) $ drop ! $ owned ! T.the_row (Is T.the_row) (LL.makes T.the_type T'.the_plain 𝓛) (nodeAt from-columns i) _ (is h₁ h₂ h₃ h₄ h₅ h₆) $
+        move ! (1 ∷ []) $ drop ! $ owned ! T.the_row (Is T.the_row) (LL.makes T.the_type T'.the_plain 𝓛) (node_at from_columns i) _ (is h₁ h₂ h₃ h₄ h₅ h₆) $
         move ! (1 ∷ 0 ∷ []) $
-        elem_put ! T.the_row full_share (zs i) i (nodeAt from-columns i) (vals (nodeAt from-columns i)) r.ptr.0 r.ptr.1 within-nodes $
+        elem_put ! T.the_row full_share (zs i) i (node_at from_columns i) (vals (node_at from_columns i)) r.ptr.0 r.ptr.1 within_nodes $
         -- i += 1
         assigns_last ! (bin ! (load ! (from ! (stop !)) (look ! 7 refl)) (lit ! tt) (record { fits = fits1 })) (from ! (stop !))
         (store ! 7 refl (tt, record { fits = fits1 })) $
@@ -348,27 +348,27 @@ module _ {M : Type 1} {𝓤 : Ura M} (𝓛 : Logic 𝓤) (mem : Memory → SProp
         fits1 = omega (arith, below, gr.1)
 
         within : {k : ℕ} → 4096 ≤ k → i < k
-        within has = omega (arith, l, used-fits n, has)
+        within has = omega (arith, l, used_fits_lem n, has)
 
-        within-nodes : i < length (zs i)
-        within-nodes = subst (λ (k : ℕ). i < k) (sym (len i)) below
+        within_nodes : i < length (zs i)
+        within_nodes = subst (λ (k : ℕ). i < k) (sym (len i)) below
 
         is : Is usize (get_or c₁.now i 0) (uint_vals w64 (get_or c₁.now i 0)) → Is usize (get_or c₂.now i 0) (uint_vals w64 (get_or c₂.now i 0)) → Is usize
             (get_or c₃.now i 0) (uint_vals w64 (get_or c₃.now i 0)) → Is usize (get_or c₄.now i 0) (uint_vals w64 (get_or c₄.now i 0)) → Is u32
             (get_or c₅.now i 0) (uint_vals w32 (get_or c₅.now i 0)) → Is u64 (get_or c₆.now i 0) (uint_vals w64 (get_or c₆.now i 0)) → Is T.the_row
-            (nodeAt from-columns i) (vals (nodeAt from-columns i))
-        is h₁ h₂ h₃ h₄ h₅ h₆ = LL.owes T.the_type T'.the_laws (nodeAt from-columns i) (h₁, (h₂, (h₃, (h₄, (h₅, (h₆, tt))))))
+            (node_at from_columns i) (vals (node_at from_columns i))
+        is h₁ h₂ h₃ h₄ h₅ h₆ = LL.owes T.the_type T'.the_laws (node_at from_columns i) (h₁, (h₂, (h₃, (h₄, (h₅, (h₆, tt))))))
 
-        typed : Is T.the_row (nodeAt from-columns i) (vals (nodeAt from-columns i)) → Yes (has_ty node (LL.val T.the_type T'.the_laws (nodeAt from-columns i)))
-            × WT (LL.val T.the_type T'.the_laws (nodeAt from-columns i))
-        typed g = ((LL.lawful T.the_type T'.the_laws 𝓛).typed (nodeAt from-columns i) _ g).0
+        typed : Is T.the_row (node_at from_columns i) (vals (node_at from_columns i)) → Yes (has_ty node (LL.val T.the_type T'.the_laws (node_at from_columns i)))
+            × WT (LL.val T.the_type T'.the_laws (node_at from_columns i))
+        typed g = ((LL.lawful T.the_type T'.the_laws 𝓛).typed (node_at from_columns i) _ g).0
 
     last : (X : SProp 𝓤) → ent 𝓤 (⋆ 𝓛 (At m)) (Wp 𝓤 H C Λ E mir.turn-1 (after_turn 𝓤 H X Left))
     unfolding after_turn
     last X =
         qed 𝓛 (At m) ∵ exec ! C Λ E mir.turn-1 (any_q (after_turn 𝓤 H X Left)) $
         assigns ! (bin ! (load ! (from ! (stop !)) (look ! 7 refl)) (load ! (from ! (stop !)) (look ! 37 refl)) tt) (from ! (stop !)) (init ! 8 refl (tt, tt)) $
-        rewrite ! 8 (λ (t : Bool). ‵ (fat full_share ty_bool l₁₁ 0 (vbool t))) (not-less m) refl $ leaves_loop ! (load ! (from ! (stop !)) (look ! 8 refl)) $
+        rewrite ! 8 (λ (t : Bool). ‵ (fat full_share ty_bool l₁₁ 0 (vbool t))) (not_less m) refl $ leaves_loop ! (load ! (from ! (stop !)) (look ! 8 refl)) $
         exec ! C Λ E mir.t-5 (at_ret E Post) $
         assigns ! (of_opd ! (unit_lit !)) (from ! (stop !)) (init ! 38 refl (tt, tt)) $
         -- the borrows are shut: of the nodes at what is stored, and of each column at the share that was looked at
@@ -418,11 +418,11 @@ module _ {M : Type 1} {𝓤 : Ura M} (𝓛 : Logic 𝓤) (mem : Memory → SProp
         -- `used`
         assigns ! (of_opd ! (load ! (from ! (fld ! refl (stop !))) (look_in ! 62 (sub ! 1 refl (whole !))))) (from ! (stop !))
         (init ! 44 refl (tt, record { fits = gr.0 })) $
-        use0 𝓛 (raw ((Used 𝓛 mem run).pre (to-used 𝓛 mem run n))) (goes-used 𝓛 mem run n gr.0) $ calls_at ! (fm_of 𝓤 H 𝓛.laws 𝓣)
-        (Used 𝓛 mem run) known-used (to-used 𝓛 mem run n) (and_then ! (load ! (from ! (stop !)) (look ! 45 refl)) (no_more !)) (λ w.
+        use0 𝓛 (raw ((Used 𝓛 mem run).pre (to_used 𝓛 mem run n))) (goes_used 𝓛 mem run n gr.0) $ calls_at ! (fm_of 𝓤 H 𝓛.laws 𝓣)
+        (Used 𝓛 mem run) known-used (to_used 𝓛 mem run n) (and_then ! (load ! (from ! (stop !)) (look ! 45 refl)) (no_more !)) (λ w.
         use1 𝓛 (later (some (λ (a : ℕ). (‵ ftrue ⊛ ‵ (usize.own_val a (w ∷ []))) ⊛ raw (ensured 𝓛 used.ended (used.clauses 𝓛 mem run) tt (n, tt) tt a))))
         (id⊢ 𝓤 _) $ await ! tt $ pick ! (λ a.
-        split ! $ move ! (1 ∷ []) $ use1 𝓛 (raw (fact 𝓤 (a ≡ m))) (used-of 𝓛 mem run n a) $ heard ! (a ≡ m) (λ e. split ! $ drop ! $
+        split ! $ move ! (1 ∷ []) $ use1 𝓛 (raw (fact 𝓤 (a ≡ m))) (used_of_lem 𝓛 mem run n a) $ heard ! (a ≡ m) (λ e. split ! $ drop ! $
         rewrite ! 0 (λ (d : ℕ). ‵ (usize.own_val d (w ∷ []))) e refl $ peeks ! usize (Is usize) (shows 𝓛 usize) m (w ∷ []) (λ is. drop ! $
         land ! (from ! (stop !)) (init ! 48 refl ((uint_Lawful 𝓛 w64).typed m _ is).0) $ rewrite ! 48 (λ (u : Val). ‵ (fat full_share word l₈ 0 u))
         (ap only is.0) refl $
@@ -462,9 +462,9 @@ module _ {M : Type 1} {𝓤 : Ura M} (𝓛 : Logic 𝓤) (mem : Memory → SProp
 module _ {M : Type 1} {𝓤 : Ura M} (𝓛 : Logic 𝓤) (mem : Memory → SProp 𝓤) (run : Routine → Fun 𝓤) where
   open 𝓛 use {H}
 
-  store-walks : (𝓣 : Tables 𝓤 H) → Triple 𝓤 (𝓣.C #nodes·used) (Used 𝓛 mem run) → Walks 𝓛 store'.ended stayed (WpFn 𝓤 H 𝓣.C 𝓣.Λ code.function)
+  store_walks : (𝓣 : Tables 𝓤 H) → Triple 𝓤 (𝓣.C #nodes·used) (Used 𝓛 mem run) → Walks 𝓛 store'.ended stayed (WpFn 𝓤 H 𝓣.C 𝓣.Λ code.function)
       (store'.clauses 𝓛 mem run)
-  store-walks 𝓣 known-used = walked 𝓛 store'.ended stayed (store'.clauses 𝓛 mem run) (WpFn 𝓤 H 𝓣.C 𝓣.Λ code.function)
+  store_walks 𝓣 known-used = walked 𝓛 store'.ended stayed (store'.clauses 𝓛 mem run) (WpFn 𝓤 H 𝓣.C 𝓣.Λ code.function)
       (λ κs. (shr_slice_vals, (shr_slice_vals, (shr_slice_vals, (shr_slice_vals, (shr_slice_vals, (shr_slice_vals, (shr_slice_vals, tt))))))))
       (λ κs. (
         mut_slice_Tells (named 0) κs.0 T.the_row,
@@ -489,10 +489,10 @@ module _ {M : Type 1} {𝓤 : Ura M} (𝓛 : Logic 𝓤) (mem : Memory → SProp
       a.1.1.1.0 a.1.1.1.1.0 a.1.1.1.1.1.0 a.1.1.1.1.1.1.0 are.0.0.1 are.1.0.0.1 are.1.1.0.0.1
       are.1.1.1.0.0.1 are.1.1.1.1.0.0.1 are.1.1.1.1.1.0.0.1 are.1.1.1.1.1.1.0.0.1 long 𝓣 known-used))
 
-store-meets : {M : Type 1} {𝓤 : Ura M} (𝓛 : Logic 𝓤) → (mem : Memory → SProp 𝓤) (run : Routine → Fun 𝓤) (𝓣 : Tables 𝓤 𝓛.H) → Triple 𝓤
+store_meets : {M : Type 1} {𝓤 : Ura M} (𝓛 : Logic 𝓤) → (mem : Memory → SProp 𝓤) (run : Routine → Fun 𝓤) (𝓣 : Tables 𝓤 𝓛.H) → Triple 𝓤
     (𝓣.C #nodes·used) (Used 𝓛 mem run)
     → Meets 𝓛 store'.signature (WpFn 𝓤 𝓛.H 𝓣.C 𝓣.Λ code.function) (store'.spec 𝓛 mem run)
-store-meets {𝓤 = 𝓤} 𝓛 mem run 𝓣 known-used =
+store_meets {𝓤 = 𝓤} 𝓛 mem run 𝓣 known-used =
     walk_Meets 𝓛 store'.ended stayed (
       Goes-slice 𝓛 7 0 tt (plain (λ _. T.the_row)),
       (
@@ -509,12 +509,12 @@ store-meets {𝓤 = 𝓤} 𝓛 mem run 𝓣 known-used =
         ),
       ),
     )
-    (store'.clauses 𝓛 mem run) (WpFn 𝓤 𝓛.H 𝓣.C 𝓣.Λ code.function) (WpFn-mono 𝓤 𝓛.H 𝓛.laws 𝓣 code.function) (store-walks 𝓛 mem run 𝓣 known-used)
+    (store'.clauses 𝓛 mem run) (WpFn 𝓤 𝓛.H 𝓣.C 𝓣.Λ code.function) (WpFn-mono 𝓤 𝓛.H 𝓛.laws 𝓣 code.function) (store_walks 𝓛 mem run 𝓣 known-used)
 
 pub store_spec : {M : Type 1} → stated.statement M
 unfolding code.routine tables_of
 store_spec 𝓤 𝓛 𝓜 𝓡 =
     entered 𝓤 𝓛.H (triple_of 𝓛 store'.signature (store'.spec 𝓛 𝓜.mem 𝓡.run))
     (tables 𝓤 𝓛.H 𝓜 𝓡 code.env).C (tables 𝓤 𝓛.H 𝓜 𝓡 code.env).Λ #nodes·store code.function (code.unfolded 𝓤 𝓛.H 𝓜 𝓡)
-    (store-meets 𝓛 𝓜.mem 𝓡.run (tables_of 𝓤 𝓛.H 𝓜 (tables 𝓤 𝓛.H 𝓜 𝓡 code.env))
+    (store_meets 𝓛 𝓜.mem 𝓡.run (tables_of 𝓤 𝓛.H 𝓜 (tables 𝓤 𝓛.H 𝓜 𝓡 code.env))
     (cited 𝓤 𝓛.H (Used 𝓛 𝓜.mem 𝓡.run) 𝓜 𝓡 code.env #nodes·used used-def.routine code.calls-nodes::used (used-thm.met 𝓤 𝓛 𝓜 𝓡)))

@@ -1,8 +1,8 @@
 -- `numbers::power_for` meets its contract. The loop's invariant: the power is 2 ^ exponent, and its half is below n.
 -- The measure is what is left of the exponent.
 use Rattle.std.proofs.Common.{◌≡◌, ℕ, ◌+◌, ◌-◌, ◌*◌, ◌^◌, ◌<◌, ◌≤◌, ◌⊎◌, sym, refl, ap, ◌∙◌, inl, inr, pow-suc, add-one, arith, pow_mono, rules}
-use Rattle.numbers.specs.Shared.{powerFor}
-use Rattle.numbers.proofs.Powers.{power-for-is, power-for-top}
+use Rattle.numbers.specs.Shared.{power_for}
+use Rattle.numbers.proofs.Powers.{power_for_is, power_for_top}
 use Rattle.numbers.proofs.power_for.Statement.{statement}
 use Rattle.numbers.proofs.power_for.Tie as tie
 
@@ -15,9 +15,9 @@ decreases-loop n power₀ exponent₀ power exponent = 16 - exponent
 doubled : (e : ℕ) → 2 ^ (e + 1) ≡ 2 ^ e * 2
 doubled e = ap (λ (i : ℕ). 2 ^ i) (add-one e) ∙ pow-suc 2 e
 
-top : (n e : ℕ) → (e ≡ 0) ⊎ (2 ^ e < n + n) → e ≡ 16 → powerFor 16 n ≡ 2 ^ 16
+top : (n e : ℕ) → (e ≡ 0) ⊎ (2 ^ e < n + n) → e ≡ 16 → power_for 16 n ≡ 2 ^ 16
 top n e (inl z) q = absurd (omega arith)
-top n e (inr l) q = power-for-top 15 n (omega (arith, ap (λ (i : ℕ). 2 ^ i) q))
+top n e (inr l) q = power_for_top 15 n (omega (arith, ap (λ (i : ℕ). 2 ^ i) q))
 
 loop-holds : tie.Need-loop-init invariant-loop decreases-loop
 loop-holds c = (search rules, refl, inl refl)
@@ -25,13 +25,13 @@ loop-holds c = (search rules, refl, inl refl)
 returns : tie.Need-returns invariant-loop decreases-loop
 returns c =
     let l = c.before.before.loop in
-    l.invariant.1 ∙ sym (power-for-is 16 l.exponent _ l.invariant.0 (omega (arith, l.invariant.1, c.if1.true)) l.invariant.2)
+    l.invariant.1 ∙ sym (power_for_is 16 l.exponent _ l.invariant.0 (omega (arith, l.invariant.1, c.if1.true)) l.invariant.2)
 
 mul_power : tie.Need-overflow-mul-power invariant-loop decreases-loop
 mul_power c = let l = c.before.before.loop in omega (arith, l.invariant.1, pow_mono l.invariant.0)
 
-add-exponent : tie.Need-overflow-add-exponent invariant-loop decreases-loop
-add-exponent c = search rules
+add_exponent : tie.Need-overflow-add-exponent invariant-loop decreases-loop
+add_exponent c = search rules
 
 loop-less : tie.Need-loop-smaller invariant-loop decreases-loop
 loop-less c = search rules
@@ -50,5 +50,5 @@ returns-2 c =
     let e : l.exponent ≡ 16 = omega arith in
     l.invariant.1 ∙ ap (λ (i : ℕ). 2 ^ i) e ∙ sym (top _ _ l.invariant.2 e)
 
-pub power-for-spec : {M : Type 1} → statement M
-power-for-spec = tie.close (tie.spec invariant-loop decreases-loop loop-holds returns mul_power add-exponent loop-less loop-again returns-2)
+pub power_for_spec : {M : Type 1} → statement M
+power_for_spec = tie.close (tie.spec invariant-loop decreases-loop loop-holds returns mul_power add_exponent loop-less loop-again returns-2)

@@ -4,8 +4,8 @@ use borrow.Author.Rules.{rules}
 use Rattle.wheel_refusals.proofs.closed_refusal.Statement.{statement}
 use Rattle.wheel_refusals.proofs.closed_refusal.Tie as tie
 
-standing-refusal-requires : tie.Need-standing-refusal-requires
-standing-refusal-requires c κs = search rules
+standing_refusal_requires : tie.Need-standing-refusal-requires
+standing_refusal_requires c κs = search rules
 
 returns : tie.Need-returns
 returns c = search closed-exits
@@ -16,5 +16,5 @@ returns-2 c = search closed-exits
 returns-3 : tie.Need-returns-3
 returns-3 c = search closed-exits
 
-pub closed-refusal-spec : {M : Type 1} → statement M
-closed-refusal-spec = tie.close (tie.spec standing-refusal-requires returns returns-2 returns-3)
+pub closed_refusal_spec : {M : Type 1} → statement M
+closed_refusal_spec = tie.close (tie.spec standing_refusal_requires returns returns-2 returns-3)

@@ -4,8 +4,8 @@ use borrow.Author.Rules.{rules}
 use Rattle.wheel_refusals.proofs.entry_refusal.Statement.{statement}
 use Rattle.wheel_refusals.proofs.entry_refusal.Tie as tie
 
-closed-refusal-requires : tie.Need-closed-refusal-requires
-closed-refusal-requires c κs = search rules
+closed_refusal_requires : tie.Need-closed-refusal-requires
+closed_refusal_requires c κs = search rules
 
 returns : tie.Need-returns
 returns c = search set_exits
@@ -16,5 +16,5 @@ returns-2 c = search set_exits
 returns-3 : tie.Need-returns-3
 returns-3 c = search set_exits
 
-pub entry-refusal-spec : {M : Type 1} → statement M
-entry-refusal-spec = tie.close (tie.spec closed-refusal-requires returns returns-2 returns-3)
+pub entry_refusal_spec : {M : Type 1} → statement M
+entry_refusal_spec = tie.close (tie.spec closed_refusal_requires returns returns-2 returns-3)

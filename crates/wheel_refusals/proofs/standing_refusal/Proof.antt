@@ -7,8 +7,8 @@ use Rattle.wheel_refusals.proofs.standing_refusal.Tie as tie
 returns : tie.Need-returns
 returns c = search count-exits
 
-is-sound-requires : tie.Need-is-sound-requires
-is-sound-requires c κs = search rules
+is_sound_requires : tie.Need-is-sound-requires
+is_sound_requires c κs = search rules
 
 returns-2 : tie.Need-returns-2
 returns-2 c = search count-exits
@@ -16,5 +16,5 @@ returns-2 c = search count-exits
 returns-3 : tie.Need-returns-3
 returns-3 c = search count-exits
 
-pub standing-refusal-spec : {M : Type 1} → statement M
-standing-refusal-spec = tie.close (tie.spec returns is-sound-requires returns-2 returns-3)
+pub standing_refusal_spec : {M : Type 1} → statement M
+standing_refusal_spec = tie.close (tie.spec returns is_sound_requires returns-2 returns-3)

@@ -11,23 +11,23 @@ use borrow.Author.Rules.{scaled_Fits}
 use mir.Syntax.{w64}
 use mir.Val.{Fits}
 use Rattle.deque_rules.specs.Links.{Links, links, home_of}
-use Rattle.numbers.specs.Shared.{no_slot, unless, notRefused as answered}
-use Rattle.deque_rules.proofs.Laws.{first-in}
+use Rattle.numbers.specs.Shared.{no_slot, unless, not_refused as answered}
+use Rattle.deque_rules.proofs.Laws.{first_in}
 use Rattle.rules.specs.Places.{wheel01, buckets}
 use Rattle.rules.specs.Wheel.{Slot as Node, Entry, Wheel}
 use Rattle.wheel_rules.specs.declared.calls.Clock.{Clock}
-use Rattle.wheel_rules.specs.Lent.{Nodes, Entries, Records, records, nodes, entries, Shows, Armed, SoundRecords, wheelOf as shown, lent}
+use Rattle.wheel_rules.specs.Lent.{Nodes, Entries, Records, records, nodes, entries, Shows, Armed, SoundRecords, wheel_of as shown, lent}
 use Rattle.wheel_rules.specs.records.Records.{join}
 use Rattle.wheel_rules.specs.timers.Timers.{Ready, ArmReady, SlotReady, MoveReady}
 use Rattle.wheel_rules.specs.records.Counts.{DueReady}
 use Rattle.wheel_rules.specs.records.Settings.{EntryReady}
 use Rattle.wheel_rules.specs.layout.Layout.{LayReady}
 use Rattle.wheel_rules.specs.popping.Pop.{TurnReady}
-use Rattle.wheel_rules.proofs.sound.Showing.{sound-shows, shown-sound}
-use Rattle.wheel_rules.specs.refusals.Refuse.{roomy, Live, Lendable, RefusesEnable, RefusesCount, RefusesClosed, RefusesOpen, scheduleRows}
+use Rattle.wheel_rules.proofs.sound.Showing.{sound_shows, shown_sound}
+use Rattle.wheel_rules.specs.refusals.Refuse.{roomy, Live, Lendable, RefusesEnable, RefusesCount, RefusesClosed, RefusesOpen, schedule_rows}
 use Rattle.wheel_rules.specs.refusals.Refuse.{RefusesSet, RefusesSchedule, RefusesHandle}
-use Rattle.wheel_rules.proofs.refusals.Rows.{past, standing-past, closed-past}
-use Rattle.wheel_rules.proofs.refusals.Refusing.{stamp-at, dated-at, deadline-at}
+use Rattle.wheel_rules.proofs.refusals.Rows.{past, standing_past, closed_past}
+use Rattle.wheel_rules.proofs.refusals.Refusing.{stamp_at, dated_at, deadline_at_lem}
 
 -- an index below 4,096, in bytes
 small : (x : ℕ) → x < 4096 → Fits w64 (x * 8)
@@ -35,7 +35,7 @@ small x h = scaled_Fits x 4096 8 h (omega arith)
 
 pub ready : (N : Nodes) (E : Entries) (c : Clock) → c.enabled ≡ true → SoundRecords wheel01 (records N E c) → Ready wheel01 (records N E c)
 ready N E c e s =
-    record { w = shown wheel01 (records N E c); shows = sound-shows wheel01 (records N E c) s e; sound = shown-sound wheel01 (records N E c) s }
+    record { w = shown wheel01 (records N E c); shows = sound_shows wheel01 (records N E c) s e; sound = shown_sound wheel01 (records N E c) s }
 
 -- ---- enable
 pub lendable : (R : Records) (k : ℕ) → RefusesEnable R k → k ≡ 0 → Lendable R
@@ -43,28 +43,28 @@ lendable R k f z =
     let u = past 2 k f.by (λ i. omega (arith, z, i)) in
     (past 3 k u.1 (λ i. omega (arith, z, i))).0
 
-pub lay-ready : (N : Nodes) (E : Entries) (c : Clock) (k : ℕ) → RefusesEnable (records N E c) k → k ≡ 0 → LayReady wheel01 N E
-lay-ready N E c k f z =
+pub lay_ready : (N : Nodes) (E : Entries) (c : Clock) (k : ℕ) → RefusesEnable (records N E c) k → k ≡ 0 → LayReady wheel01 N E
+lay_ready N E c k f z =
     let y = lendable (records N E c) k f z in
     record {
       seat =
           record {
             sizes =
                 record {
-                  tails-len = y.around.ends.tails-len ∙ sym y.around.ends.heads-len;
-                  prev-len = y.nodes.prev-len;
-                  home-len = y.nodes.bucket-len;
-                  few = omega (arith, y.around.ends.heads-len);
-                  small = y.around.ranges.nodes-most;
+                  tails_len = y.around.ends.tails_len ∙ sym y.around.ends.heads_len;
+                  prev_len = y.nodes.prev_len;
+                  home_len = y.nodes.bucket_len;
+                  few = omega (arith, y.around.ends.heads_len);
+                  small = y.around.ranges.nodes_most;
                 };
-            room = omega (arith, y.around.ends.heads-len, y.around.ranges.room);
+            room = omega (arith, y.around.ends.heads_len, y.around.ranges.room);
           };
-      heads-len = y.around.ends.heads-len;
-      entry-len = y.nodes.entry-len;
-      generation-len = y.nodes.generation-len;
-      serial-len = y.nodes.serial-len;
-      deadline-len = y.around.entries.deadline-len;
-      entries-generation-len = y.around.entries.generation-len;
+      heads_len = y.around.ends.heads_len;
+      entry_len = y.nodes.entry_len;
+      generation_len = y.nodes.generation_len;
+      serial_len = y.nodes.serial_len;
+      deadline_len = y.around.entries.deadline_len;
+      entries_generation_len = y.around.entries.generation_len;
     }
 
 -- ---- schedule
@@ -76,11 +76,11 @@ pub record Schedulable (N : Nodes) (E : Entries) (c : Clock) (e : ℕ) : Type 0 
   pub free : c.free ≡ no_slot → ⊥
   pub more : c.serial ≡ 2 ^ 64 - 1 → ⊥
 
-pub schedulable-by : (R : Records) (e h k : ℕ) → scheduleRows R e h k → k ≡ 0 → Schedulable R.nodes R.entries R.clock e
-schedulable-by R e h k f z =
+pub schedulable_by : (R : Records) (e h k : ℕ) → schedule_rows R e h k → k ≡ 0 → Schedulable R.nodes R.entries R.clock e
+schedulable_by R e h k f z =
     let c : Clock = R.clock in
     let E : Entries = R.entries in
-    let u = closed-past R (unless (e < c.entries) 7 (unless (get_or E.generation e 0 ≡ h) 8 (unless (get_or E.dated e false ≡ true) 9 (roomy R answered))))
+    let u = closed_past R (unless (e < c.entries) 7 (unless (get_or E.generation e 0 ≡ h) 8 (unless (get_or E.dated e false ≡ true) 9 (roomy R answered))))
     k f z in
     let v = past 7 k u.3 (λ i. omega (arith, z, i)) in
     let a = past 8 k v.1 (λ i. omega (arith, z, i)) in
@@ -90,40 +90,40 @@ schedulable-by R e h k f z =
     record { enabled = u.0; sound = u.1; entry = v.0; dated = b.0; free = r.0; more = q.0 }
 
 pub schedulable : (N : Nodes) (E : Entries) (c : Clock) (e h k : ℕ) → RefusesSchedule (records N E c) e h k → k ≡ 0 → Schedulable N E c e
-schedulable N E c e h k f z = schedulable-by (records N E c) e h k f.by z
+schedulable N E c e h k f z = schedulable_by (records N E c) e h k f.by z
 
-pub arm-ready : (N : Nodes) (E : Entries) (c : Clock) (e h k : ℕ) → RefusesSchedule (records N E c) e h k → k ≡ 0 → ArmReady wheel01 N c
-arm-ready N E c e h k f z =
+pub arm_ready : (N : Nodes) (E : Entries) (c : Clock) (e h k : ℕ) → RefusesSchedule (records N E c) e h k → k ≡ 0 → ArmReady wheel01 N c
+arm_ready N E c e h k f z =
     let s = schedulable N E c e h k f z in
     let y : Ready wheel01 (records N E c) = ready N E c s.enabled s.sound in
     let t = y.shows in
     record {
       E = E;
       ready = y;
-      slot = omega (arith, t.rep.next-len, (t.rep.spare c.free (first-in t.lists.free c.free t.free-is s.free)).0);
+      slot = omega (arith, t.rep.next_len, (t.rep.spare c.free (first_in t.lists.free c.free t.free_is s.free)).0);
       few = f.few z;
     }
 
 -- the deadline of its entry is in the slice
 module _ (h t n p b ee g s : List ℕ) (d : List Bool) (l m : List ℕ) (c : Clock) (e i k : ℕ) (f : RefusesSchedule (lent h t n p b ee g s d l m c) e i k)
     (z : k ≡ 0) where
-  pub due-index : e < length l
-  due-index =
+  pub due_index : e < length l
+  due_index =
       let s' = schedulable (nodes h t n p b ee g s) (entries d l m) c e i k f z in
-      omega (arith, s'.entry, s'.sound.lengths.entries.deadline-len)
+      omega (arith, s'.entry, s'.sound.lengths.entries.deadline_len)
 
-  pub due-bytes : Fits w64 (e * 8)
-  due-bytes =
+  pub due_bytes : Fits w64 (e * 8)
+  due_bytes =
       let s' = schedulable (nodes h t n p b ee g s) (entries d l m) c e i k f z in
-      small e (omega (arith, s'.entry, s'.sound.lengths.ranges.entries-most))
+      small e (omega (arith, s'.entry, s'.sound.lengths.ranges.entries_most))
 
 -- ---- set entry
 pub entry_ready : (N : Nodes) (E : Entries) (c : Clock) (e k : ℕ) → RefusesSet (records N E c) e k → k ≡ 0 → EntryReady E e
 entry_ready N E c e k f z =
     record {
-      dated = dated-at (records N E c) e k f z;
-      deadline = deadline-at (records N E c) e k f z;
-      generation = stamp-at (records N E c) e k f z;
+      dated = dated_at (records N E c) e k f z;
+      deadline = deadline_at_lem (records N E c) e k f z;
+      generation = stamp_at (records N E c) e k f z;
     }
 
 -- ---- reschedule, deschedule
@@ -132,10 +132,10 @@ pub record Handled (N : Nodes) (E : Entries) (c : Clock) (x n : ℕ) : Type 0 wh
   pub sound : SoundRecords wheel01 (records N E c)
   pub live : Live (records N E c) x n
 
-pub handled-by : (N : Nodes) (E : Entries) (c : Clock) (x n h k : ℕ) → RefusesHandle (records N E c) x n h k → k ≡ 0 → Handled N E c x n
-handled-by N E c x n h k f z =
+pub handled_by : (N : Nodes) (E : Entries) (c : Clock) (x n h k : ℕ) → RefusesHandle (records N E c) x n h k → k ≡ 0 → Handled N E c x n
+handled_by N E c x n h k f z =
     let R : Records = records N E c in
-    let u = closed-past R (unless (Live R x n) 12 (unless (get_or N.generation x 0 ≡ h) 13 answered)) k f.by z in
+    let u = closed_past R (unless (Live R x n) 12 (unless (get_or N.generation x 0 ≡ h) 13 answered)) k f.by z in
     let v = past 12 k u.3 (λ i. omega (arith, z, i)) in
     record { enabled = u.0; sound = u.1; live = v.0 }
 
@@ -144,108 +144,108 @@ slot_of N E c x n k =
     record {
       E = E;
       ready = ready N E c k.enabled k.sound;
-      after = omega (arith, k.live.after, k.sound.lengths.ends.heads-len);
-      slot = omega (arith, k.live.slot, k.sound.lengths.nodes.next-len);
-      armed = omega (arith, k.live.armed, k.sound.lengths.ends.heads-len);
+      after = omega (arith, k.live.after, k.sound.lengths.ends.heads_len);
+      slot = omega (arith, k.live.slot, k.sound.lengths.nodes.next_len);
+      armed = omega (arith, k.live.armed, k.sound.lengths.ends.heads_len);
     }
 
-pub slot-ready : (N : Nodes) (E : Entries) (c : Clock) (x n h k : ℕ) → RefusesHandle (records N E c) x n h k → k ≡ 0 → SlotReady wheel01 N c x
-slot-ready N E c x n h k f z = slot_of N E c x n (handled-by N E c x n h k f z)
+pub slot_ready : (N : Nodes) (E : Entries) (c : Clock) (x n h k : ℕ) → RefusesHandle (records N E c) x n h k → k ≡ 0 → SlotReady wheel01 N c x
+slot_ready N E c x n h k f z = slot_of N E c x n (handled_by N E c x n h k f z)
 
-pub move-ready : (a : Links) (pe pg ps : List ℕ) (E : Entries) (c : Clock) (x n h k : ℕ) → RefusesHandle (records (join a pe pg ps) E c) x n h k → k ≡ 0
+pub move_ready : (a : Links) (pe pg ps : List ℕ) (E : Entries) (c : Clock) (x n h k : ℕ) → RefusesHandle (records (join a pe pg ps) E c) x n h k → k ≡ 0
     → MoveReady wheel01 a c.reading x
-move-ready a pe pg ps E c x n h k f z =
-    record { e = pe; h = pg; n = ps; c = c; at = refl; ready = slot-ready (join a pe pg ps) E c x n h k f z }
+move_ready a pe pg ps E c x n h k f z =
+    record { e = pe; h = pg; n = ps; c = c; at = refl; ready = slot_ready (join a pe pg ps) E c x n h k f z }
 
 -- its entry exists
-armed-of : (N : Nodes) (E : Entries) (c : Clock) (x n : ℕ) → Handled N E c x n → Armed (buckets wheel01) N.links.home x
-armed-of N E c x n k =
+armed_of : (N : Nodes) (E : Entries) (c : Clock) (x n : ℕ) → Handled N E c x n → Armed (buckets wheel01) N.links.home x
+armed_of N E c x n k =
     record {
       after = k.live.after;
-      lent = omega (arith, k.live.slot, k.sound.lengths.nodes.bucket-len);
+      lent = omega (arith, k.live.slot, k.sound.lengths.nodes.bucket_len);
       names = k.live.armed;
     }
 
-pub entry-exists : (N : Nodes) (E : Entries) (c : Clock) (x n : ℕ) → Handled N E c x n → get_or N.entry x 0 < c.entries
-entry-exists N E c x n k = k.sound.exist.each x (armed-of N E c x n k)
+pub entry_exists : (N : Nodes) (E : Entries) (c : Clock) (x n : ℕ) → Handled N E c x n → get_or N.entry x 0 < c.entries
+entry_exists N E c x n k = k.sound.exist.each x (armed_of N E c x n k)
 
 module _ (h t n p b ee g s : List ℕ) (d : List Bool) (l m : List ℕ) (c : Clock) (x j i k : ℕ) (f : RefusesHandle (lent h t n p b ee g s d l m c) x j i k)
     (z : k ≡ 0) where
   handled : Handled (nodes h t n p b ee g s) (entries d l m) c x j
-  handled = handled-by (nodes h t n p b ee g s) (entries d l m) c x j i k f z
+  handled = handled_by (nodes h t n p b ee g s) (entries d l m) c x j i k f z
 
   exists : get_or ee x 0 < c.entries
-  exists = entry-exists (nodes h t n p b ee g s) (entries d l m) c x j handled
+  exists = entry_exists (nodes h t n p b ee g s) (entries d l m) c x j handled
 
-  pub entry-index : x < length ee
-  entry-index = omega (arith, handled.live.slot, handled.sound.lengths.nodes.entry-len)
+  pub entry_index : x < length ee
+  entry_index = omega (arith, handled.live.slot, handled.sound.lengths.nodes.entry_len)
 
-  pub entry-bytes : Fits w64 (x * 8)
-  entry-bytes = small x (omega (arith, handled.live.slot, handled.sound.lengths.ranges.nodes-most))
+  pub entry_bytes : Fits w64 (x * 8)
+  entry_bytes = small x (omega (arith, handled.live.slot, handled.sound.lengths.ranges.nodes_most))
 
-  pub held-dated : get_or ee x 0 < length d
-  held-dated = omega (arith, exists, handled.sound.lengths.entries.dated-len)
+  pub held_dated : get_or ee x 0 < length d
+  held_dated = omega (arith, exists, handled.sound.lengths.entries.dated_len)
 
-  pub held-deadline : get_or ee x 0 < length l
-  held-deadline = omega (arith, exists, handled.sound.lengths.entries.deadline-len)
+  pub held_deadline : get_or ee x 0 < length l
+  held_deadline = omega (arith, exists, handled.sound.lengths.entries.deadline_len)
 
   pub held_bytes : Fits w64 (get_or ee x 0 * 8)
-  held_bytes = small (get_or ee x 0) (omega (arith, exists, handled.sound.lengths.ranges.entries-most))
+  held_bytes = small (get_or ee x 0) (omega (arith, exists, handled.sound.lengths.ranges.entries_most))
 
 -- ---- pull
-pub turn-ready : (N : Nodes) (t : List Bool) (d m : List ℕ) (c : Clock) (k : ℕ) → RefusesOpen (records N (entries t d m) c) k → k ≡ 0 → TurnReady wheel01 N t d
+pub turn_ready : (N : Nodes) (t : List Bool) (d m : List ℕ) (c : Clock) (k : ℕ) → RefusesOpen (records N (entries t d m) c) k → k ≡ 0 → TurnReady wheel01 N t d
     c
-turn-ready N t d m c k f z =
-    let u = standing-past (records N (entries t d m) c) (unless (c.open ≡ true) 6 answered) k f.by z in
+turn_ready N t d m c k f z =
+    let u = standing_past (records N (entries t d m) c) (unless (c.open ≡ true) 6 answered) k f.by z in
     let v = past 6 k u.2 (λ i. omega (arith, z, i)) in
     record { ages = m; ready = ready N (entries t d m) c u.0 u.1; opened = v.0 }
 
 -- ---- the two counts
 module _ (h t n p b ee g s : List ℕ) (d : List Bool) (l m : List ℕ) (c : Clock) (o : SoundRecords wheel01 (lent h t n p b ee g s d l m c)) where
   room : length h ≤ length b
-  room = omega (arith, o.lengths.ends.heads-len, o.lengths.nodes.bucket-len, o.lengths.ranges.room)
+  room = omega (arith, o.lengths.ends.heads_len, o.lengths.nodes.bucket_len, o.lengths.ranges.room)
 
-  exists-at : (x : ℕ) → length h ≤ x → x < length b → get_or b x 0 < length h → get_or ee x 0 < c.entries
-  exists-at x i j a =
+  exists_at : (x : ℕ) → length h ≤ x → x < length b → get_or b x 0 < length h → get_or ee x 0 < c.entries
+  exists_at x i j a =
       o.exist.each x
-      (record { after = omega (arith, i, o.lengths.ends.heads-len); lent = j; names = omega (arith, a, o.lengths.ends.heads-len) })
+      (record { after = omega (arith, i, o.lengths.ends.heads_len); lent = j; names = omega (arith, a, o.lengths.ends.heads_len) })
 
-  due-of : DueReady h b ee d l
-  due-of =
+  due_of : DueReady h b ee d l
+  due_of =
       record {
-        entry-len = o.lengths.nodes.entry-len ∙ sym o.lengths.nodes.bucket-len;
+        entry_len = o.lengths.nodes.entry_len ∙ sym o.lengths.nodes.bucket_len;
         room = room;
-        dated = λ x i j a. omega (arith, exists-at x i j a, o.lengths.entries.dated-len);
-        deadline = λ x i j a. omega (arith, exists-at x i j a, o.lengths.entries.deadline-len);
+        dated = λ x i j a. omega (arith, exists_at x i j a, o.lengths.entries.dated_len);
+        deadline = λ x i j a. omega (arith, exists_at x i j a, o.lengths.entries.deadline_len);
       }
 
 module _ (h t n p b ee g s : List ℕ) (d : List Bool) (l m : List ℕ) (c : Clock) (k : ℕ) where
-  pub count-ready : RefusesCount (lent h t n p b ee g s d l m c) k → k ≡ 0 → length h ≤ length b
-  count-ready f z = room h t n p b ee g s d l m c (standing-past (lent h t n p b ee g s d l m c) answered k f.by z).1
+  pub count_ready : RefusesCount (lent h t n p b ee g s d l m c) k → k ≡ 0 → length h ≤ length b
+  count_ready f z = room h t n p b ee g s d l m c (standing_past (lent h t n p b ee g s d l m c) answered k f.by z).1
 
-  pub due-ready : RefusesClosed (lent h t n p b ee g s d l m c) k → k ≡ 0 → DueReady h b ee d l
-  due-ready f z = due-of h t n p b ee g s d l m c (closed-past (lent h t n p b ee g s d l m c) answered k f.by z).1
+  pub due_ready : RefusesClosed (lent h t n p b ee g s d l m c) k → k ≡ 0 → DueReady h b ee d l
+  due_ready f z = due_of h t n p b ee g s d l m c (closed_past (lent h t n p b ee g s d l m c) answered k f.by z).1
 
 -- ---- what the wheel that the records show says of them
 -- an entry's deadline
-pub deadline-is : (E : Entries) (w : Wheel) (N : Nodes) (c : Clock) (e : ℕ) (b : Bool) → Shows wheel01 (records N E c) w → e < c.entries → get_or E.dated e
+pub deadline_is : (E : Entries) (w : Wheel) (N : Nodes) (c : Clock) (e : ℕ) (b : Bool) → Shows wheel01 (records N E c) w → e < c.entries → get_or E.dated e
     false ≡ b
     → (w.entry e).deadline ≡ cond b (some (get_or E.deadline e 0)) none
-deadline-is E w N c e b s i d =
-    ap (λ (v : Entry). v.deadline) (s.entry e (omega (arith, i, s.entries-len)))
+deadline_is E w N c e b s i d =
+    ap (λ (v : Entry). v.deadline) (s.entry e (omega (arith, i, s.entries_len)))
     ∙ ap (λ (t : Bool). cond t (some (get_or E.deadline e 0)) none) d
 
 -- an armed slot's entry
-pub entry-is : (N : Nodes) (E : Entries) (c : Clock) (x n : ℕ) (w : Wheel) → Handled N E c x n → Shows wheel01 (records N E c) w → (w.lists.node x).entry ≡
+pub entry_is : (N : Nodes) (E : Entries) (c : Clock) (x n : ℕ) (w : Wheel) → Handled N E c x n → Shows wheel01 (records N E c) w → (w.lists.node x).entry ≡
     get_or N.entry x 0
-entry-is N E c x n w k s =
-    let there : x < w.nodes = omega (arith, k.live.slot, s.nodes-len) in
+entry_is N E c x n w k s =
+    let there : x < w.nodes = omega (arith, k.live.slot, s.nodes_len) in
     let on : (w.lists.node x).armed ≡ true = s.armed x k.live.after there ∙ lt-ltb (home_of N.links x) (buckets wheel01) k.live.armed in
     ap (λ (v : Node). v.entry) (s.node x k.live.after there on)
 
-pub held-is : (N : Nodes) (E : Entries) (c : Clock) (x n : ℕ) (w : Wheel) (b : Bool) → Handled N E c x n → Shows wheel01 (records N E c) w → get_or E.dated
+pub held_is : (N : Nodes) (E : Entries) (c : Clock) (x n : ℕ) (w : Wheel) (b : Bool) → Handled N E c x n → Shows wheel01 (records N E c) w → get_or E.dated
     (get_or N.entry x 0) false ≡ b
     → (w.entry (w.lists.node x).entry).deadline ≡ cond b (some (get_or E.deadline (get_or N.entry x 0) 0)) none
-held-is N E c x n w b k s d =
-    ap (λ (e : ℕ). (w.entry e).deadline) (entry-is N E c x n w k s)
-    ∙ deadline-is E w N c (get_or N.entry x 0) b s (entry-exists N E c x n k) d
+held_is N E c x n w b k s d =
+    ap (λ (e : ℕ). (w.entry e).deadline) (entry_is N E c x n w k s)
+    ∙ deadline_is E w N c (get_or N.entry x 0) b s (entry_exists N E c x n k) d

@@ -14,7 +14,7 @@ use Rattle.wheel_rules.specs.calls.Calls.{Acts}
 -- records that show an enabled wheel stand for it
 pub stands_of : (R : Records) (w : Wheel) → Shows wheel01 R w → Stands wheel01 R w
 stands_of R w s =
-    record { enabled = s.is-enabled ∙ sym s.enabled; reading = s.reading; next = s.next; shows = λ _. s }
+    record { enabled = s.is_enabled ∙ sym s.enabled; reading = s.reading; next = s.next; shows = λ _. s }
 
 pub lift : (c : Call) (R R' : Records) (a : Answer) → R.clock.enabled ≡ true
     → ((w : Wheel) → Shows wheel01 R w → Sound wheel01 w → ((act wheel01 w c).0 ≡ a) × Shows wheel01 R' (act wheel01 w c).1) → Acts c R R' a
@@ -24,6 +24,6 @@ lift c R R' a e f w t o =
     (r.0, stands_of R' (act wheel01 w c).1 r.1)
 
 -- a deadline or none, where j is written for none
-pub same-option : (t : Bool) (j d : ℕ) → j ≡ cond t d 0 → cond t (some j) none ≡ cond t (some d) none
-same-option true j d e = ap some e
-same-option false j d e = refl
+pub same_option : (t : Bool) (j d : ℕ) → j ≡ cond t d 0 → cond t (some j) none ≡ cond t (some d) none
+same_option true j d e = ap some e
+same_option false j d e = refl

@@ -7,26 +7,26 @@ use mathlib.Core.List.{List}
 use lib.ListN.{length, get_or}
 use lib.Dec.{ltb, leb}
 use borrow.Author.Tests.{ltb-true}
-use Rattle.rules.specs.Places.{wheel01, place_of, visitedAt}
+use Rattle.rules.specs.Places.{wheel01, place_of, visited_at}
 use Rattle.wheel_rules.specs.declared.calls.Clock.{Clock}
 use Rattle.wheel_rules.specs.Lent.{Nodes, Records, SoundRecords}
-use Rattle.wheel_rules.specs.records.Clocks.{setFree, counted, started, ended, abandoned, standing}
+use Rattle.wheel_rules.specs.records.Clocks.{set_free, counted, started, ended, abandoned, standing}
 use Rattle.wheel_rules.specs.declared.popping.Turn.{Turn}
 use Rattle.wheel_rules.specs.declared.popping.Pulled.TheVariants.{Expired, Rescheduled, End}
 use Rattle.wheel_rules.specs.popping.Position.{at, over, onward}
-use Rattle.wheel_rules.specs.popping.Pop.{goes, stops, waitingAt, nextPosition, popTurn, left}
-use Rattle.wheel_rules.specs.turns.Turns.{onTurn, turnNodes, turnTurn}
-use Rattle.wheel_rules.specs.pull.Pull.{Step, turns, pullStep}
+use Rattle.wheel_rules.specs.popping.Pop.{goes, stops, waiting_at, next_position, pop_turn, left}
+use Rattle.wheel_rules.specs.turns.Turns.{on_turn, turn_nodes, turn_turn}
+use Rattle.wheel_rules.specs.pull.Pull.{Step, turns, pull_step}
 use Rattle.wheel_rules.specs.sound.Sound.{InRange}
 use Rattle.wheel_rules.specs.refusals.Refuse.{Lendable}
-use Rattle.wheel_rules.specs.calls.Work.{laidOut, moved, descheduled}
+use Rattle.wheel_rules.specs.calls.Work.{laid_out, moved, descheduled}
 
-pub of-sound : (R : Records) → SoundRecords wheel01 R → InRange wheel01 R.clock
-of-sound R s =
-    record { some = s.lengths.ranges.some; most = s.lengths.ranges.entries-most; known = λ o. (s.advance.stands o).known }
+pub of_sound : (R : Records) → SoundRecords wheel01 R → InRange wheel01 R.clock
+of_sound R s =
+    record { some = s.lengths.ranges.some; most = s.lengths.ranges.entries_most; known = λ o. (s.advance.stands o).known }
 
 module _ (c : Clock) (i : InRange wheel01 c) where
-  pub freeing : (f : ℕ) → InRange wheel01 (setFree f c)
+  pub freeing : (f : ℕ) → InRange wheel01 (set_free f c)
   freeing f = record { some = i.some; most = i.most; known = i.known }
 
   pub counting : (f : ℕ) → InRange wheel01 (counted f c)
@@ -42,8 +42,8 @@ module _ (c : Clock) (i : InRange wheel01 c) where
   abandoning = record { some = i.some; most = i.most; known = λ o. absurd (false≢true o) }
 
 -- enabled over lent records
-pub enabling-range : (R : Records) → Lendable R → InRange wheel01 (laidOut R).clock
-enabling-range R l = record { some = l.around.ranges.some; most = l.around.ranges.entries-most; known = λ o. absurd (false≢true o) }
+pub enabling_range : (R : Records) → Lendable R → InRange wheel01 (laid_out R).clock
+enabling_range R l = record { some = l.around.ranges.some; most = l.around.ranges.entries_most; known = λ o. absurd (false≢true o) }
 
 -- moved, or removed
 pub moving : (R : Records) (x : ℕ) (b : Bool) → InRange wheel01 R.clock → InRange wheel01 (cond b (moved R x) (descheduled R x)).clock
@@ -56,8 +56,8 @@ either P true x y p q = p
 either P false x y p q = q
 
 -- the next position is on a level that there is
-onward-level : (p q l j : ℕ) → l ≤ length wheel01.sizes → (onward wheel01 p q l j).level ≤ length wheel01.sizes
-onward-level p q l j h = go (ltb j (visitedAt wheel01 p q l)) (ltb l (length wheel01.sizes)) refl (ltb 0 (visitedAt wheel01 p q (l + 1)))
+onward_level : (p q l j : ℕ) → l ≤ length wheel01.sizes → (onward wheel01 p q l j).level ≤ length wheel01.sizes
+onward_level p q l j h = go (ltb j (visited_at wheel01 p q l)) (ltb l (length wheel01.sizes)) refl (ltb 0 (visited_at wheel01 p q (l + 1)))
   where
     go : (a b : Bool) → ltb l (length wheel01.sizes) ≡ b → (d : Bool) → (cond a (at l (j + 1)) (cond b (cond d (at (l + 1) 1) over) over)).level ≤ length
         wheel01.sizes
@@ -69,10 +69,10 @@ onward-level p q l j h = go (ltb j (visitedAt wheel01 p q l)) (ltb l (length whe
 abbrev Fine : Turn → Type 0
 Fine r = InRange wheel01 r.clock
 
-on-range : (c : Clock) → InRange wheel01 c → Fine (onTurn wheel01 c)
-on-range c i =
-    either Fine (nextPosition wheel01 c).more (goes (standing (nextPosition wheel01 c).level (nextPosition wheel01 c).step c)) (stops (ended c) End)
-    (record { some = i.some; most = i.most; known = λ o. onward-level c.previous c.reading c.level c.step (i.known o) })
+on_range : (c : Clock) → InRange wheel01 c → Fine (on_turn wheel01 c)
+on_range c i =
+    either Fine (next_position wheel01 c).more (goes (standing (next_position wheel01 c).level (next_position wheel01 c).step c)) (stops (ended c) End)
+    (record { some = i.some; most = i.most; known = λ o. onward_level c.previous c.reading c.level c.step (i.known o) })
     (ending c i)
 
 either_step : (b : Bool) (x y : Step) → Fine x.turn → Fine y.turn → Fine (cond b x y).turn
@@ -80,29 +80,29 @@ either_step true x y p q = p
 either_step false x y p q = q
 
 module _ (t : List Bool) (d : List ℕ) where
-  turn-range : (N : Nodes) (c : Clock) → InRange wheel01 c → Fine (turnTurn wheel01 N t d c)
-  turn-range N c i =
-      let x : ℕ = waitingAt wheel01 N.links.heads c in
+  turn_range : (N : Nodes) (c : Clock) → InRange wheel01 c → Fine (turn_turn wheel01 N t d c)
+  turn_range N c i =
+      let x : ℕ = waiting_at wheel01 N.links.heads c in
       let e : ℕ = get_or N.entry x 0 in
       let n : ℕ = get_or N.serial x 0 in
-      either Fine (ltb x (length N.links.next)) (popTurn wheel01 N t d c x) (onTurn wheel01 c)
+      either Fine (ltb x (length N.links.next)) (pop_turn wheel01 N t d c x) (on_turn wheel01 c)
       (either Fine (get_or t e false)
-      (cond (leb (get_or d e 0) c.reading) (stops (setFree x c) (Expired e n (get_or d e 0)))
+      (cond (leb (get_or d e 0) c.reading) (stops (set_free x c) (Expired e n (get_or d e 0)))
       (stops c (Rescheduled e n (place_of wheel01 c.reading (get_or d e 0)))))
-      (goes (setFree x c))
-      (either Fine (leb (get_or d e 0) c.reading) (stops (setFree x c) (Expired e n (get_or d e 0)))
+      (goes (set_free x c))
+      (either Fine (leb (get_or d e 0) c.reading) (stops (set_free x c) (Expired e n (get_or d e 0)))
       (stops c (Rescheduled e n (place_of wheel01 c.reading (get_or d e 0))))
       (freeing c i x) i)
       (freeing c i x))
-      (on-range c i)
+      (on_range c i)
 
-  turns-range : (k : ℕ) (N : Nodes) (c : Clock) → InRange wheel01 c → Fine (turns wheel01 t d k N c).turn
-  turns-range zero N c i = i
-  turns-range (suc k) N c i =
-      let r : Turn = turnTurn wheel01 N t d c in
-      let M : Nodes = turnNodes wheel01 N t d c in
-      either_step r.going (turns wheel01 t d k M r.clock) (record { nodes = M; turn = r }) (turns-range k M r.clock (turn-range N c i))
-      (turn-range N c i)
+  turns_range : (k : ℕ) (N : Nodes) (c : Clock) → InRange wheel01 c → Fine (turns wheel01 t d k N c).turn
+  turns_range zero N c i = i
+  turns_range (suc k) N c i =
+      let r : Turn = turn_turn wheel01 N t d c in
+      let M : Nodes = turn_nodes wheel01 N t d c in
+      either_step r.going (turns wheel01 t d k M r.clock) (record { nodes = M; turn = r }) (turns_range k M r.clock (turn_range N c i))
+      (turn_range N c i)
 
-  pub pulling-range : (N : Nodes) (c : Clock) → InRange wheel01 c → InRange wheel01 (pullStep wheel01 t d N c).turn.clock
-  pulling-range N c i = turns-range (suc (left wheel01 N.links.home c)) N c i
+  pub pulling_range : (N : Nodes) (c : Clock) → InRange wheel01 c → InRange wheel01 (pull_step wheel01 t d N c).turn.clock
+  pulling_range N c i = turns_range (suc (left wheel01 N.links.home c)) N c i

@@ -14,14 +14,14 @@ use Rattle.wheel_rules.specs.Demand3.{Leads, then, Among, NoneBefore, AbandonedO
 use Rattle.wheel_rules.proofs.history.Steps.{step_is}
 use Rattle.wheel_rules.proofs.history.Runs.{run_is}
 use Rattle.wheel_rules.proofs.history.Splitting.{Parts, parts}
-use Rattle.wheel_rules.proofs.history.Advances.{run-advancing, records-advancing}
+use Rattle.wheel_rules.proofs.history.Advances.{run_advancing, records_advancing}
 
 -- the same calls; the reading at its start and its answers are the run's
 record Seen (ρ : Run) (R : Records) (cs : List Call) (rs : List Answer) (S : Records) (c : Call) (a : Answer) (i : RunAmong cs c) : Type 0 where
   among : Among R cs rs S c a
-  q-is : among.q ≡ i.q
-  reading-is : among.from.clock.reading ≡ (after wheel01 ρ i.bs).wheel.reading
-  answers-are : ok ∷ among.answers ≡ answers wheel01 (after wheel01 ρ i.bs) (start i.q ∷ i.ps)
+  q_is : among.q ≡ i.q
+  reading_is : among.from.clock.reading ≡ (after wheel01 ρ i.bs).wheel.reading
+  answers_are : ok ∷ among.answers ≡ answers wheel01 (after wheel01 ρ i.bs) (start i.q ∷ i.ps)
 
 retold : (rs told ts further : List Answer) (b f a : Answer) → b ≡ ok → f ≡ a → rs ≡ told ++ ((b ∷ ts) ++ (f ∷ further))
     → rs ≡ told ++ ((ok ∷ ts) ++ (a ∷ further))
@@ -34,7 +34,7 @@ seen_parts : (ρ : Run) (R : Records) (T : Tells R ρ.wheel) (cs : List Call) (r
 seen_parts ρ R T cs rs S c a i adv ans p =
     let σ : Run = after wheel01 ρ i.bs in
     let before = run_is ρ R p.from i.bs p.told T p.leads in
-    let v = records-advancing σ p.from before.1 i.q i.ps p.answers p.opened p.last p.first p.starts p.calls adv in
+    let v = records_advancing σ p.from before.1 i.q i.ps p.answers p.opened p.last p.first p.starts p.calls adv in
     let over = run_is σ p.from p.last (start i.q ∷ i.ps) (p.first ∷ p.answers) before.1 (then p.starts p.calls) in
     let is : p.final ≡ a = (step_is c p.last p.closed p.final (after wheel01 σ (start i.q ∷ i.ps)).wheel over.1 p.closes).0 ∙ ans in
     record {
@@ -52,11 +52,11 @@ seen_parts ρ R T cs rs S c a i adv ans p =
         further = p.further;
         on = p.on;
         calls_are = i.is;
-        answers-are = retold rs p.told p.answers p.further p.first p.final a v.0 is p.are;
+        answers_are = retold rs p.told p.answers p.further p.first p.final a v.0 is p.are;
       };
-      q-is = refl;
-      reading-is = before.1.stands.reading;
-      answers-are = ap (λ (b : Answer). b ∷ p.answers) (sym v.0) ∙ over.0;
+      q_is = refl;
+      reading_is = before.1.stands.reading;
+      answers_are = ap (λ (b : Answer). b ∷ p.answers) (sym v.0) ∙ over.0;
     }
 
 seen : (ρ : Run) (R : Records) (T : Tells R ρ.wheel) (cs : List Call) (rs : List Answer) (S : Records) (c : Call) (a : Answer) → Leads R cs rs S
@@ -71,15 +71,15 @@ pub none_before : (ρ : Run) (R : Records) (T : Tells R ρ.wheel) (cs : List Cal
     → NoneBefore d R cs rs S → RunNone wheel01 d ρ cs
 none_before ρ R T cs rs S d l none i f =
     let s = seen ρ R T cs rs S pull end l i f.0.0 f.0.1 in
-    none s.among (subst (λ (q : ℕ). d ≤ q) (sym s.q-is) f.1)
-    (subst (λ (p : ℕ). Later wheel01 p s.among.q) (sym s.reading-is)
-    (subst (λ (q : ℕ). Later wheel01 (after wheel01 ρ i.bs).wheel.reading q) (sym s.q-is) f.2))
+    none s.among (subst (λ (q : ℕ). d ≤ q) (sym s.q_is) f.1)
+    (subst (λ (p : ℕ). Later wheel01 p s.among.q) (sym s.reading_is)
+    (subst (λ (q : ℕ). Later wheel01 (after wheel01 ρ i.bs).wheel.reading q) (sym s.q_is) f.2))
 
-pub one-had : (ρ : Run) (R : Records) (T : Tells R ρ.wheel) (cs : List Call) (rs : List Answer) (S : Records) (n : ℕ) → Leads R cs rs S
+pub one_had : (ρ : Run) (R : Records) (T : Tells R ρ.wheel) (cs : List Call) (rs : List Answer) (S : Records) (n : ℕ) → Leads R cs rs S
     → RunHad wheel01 n ρ cs → AbandonedOneHad n R cs rs S
-one-had ρ R T cs rs S n l a =
+one_had ρ R T cs rs S n l a =
     let s = seen ρ R T cs rs S abandon ok l a.0 a.1.0 a.1.1 in
-    (s.among, omega (arith, ap (handed n) s.answers-are, a.2))
+    (s.among, omega (arith, ap (handed n) s.answers_are, a.2))
 
 -- and an advance among the calls of the history is one of the run
 pub none_seen : (ρ : Run) (R : Records) (T : Tells R ρ.wheel) (cs : List Call) (rs : List Answer) (S : Records) (d : ℕ) → RunNone wheel01 d ρ cs
@@ -91,7 +91,7 @@ none_seen ρ R T cs rs S d none a r t =
     let over = run_is σ a.from a.advance.last (start a.q ∷ a.ps) (ok ∷ a.answers) before.1 (then adv.starts adv.calls) in
     none (record { bs = a.before; q = a.q; ps = a.ps; rest = a.rest; is = a.calls_are }) (
       (
-        run-advancing σ a.from before.1 a.q a.ps a.answers a.advance.last adv,
+        run_advancing σ a.from before.1 a.q a.ps a.answers a.advance.last adv,
         sym (step_is pull a.advance.last a.closed end (after wheel01 σ (start a.q ∷ a.ps)).wheel over.1 a.advance.closes).0,
       ),
       r,

@@ -9,24 +9,24 @@ use mathlib.Core.Option.{some}
 use mathlib.Core.List.{List, [], ◌∷◌}
 use lib.ListN.{replicate}
 use Rattle.rules.specs.Places.{wheel01, tick}
-use Rattle.rules.specs.Wheel.{Entry, Call, create, enable, setEntry, schedule, start, pull, Answer, ok, handle, end, LeftAlone, handsOut, handed, Timely}
+use Rattle.rules.specs.Wheel.{Entry, Call, create, enable, set_entry, schedule, start, pull, Answer, ok, handle, end, LeftAlone, hands_out, handed, Timely}
 use Rattle.rules.specs.Wheel.{Later}
 use Rattle.rules.specs.Runs.{Run, next, answers, after}
 use Rattle.rules.specs.Demand3.{Advancing as RunAdvancing, Full as RunFull, NoneBefore as RunNone}
 use Rattle.rules.specs.Worked.{nothing}
-use Rattle.rules.proofs.Premises.{armed-10, run-10, full-10, hands-out-10}
-use Rattle.rules.proofs.Reached.{none-10, abandoned-10, full-abandoned, none-abandoned, hands-out-none, early, armed-early, advancing-early}
-use Rattle.rules.proofs.Reached.{hands-out-early, armed-back, run-back, full_back, none-back, hands-out-back}
+use Rattle.rules.proofs.Premises.{armed_10, run_10, full_10, hands_out_10}
+use Rattle.rules.proofs.Reached.{none_10, abandoned_10, full_abandoned, none_abandoned, hands_out_none, early, armed_early, advancing_early}
+use Rattle.rules.proofs.Reached.{hands_out_early, armed_back, run_back, full_back, none_back, hands_out_back}
 use Rattle.wheel_rules.specs.Lent.{Records, nodes, entries, records}
-use Rattle.wheel_rules.specs.Promise.{createdClock, created, enabling, Promised}
+use Rattle.wheel_rules.specs.Promise.{created_clock, created, enabling, Promised}
 use Rattle.wheel_rules.specs.history.Tells.{Tells}
 use Rattle.wheel_rules.specs.Demand3.{Leads, then, Arms, Advancing, Full, NoneBefore, AbandonedOneHad}
-use Rattle.wheel_rules.proofs.history.Steps.{create-is, step_is}
+use Rattle.wheel_rules.proofs.history.Steps.{create_is, step_is}
 use Rattle.wheel_rules.proofs.history.Runs.{run_is, history}
-use Rattle.wheel_rules.proofs.history.Advances.{records-advancing}
+use Rattle.wheel_rules.proofs.history.Advances.{records_advancing}
 use Rattle.wheel_rules.proofs.history.Among.{none_seen}
-use Rattle.wheel_rules.proofs.history.Continuing.{answered-so, Result, result, Continued, Anywhere, continues}
-use Rattle.wheel_rules.proofs.history.Demand3.{demand3-seen}
+use Rattle.wheel_rules.proofs.history.Continuing.{answered_so, Result, result, Continued, Anywhere, continues}
+use Rattle.wheel_rules.proofs.history.Demand3.{demand3_seen}
 
 -- ---- from a create to an armed timer
 -- 200 node records and 8 entries
@@ -34,10 +34,10 @@ pub lent : Records
 lent =
     records
     (nodes [] [] (replicate 200 0) (replicate 200 0) (replicate 200 0) (replicate 200 0) (replicate 200 0) (replicate 200 0))
-    (entries (replicate 8 false) (replicate 8 0) (replicate 8 0)) (createdClock 0)
+    (entries (replicate 8 false) (replicate 8 0) (replicate 8 0)) (created_clock 0)
 
 abbrev pub before : ℕ → List Call
-before d = enable 200 8 true ∷ setEntry 0 (some d) 0 ∷ []
+before d = enable 200 8 true ∷ set_entry 0 (some d) 0 ∷ []
 
 -- the run of the rules, just before the arming and just after it
 abbrev pub unarmed : ℕ → Run
@@ -50,22 +50,22 @@ lengths : enable 200 8 true ≡ enabling (created lent 7)
 unfolding lent
 lengths = refl
 
-laid_out : (d : ℕ) → Continued lent (create 7 ∷ before d)
-laid_out d =
+laid_out_lem : (d : ℕ) → Continued lent (create 7 ∷ before d)
+laid_out_lem d =
     let M : Records = created lent 7 in
-    let c : Promised (create 7) lent M ok = answered-so (create 7) lent tt refl in
-    let T = create-is 7 lent M ok nothing.wheel c in
+    let c : Promised (create 7) lent M ok = answered_so (create 7) lent tt refl in
+    let T = create_is 7 lent M ok nothing.wheel c in
     let e = result (enable 200 8 true) M lengths T.1.kept in
     let U = step_is (enable 200 8 true) M e.after e.says _ T.1 e.promised in
-    let k = continues _ e.after (setEntry 0 (some d) 0 ∷ []) U.1 (λ R. tt, tt) in
+    let k = continues _ e.after (set_entry 0 (some d) 0 ∷ []) U.1 (λ R. tt, tt) in
     record { answers = ok ∷ e.says ∷ k.answers; after = k.after; leads = then c (then e.promised k.leads) }
 
 module _ (d : ℕ) (timely : Timely wheel01 0 d) where
   abbrev P : Records
-  P = (laid_out d).after
+  P = (laid_out_lem d).after
 
   there : Tells P (unarmed d).wheel
-  there = (history nothing lent P 7 (before d) _ (laid_out d).leads).1
+  there = (history nothing lent P 7 (before d) _ (laid_out_lem d).leads).1
 
   arming : Result (schedule 0 0) P
   arming = result (schedule 0 0) P tt there.kept
@@ -73,12 +73,12 @@ module _ (d : ℕ) (timely : Timely wheel01 0 d) where
   abbrev R : Records
   R = arming.after
 
-  armed-as : (arming.says ≡ handle 165 7) × Tells R (armed d).wheel
-  armed-as = step_is (schedule 0 0) P R arming.says (unarmed d).wheel there arming.promised
+  armed_as : (arming.says ≡ handle 165 7) × Tells R (armed d).wheel
+  armed_as = step_is (schedule 0 0) P R arming.says (unarmed d).wheel there arming.promised
 
   arms : Arms P R 165 7 0 d
   arms = record {
-    armed = inl (0, subst (Promised (schedule 0 0) P R) armed-as.0 arming.promised);
+    armed = inl (0, subst (Promised (schedule 0 0) P R) armed_as.0 arming.promised);
     dated = sym (ap (λ (v : Entry). v.deadline) ((there.stands.shows refl).entry 0 (omega arith)));
     timely = subst (λ (r : ℕ). Timely wheel01 r d) (sym there.stands.reading) timely;
   }
@@ -103,19 +103,19 @@ pub record Led (d : ℕ) (cs : List Call) : Type 0 where
 
 pub led : (d : ℕ) → Timely wheel01 0 d → (cs : List Call) → Anywhere cs → LeftAlone 165 7 0 d cs (answers wheel01 (armed d) cs) → Led d cs
 led d t cs l u =
-    let k = continues (armed d).wheel (R d t) cs (armed-as d t).1 l in
-    let y = run_is (armed d) (R d t) k.after cs k.answers (armed-as d t).1 k.leads in
+    let k = continues (armed d).wheel (R d t) cs (armed_as d t).1 l in
+    let y = run_is (armed d) (R d t) k.after cs k.answers (armed_as d t).1 k.leads in
     record {
       P = P d t;
       R = R d t;
       S = k.after;
-      told = (laid_out d).answers;
+      told = (laid_out_lem d).answers;
       rs = k.answers;
-      begins = (laid_out d).leads;
+      begins = (laid_out_lem d).leads;
       arms = arms d t;
       calls = k.leads;
       alone = subst (LeftAlone 165 7 0 d cs) (sym y.0) u;
-      none = none_seen (armed d) (R d t) (armed-as d t).1 cs k.answers k.after d;
+      none = none_seen (armed d) (R d t) (armed_as d t).1 cs k.answers k.after d;
       tells = y.1;
     }
 
@@ -133,14 +133,14 @@ advanced d σ S T q ps k l a u h =
     let r = result (start q) S tt T.kept in
     let y = step_is (start q) S r.after r.says σ.wheel T r.promised in
     let c = continues _ r.after ps y.1 l in
-    let v = records-advancing σ S T q ps c.answers r.after c.after r.says r.promised c.leads a in
+    let v = records_advancing σ S T q ps c.answers r.after c.after r.says r.promised c.leads a in
     let z = run_is (next wheel01 σ (start q)) r.after c.after ps c.answers y.1 c.leads in
     record {
       ts = c.answers;
       T = c.after;
       advance = v.1;
       alone = subst (LeftAlone 165 7 0 d ps) (sym z.0) u;
-      hands = omega (arith, ap (handed 7) z.0, ap (handsOut 7) a.taken, h);
+      hands = omega (arith, ap (handed 7) z.0, ap (hands_out 7) a.taken, h);
     }
 
 -- one that is read to its end, goes to the deadline or later and enters a later tick
@@ -151,9 +151,9 @@ pub record FullyAdvanced (d : ℕ) (S : Records) (q : ℕ) (ps : List Call) (k :
   pub alone : LeftAlone 165 7 0 d ps ts
   pub hands : handed 7 ts ≡ k
 
-pub fully-advanced : (d : ℕ) (σ : Run) (S : Records) → Tells S σ.wheel → (q : ℕ) (ps : List Call) (k : ℕ) → Anywhere ps → RunFull wheel01 d σ q ps
+pub fully_advanced : (d : ℕ) (σ : Run) (S : Records) → Tells S σ.wheel → (q : ℕ) (ps : List Call) (k : ℕ) → Anywhere ps → RunFull wheel01 d σ q ps
     → LeftAlone 165 7 0 d ps (answers wheel01 (next wheel01 σ (start q)) ps) → handed 7 (answers wheel01 σ (start q ∷ ps)) ≡ k → FullyAdvanced d S q ps k
-fully-advanced d σ S T q ps k l f u h =
+fully_advanced d σ S T q ps k l f u h =
     let a = advanced d σ S T q ps k l f.0.0 u h in
     let E = (run_is σ S a.T (start q ∷ ps) (ok ∷ a.ts) T (then a.advance.starts a.advance.calls)).1 in
     let r = result pull a.T tt E.kept in
@@ -171,60 +171,60 @@ fully-advanced d σ S T q ps k l f u h =
     }
 
 -- ---- handed out by the first
-pub first-led : Led 10 run-10
+pub first_led : Led 10 run_10
 unfolding tick
-first-led =
-    led 10 (omega arith) run-10 (λ R. tt, (λ R. tt, (λ R. tt, (λ R. tt, (λ R. tt, (λ R. tt, (λ R. tt, tt)))))))
+first_led =
+    led 10 (omega arith) run_10 (λ R. tt, (λ R. tt, (λ R. tt, (λ R. tt, (λ R. tt, (λ R. tt, (λ R. tt, tt)))))))
     (no, (no, (no, (no, (no, (no, (λ k. absurd (k.1 refl), tt)))))))
 
-pub first-none : NoneBefore 10 first-led.R run-10 first-led.rs first-led.S
-first-none = first-led.none none-10
+pub first_none : NoneBefore 10 first_led.R run_10 first_led.rs first_led.S
+first_none = first_led.none none_10
 
-pub first-hands-out : FullyAdvanced 10 first-led.S (2 ^ 30) (pull ∷ []) 1
-first-hands-out =
-    fully-advanced 10 (after wheel01 armed-10 run-10) first-led.S first-led.tells (2 ^ 30) (pull ∷ []) 1 (λ R. tt, tt) full-10 (no, tt) hands-out-10
+pub first_hands_out_lem : FullyAdvanced 10 first_led.S (2 ^ 30) (pull ∷ []) 1
+first_hands_out_lem =
+    fully_advanced 10 (after wheel01 armed_10 run_10) first_led.S first_led.tells (2 ^ 30) (pull ∷ []) 1 (λ R. tt, tt) full_10 (no, tt) hands_out_10
 
 -- ---- already by an abandoned one
-pub abandoned-led : Led 10 abandoned-10
+pub abandoned_led : Led 10 abandoned_10
 unfolding tick
-abandoned-led = led 10 (omega arith) abandoned-10 (λ R. tt, (λ R. tt, (λ R. tt, tt))) (no, (no, (no, tt)))
+abandoned_led = led 10 (omega arith) abandoned_10 (λ R. tt, (λ R. tt, (λ R. tt, tt))) (no, (no, (no, tt)))
 
-pub abandoned-none : NoneBefore 10 abandoned-led.R abandoned-10 abandoned-led.rs abandoned-led.S
-abandoned-none = abandoned-led.none none-abandoned
+pub abandoned_none : NoneBefore 10 abandoned_led.R abandoned_10 abandoned_led.rs abandoned_led.S
+abandoned_none = abandoned_led.none none_abandoned
 
-pub abandoned-hands-out : FullyAdvanced 10 abandoned-led.S (2 ^ 31) [] 0
-abandoned-hands-out =
-    fully-advanced 10 (after wheel01 armed-10 abandoned-10) abandoned-led.S abandoned-led.tells (2 ^ 31) [] 0 tt full-abandoned tt hands-out-none
+pub abandoned_hands_out : FullyAdvanced 10 abandoned_led.S (2 ^ 31) [] 0
+abandoned_hands_out =
+    fully_advanced 10 (after wheel01 armed_10 abandoned_10) abandoned_led.S abandoned_led.tells (2 ^ 31) [] 0 tt full_abandoned tt hands_out_none
 
 -- the first full advance hands out nothing, so that an abandoned one had: the demand's other alternative
-pub abandoned-had : AbandonedOneHad 7 abandoned-led.R abandoned-10 abandoned-led.rs abandoned-led.S
-abandoned-had =
-    let k = abandoned-led in
-    let f = abandoned-hands-out in
+pub abandoned_had : AbandonedOneHad 7 abandoned_led.R abandoned_10 abandoned_led.rs abandoned_led.S
+abandoned_had =
+    let k = abandoned_led in
+    let f = abandoned_hands_out in
     ⊎_elim
     (λ i. absurd (omega (arith, i, f.hands)))
     (λ i. i)
-    ((demand3-seen lent k.P k.R 7 (before 10) k.told k.begins 165 7 0 10 k.arms).firstHandsOut abandoned-10 k.rs k.S k.calls k.alone
-    (2 ^ 31) [] f.ts f.U f.full f.alone abandoned-none)
+    ((demand3_seen lent k.P k.R 7 (before 10) k.told k.begins 165 7 0 10 k.arms).first_hands_out abandoned_10 k.rs k.S k.calls k.alone
+    (2 ^ 31) [] f.ts f.U f.full f.alone abandoned_none)
 
 -- ---- never early: in the deadline's tick, before the deadline
-pub early-led : Led early []
+pub early_led : Led early []
 unfolding tick
-early-led = led early (omega arith) [] tt tt
+early_led = led early (omega arith) [] tt tt
 
-pub early-hands-out : Advanced early early-led.S (2 ^ 30) (pull ∷ []) 0
-early-hands-out =
-    advanced early armed-early early-led.S early-led.tells (2 ^ 30) (pull ∷ []) 0 (λ R. tt, tt) advancing-early (no, tt) hands-out-early
+pub early_hands_out : Advanced early early_led.S (2 ^ 30) (pull ∷ []) 0
+early_hands_out =
+    advanced early armed_early early_led.S early_led.tells (2 ^ 30) (pull ∷ []) 0 (λ R. tt, tt) advancing_early (no, tt) hands_out_early
 
 -- ---- a clock stepped back
-pub back-led : Led (5 * 2 ^ 30) run-back
+pub back_led : Led (5 * 2 ^ 30) run_back
 unfolding tick
-back-led = led (5 * 2 ^ 30) (omega arith) run-back (λ R. tt, (λ R. tt, (λ R. tt, (λ R. tt, tt)))) (no, (no, (no, (no, tt))))
+back_led = led (5 * 2 ^ 30) (omega arith) run_back (λ R. tt, (λ R. tt, (λ R. tt, (λ R. tt, tt)))) (no, (no, (no, (no, tt))))
 
-pub back_none : NoneBefore (5 * 2 ^ 30) back-led.R run-back back-led.rs back-led.S
-back_none = back-led.none none-back
+pub back_none : NoneBefore (5 * 2 ^ 30) back_led.R run_back back_led.rs back_led.S
+back_none = back_led.none none_back
 
-pub back-hands-out : FullyAdvanced (5 * 2 ^ 30) back-led.S (5 * 2 ^ 30) (pull ∷ []) 1
-back-hands-out =
-    fully-advanced (5 * 2 ^ 30) (after wheel01 armed-back run-back) back-led.S back-led.tells (5 * 2 ^ 30) (pull ∷ []) 1 (λ R. tt, tt) full_back (no, tt)
-    hands-out-back
+pub back_hands_out : FullyAdvanced (5 * 2 ^ 30) back_led.S (5 * 2 ^ 30) (pull ∷ []) 1
+back_hands_out =
+    fully_advanced (5 * 2 ^ 30) (after wheel01 armed_back run_back) back_led.S back_led.tells (5 * 2 ^ 30) (pull ∷ []) 1 (λ R. tt, tt) full_back (no, tt)
+    hands_out_back

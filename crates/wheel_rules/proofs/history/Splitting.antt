@@ -8,15 +8,15 @@ use Rattle.wheel_rules.specs.Promise.{Promised}
 use Rattle.wheel_rules.specs.Demand3.{Leads, done, then}
 
 -- ---- put together
-pub leads-on : {R S T : Records} {cs ds : List Call} {rs ts : List Answer} → Leads R cs rs S → Leads S ds ts T → Leads R (cs ++ ds) (rs ++ ts) T
-leads-on done m = m
-leads-on (then p l) m = then p (leads-on l m)
+pub leads_on : {R S T : Records} {cs ds : List Call} {rs ts : List Answer} → Leads R cs rs S → Leads S ds ts T → Leads R (cs ++ ds) (rs ++ ts) T
+leads_on done m = m
+leads_on (then p l) m = then p (leads_on l m)
 
 -- a timer that both lists of calls leave alone
-pub alone-on : {R S : Records} {cs : List Call} {rs : List Answer} (x n e d : ℕ) (ds : List Call) (ts : List Answer) → Leads R cs rs S
+pub alone_on : {R S : Records} {cs : List Call} {rs : List Answer} (x n e d : ℕ) (ds : List Call) (ts : List Answer) → Leads R cs rs S
     → LeftAlone x n e d cs rs → LeftAlone x n e d ds ts → LeftAlone x n e d (cs ++ ds) (rs ++ ts)
-alone-on x n e d ds ts done u v = v
-alone-on x n e d ds ts (then p l) u v = (u.0, alone-on x n e d ds ts l u.1 v)
+alone_on x n e d ds ts done u v = v
+alone_on x n e d ds ts (then p l) u v = (u.0, alone_on x n e d ds ts l u.1 v)
 
 -- ---- taken apart
 -- the records between, and the answers of each part
@@ -71,9 +71,9 @@ pub record Parts (R : Records) (bs : List Call) (q : ℕ) (ps : List Call) (c : 
   pub on : Leads closed ds further S
   pub are : rs ≡ told ++ ((first ∷ answers) ++ (final ∷ further))
 
-answers-join : (rs told us vs ts ws zs : List Answer) (a b : Answer) → rs ≡ told ++ us → us ≡ a ∷ vs → vs ≡ ts ++ ws → ws ≡ b ∷ zs
+answers_join : (rs told us vs ts ws zs : List Answer) (a b : Answer) → rs ≡ told ++ us → us ≡ a ∷ vs → vs ≡ ts ++ ws → ws ≡ b ∷ zs
     → rs ≡ told ++ ((a ∷ ts) ++ (b ∷ zs))
-answers-join rs told us vs ts ws zs a b i j k m = rw (i, j, k, m)
+answers_join rs told us vs ts ws zs a b i j k m = rw (i, j, k, m)
 
 pub parts : (R : Records) (bs : List Call) (q : ℕ) (ps : List Call) (c : Call) (ds : List Call) (rs : List Answer) (S : Records)
     → Leads R (bs ++ ((start q ∷ ps) ++ (c ∷ ds))) rs S → Parts R bs q ps c ds rs S
@@ -97,5 +97,5 @@ parts R bs q ps c ds rs S l =
       closes = f.call;
       further = f.further;
       on = f.on;
-      are = answers-join rs h.told h.further b.further k.told k.further f.further b.says f.says h.are b.are k.are f.are;
+      are = answers_join rs h.told h.further b.further k.told k.further f.further b.says f.says h.are b.are k.are f.are;
     }

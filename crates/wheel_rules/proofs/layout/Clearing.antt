@@ -40,12 +40,12 @@ pub record Clearing (e₀ g₀ s₀ e g s : List ℕ) (x : ℕ) : Type 0 where
   pub generation : Filled 0 g₀ g x
   pub serial : Filled 0 s₀ s x
 
-pub clear-begins : (e g s : List ℕ) → Clearing e g s e g s 0
-clear-begins e g s = record { entry = begins 0 e; generation = begins 0 g; serial = begins 0 s }
+pub clear_begins : (e g s : List ℕ) → Clearing e g s e g s 0
+clear_begins e g s = record { entry = begins 0 e; generation = begins 0 g; serial = begins 0 s }
 
-pub clear-again : (e₀ g₀ s₀ e g s : List ℕ) (x : ℕ) → (length g₀ ≡ length e₀) × (length s₀ ≡ length e₀) → Clearing e₀ g₀ s₀ e g s x → x < length e
+pub clear_again : (e₀ g₀ s₀ e g s : List ℕ) (x : ℕ) → (length g₀ ≡ length e₀) × (length s₀ ≡ length e₀) → Clearing e₀ g₀ s₀ e g s x → x < length e
     → Clearing e₀ g₀ s₀ (set e x 0) (set g x 0) (set s x 0) (x + 1)
-clear-again e₀ g₀ s₀ e g s x l c h =
+clear_again e₀ g₀ s₀ e g s x l c h =
     let k : x < length e₀ = omega (arith, c.entry.len) in
     record {
       entry = more 0 e₀ e x k c.entry;
@@ -54,14 +54,14 @@ clear-again e₀ g₀ s₀ e g s x l c h =
           c.serial;
     }
 
-pub clear-ends : (e₀ g₀ s₀ e g s : List ℕ) (x : ℕ) → (length g₀ ≡ length e₀) × (length s₀ ≡ length e₀) → Clearing e₀ g₀ s₀ e g s x → length e ≤ x → Clears e₀
+pub clear_ends : (e₀ g₀ s₀ e g s : List ℕ) (x : ℕ) → (length g₀ ≡ length e₀) × (length s₀ ≡ length e₀) → Clearing e₀ g₀ s₀ e g s x → length e ≤ x → Clears e₀
     g₀ s₀ e g s
-clear-ends e₀ g₀ s₀ e g s x l c h =
+clear_ends e₀ g₀ s₀ e g s x l c h =
     let k : length e₀ ≤ x = omega (arith, c.entry.len) in
     record {
-      entry-is = all_of 0 e₀ e x (length e₀) refl k c.entry;
-      generation-is = all_of 0 g₀ g x (length e₀) l.0 k c.generation;
-      serial-is = all_of 0 s₀ s x (length e₀) l.1 k c.serial;
+      entry_is = all_of 0 e₀ e x (length e₀) refl k c.entry;
+      generation_is = all_of 0 g₀ g x (length e₀) l.0 k c.generation;
+      serial_is = all_of 0 s₀ s x (length e₀) l.1 k c.serial;
     }
 
 -- ---- clear_entries
@@ -70,12 +70,12 @@ pub record ClearingEntries (t₀ : List Bool) (d₀ g₀ : List ℕ) (t : List B
   pub deadline : Filled 0 d₀ d x
   pub generation : Filled 0 g₀ g x
 
-pub entries-begin : (t : List Bool) (d g : List ℕ) → ClearingEntries t d g t d g 0
-entries-begin t d g = record { dated = begins false t; deadline = begins 0 d; generation = begins 0 g }
+pub entries_begin : (t : List Bool) (d g : List ℕ) → ClearingEntries t d g t d g 0
+entries_begin t d g = record { dated = begins false t; deadline = begins 0 d; generation = begins 0 g }
 
-pub entries-again : (t₀ : List Bool) (d₀ g₀ : List ℕ) (t : List Bool) (d g : List ℕ) (x : ℕ) → (length d₀ ≡ length t₀) × (length g₀ ≡ length t₀)
+pub entries_again : (t₀ : List Bool) (d₀ g₀ : List ℕ) (t : List Bool) (d g : List ℕ) (x : ℕ) → (length d₀ ≡ length t₀) × (length g₀ ≡ length t₀)
     → ClearingEntries t₀ d₀ g₀ t d g x → x < length t → ClearingEntries t₀ d₀ g₀ (set t x false) (set d x 0) (set g x 0) (x + 1)
-entries-again t₀ d₀ g₀ t d g x l c h =
+entries_again t₀ d₀ g₀ t d g x l c h =
     let k : x < length t₀ = omega (arith, c.dated.len) in
     record {
       dated = more false t₀ t x k c.dated;
@@ -84,12 +84,12 @@ entries-again t₀ d₀ g₀ t d g x l c h =
           (omega (arith, l.1)) c.generation;
     }
 
-pub entries-end : (t₀ : List Bool) (d₀ g₀ : List ℕ) (t : List Bool) (d g : List ℕ) (x : ℕ) → (length d₀ ≡ length t₀) × (length g₀ ≡ length t₀)
+pub entries_end : (t₀ : List Bool) (d₀ g₀ : List ℕ) (t : List Bool) (d g : List ℕ) (x : ℕ) → (length d₀ ≡ length t₀) × (length g₀ ≡ length t₀)
     → ClearingEntries t₀ d₀ g₀ t d g x → length t ≤ x → ClearsEntries t₀ d₀ g₀ t d g
-entries-end t₀ d₀ g₀ t d g x l c h =
+entries_end t₀ d₀ g₀ t d g x l c h =
     let k : length t₀ ≤ x = omega (arith, c.dated.len) in
     record {
-      dated-is = all_of false t₀ t x (length t₀) refl k c.dated;
-      deadline-is = all_of 0 d₀ d x (length t₀) l.0 k c.deadline;
-      generation-is = all_of 0 g₀ g x (length t₀) l.1 k c.generation;
+      dated_is = all_of false t₀ t x (length t₀) refl k c.dated;
+      deadline_is = all_of 0 d₀ d x (length t₀) l.0 k c.deadline;
+      generation_is = all_of 0 g₀ g x (length t₀) l.1 k c.generation;
     }

@@ -15,9 +15,9 @@ use Rattle.rules.specs.Calls.{act}
 use Rattle.wheel_rules.specs.declared.calls.Clock.{Clock}
 use Rattle.wheel_rules.specs.Lent.{Nodes, Entries, records, Shows}
 use Rattle.wheel_rules.specs.records.Records.{join}
-use Rattle.wheel_rules.specs.Promise.{bareEntries}
-use Rattle.wheel_rules.specs.layout.Layout.{bareNodes, enabledWith, SeatReady, Seats, LayReady, Lays}
-use Rattle.wheel_rules.proofs.layout.Seating.{Seating, seating-begins, seating-asks, seating-again, seating-ends, laid}
+use Rattle.wheel_rules.specs.Promise.{bare_entries}
+use Rattle.wheel_rules.specs.layout.Layout.{bare_nodes, enabled_with, SeatReady, Seats, LayReady, Lays}
+use Rattle.wheel_rules.proofs.layout.Seating.{Seating, seating_begins, seating_asks, seating_again, seating_ends, laid}
 
 -- ---- the sentinels, one after another
 module _ (z : Links) (y : SeatReady z) where
@@ -34,21 +34,21 @@ module _ (z : Links) (y : SeatReady z) where
   n = length o.next
 
   -- b of them are linked
-  seats-to : (b : ℕ) → b ≤ D → (a : Links) × (f : ℕ) × Seating D n o a f b
-  seats-to zero l = (o, _, seating-begins z o _ y out)
-  seats-to (suc b) l =
-      let s = seats-to b (omega arith) in
-      let h : suc b ≤ length s.0.heads = omega (arith, s.2.heads-len) in (
+  seats_to : (b : ℕ) → b ≤ D → (a : Links) × (f : ℕ) × Seating D n o a f b
+  seats_to zero l = (o, _, seating_begins z o _ y out)
+  seats_to (suc b) l =
+      let s = seats_to b (omega arith) in
+      let h : suc b ≤ length s.0.heads = omega (arith, s.2.heads_len) in (
         _,
         _,
         subst (Seating D n o _ _) (add-one b)
-            (seating-again D n o s.0 s.1 b s.2 h _ _ (pushes s.0 s.1 b (seating-asks D n o s.0 s.1 b s.2 h))),
+            (seating_again D n o s.0 s.1 b s.2 h _ _ (pushes s.0 s.1 b (seating_asks D n o s.0 s.1 b s.2 h))),
       )
 
   seats : (a : Links) × Seats z a
   seats =
-      let s = seats-to D (omega arith) in
-      (s.0, seating-ends z o s.0 _ s.1 D out s.2 (omega (arith, s.2.heads-len)))
+      let s = seats_to D (omega arith) in
+      (s.0, seating_ends z o s.0 _ s.1 D out s.2 (omega (arith, s.2.heads_len)))
 
 -- ---- all of the records
 module _ (N : Nodes) (E : Entries) (c : Clock) (y : LayReady wheel01 N E) where
@@ -59,23 +59,23 @@ module _ (N : Nodes) (E : Entries) (c : Clock) (y : LayReady wheel01 N E) where
   total = length E.dated
 
   abbrev clock : Clock
-  clock = enabledWith (length N.links.heads) slots total c
+  clock = enabled_with (length N.links.heads) slots total c
 
-  lays-right : (a : Links) × Lays wheel01 N E c (join a (replicate (length N.entry) 0) (replicate (length N.entry) 0) (replicate (length N.entry) 0))
-      (bareEntries total) clock
-  lays-right =
+  lays_right : (a : Links) × Lays wheel01 N E c (join a (replicate (length N.entry) 0) (replicate (length N.entry) 0) (replicate (length N.entry) 0))
+      (bare_entries total) clock
+  lays_right =
       let a : Links = N.links in
       let s = seats a y.seat in
       let b : Links = s.0 in (
         b,
         laid a.heads a.tails a.next a.prev a.home N.entry N.generation N.serial b.heads b.tails b.next b.prev b.home
             _ _ _ E.dated E.deadline E.generation _ _ _ c clock y refl s.1
-            (record { entry-is = refl; generation-is = refl; serial-is = refl }) (record { dated-is = refl; deadline-is = refl; generation-is = refl }),
+            (record { entry_is = refl; generation_is = refl; serial_is = refl }) (record { dated_is = refl; deadline_is = refl; generation_is = refl }),
       )
 
   -- what is written is the rules' enabling
-  pub lay-does : (w : Wheel) → c.reading ≡ w.reading → c.serial ≡ w.next
-      → Shows wheel01 (records (bareNodes (length N.links.heads) slots) (bareEntries total) clock) (act wheel01 w (enable slots total true)).1
-  lay-does w er es =
-      let u = lays-right.1 in
-      subst (λ (M : Nodes). Shows wheel01 (records M (bareEntries total) clock) (act wheel01 w (enable slots total true)).1) u.nodes-are (u.does w er es)
+  pub lay_does : (w : Wheel) → c.reading ≡ w.reading → c.serial ≡ w.next
+      → Shows wheel01 (records (bare_nodes (length N.links.heads) slots) (bare_entries total) clock) (act wheel01 w (enable slots total true)).1
+  lay_does w er es =
+      let u = lays_right.1 in
+      subst (λ (M : Nodes). Shows wheel01 (records M (bare_entries total) clock) (act wheel01 w (enable slots total true)).1) u.nodes_are (u.does w er es)

@@ -22,12 +22,12 @@ from_last f v same (suc (suc (suc zero))) a b c d = absurd (d refl)
 from_last f v same (suc (suc (suc (suc m)))) a b c d = same m
 
 -- ---- bounds
-pub shift-below : (l : ℕ) → shift01 l < 64
-shift-below zero = omega arith
-shift-below (suc zero) = omega arith
-shift-below (suc (suc zero)) = omega arith
-shift-below (suc (suc (suc zero))) = omega arith
-shift-below (suc (suc (suc (suc m)))) = omega arith
+pub shift_below : (l : ℕ) → shift01 l < 64
+shift_below zero = omega arith
+shift_below (suc zero) = omega arith
+shift_below (suc (suc zero)) = omega arith
+shift_below (suc (suc (suc zero))) = omega arith
+shift_below (suc (suc (suc (suc m)))) = omega arith
 
 pub first_below : (l : ℕ) → first01 l ≤ 164
 first_below zero = omega arith
@@ -43,8 +43,8 @@ count_most (suc (suc zero)) = omega arith
 count_most (suc (suc (suc zero))) = omega arith
 count_most (suc (suc (suc (suc m)))) = omega arith
 
-pub count-some : (l : ℕ) → 0 < 2 ^ size01 l
-count-some l = pow_pos (size01 l)
+pub count_some : (l : ℕ) → 0 < 2 ^ size01 l
+count_some l = pow_pos (size01 l)
 
 pub index_below : (l t : ℕ) → index_at l t < 64
 index_below l t = omega (arith, mod-lt (tick (shift01 l) t) (pow_pos (size01 l)), count_most l)

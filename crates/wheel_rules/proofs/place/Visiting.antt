@@ -6,7 +6,7 @@ use mathlib.Core.Path.{◌≡◌, sym, ap, ◌∙◌}
 use lib.Pow.{pow_pos}
 use lib.Bits.{bit_and, and_mask}
 use borrow.Author.Tests.{lt-ltb, le-ltb}
-use Rattle.rules.specs.Places.{wheel01, tick, visitedAt, bucketAt}
+use Rattle.rules.specs.Places.{wheel01, tick, visited_at, bucket_at}
 use Rattle.wheel_rules.specs.place.Levels.{shift01, size01, first01}
 
 -- s and n are the level's shift and count
@@ -15,15 +15,15 @@ module _ (l p q s n : ℕ) (is : s ≡ shift01 l) (many : n ≡ 2 ^ size01 l) wh
   unfolding tick
   ticks t = ap (λ (k : ℕ). t / 2 ^ k) is
 
-  pub visits-none : q / 2 ^ s ≤ p / 2 ^ s → 0 ≡ visitedAt wheel01 p q l
-  visits-none h = sym (simp (le-ltb (tick (shift01 l) p) (tick (shift01 l) q) (omega (arith, ticks p, ticks q))))
+  pub visits_none : q / 2 ^ s ≤ p / 2 ^ s → 0 ≡ visited_at wheel01 p q l
+  visits_none h = sym (simp (le-ltb (tick (shift01 l) p) (tick (shift01 l) q) (omega (arith, ticks p, ticks q))))
 
-  pub visits-few : p / 2 ^ s < q / 2 ^ s → q / 2 ^ s - p / 2 ^ s < n → q / 2 ^ s - p / 2 ^ s + 1 ≡ visitedAt wheel01 p q l
-  visits-few h k =
+  pub visits_few : p / 2 ^ s < q / 2 ^ s → q / 2 ^ s - p / 2 ^ s < n → q / 2 ^ s - p / 2 ^ s + 1 ≡ visited_at wheel01 p q l
+  visits_few h k =
       simp (lt-ltb (tick (shift01 l) p) (tick (shift01 l) q) (omega (arith, ticks p, ticks q))) (omega (arith, ticks p, ticks q, many))
 
-  pub visits-all : p / 2 ^ s < q / 2 ^ s → n ≤ q / 2 ^ s - p / 2 ^ s → n ≡ visitedAt wheel01 p q l
-  visits-all h k =
+  pub visits_all : p / 2 ^ s < q / 2 ^ s → n ≤ q / 2 ^ s - p / 2 ^ s → n ≡ visited_at wheel01 p q l
+  visits_all h k =
       simp (lt-ltb (tick (shift01 l) p) (tick (shift01 l) q) (omega (arith, ticks p, ticks q))) (omega (arith, ticks p, ticks q, many))
 
   -- a number masked is below the count
@@ -32,8 +32,8 @@ module _ (l p q s n : ℕ) (is : s ≡ shift01 l) (many : n ≡ 2 ^ size01 l) wh
       let e : bit_and a (n - 1) ≡ a % 2 ^ size01 l = ap (λ (m : ℕ). bit_and a (m - 1)) many ∙ and_mask a (size01 l) in
       omega (arith, mod-lt a (pow_pos (size01 l)))
 
-  pub next-bucket : (j f : ℕ) → f ≡ first01 l → f + bit_and (bit_and (p / 2 ^ s) (n - 1) + bit_and j (n - 1)) (n - 1) ≡ bucketAt wheel01 p l j
-  next-bucket j f first =
+  pub next_bucket : (j f : ℕ) → f ≡ first01 l → f + bit_and (bit_and (p / 2 ^ s) (n - 1) + bit_and j (n - 1)) (n - 1) ≡ bucket_at wheel01 p l j
+  next_bucket j f first =
       let m : ℕ = 2 ^ size01 l in
       let a : (x : ℕ) → bit_and x (n - 1) ≡ x % m = λ x. ap (λ (k : ℕ). bit_and x (k - 1)) many ∙ and_mask x (size01 l) in
       let e : bit_and (bit_and (p / 2 ^ s) (n - 1) + bit_and j (n - 1)) (n - 1) ≡ (tick (shift01 l) p + j) % m =

@@ -14,9 +14,9 @@ use Rattle.wheel_rules.specs.declared.popping.Pulled.{Pulled}
 use Rattle.wheel_rules.specs.declared.popping.Turn.{Turn}
 use Rattle.wheel_rules.specs.popping.Pop.{told, left, TurnReady}
 use Rattle.wheel_rules.specs.turns.Turns.{Turned}
-use Rattle.wheel_rules.specs.pull.Pull.{Step, pullStep, Pulls}
-use Rattle.wheel_rules.proofs.turns.Doing.{turn-right}
-use Rattle.wheel_rules.proofs.pull.Pulling.{Pulling, pull-begins, pull-asks, pull-less, pull-again, pull-ends}
+use Rattle.wheel_rules.specs.pull.Pull.{Step, pull_step, Pulls}
+use Rattle.wheel_rules.proofs.turns.Doing.{turn_right}
+use Rattle.wheel_rules.proofs.pull.Pulling.{Pulling, pull_begins, pull_asks, pull_less, pull_again, pull_ends}
 
 module _ (M : Nodes) (t : List Bool) (d : List ℕ) (k : Clock) (y : TurnReady wheel01 M t d k) where
   abbrev Answered : Type 0
@@ -26,28 +26,28 @@ module _ (M : Nodes) (t : List Bool) (d : List ℕ) (k : Clock) (y : TurnReady w
   reaches : (j : ℕ) (N : Nodes) (c : Clock) → Pulling M t d k N c → left wheel01 N.links.home c < j → Answered
   reaches zero N c p l = absurd (omega arith)
   reaches (suc j) N c p l =
-      let z = turn-right N t d c (pull-asks M t d k y N c p) in
+      let z = turn_right N t d c (pull_asks M t d k y N c p) in
       go z.0 z.1 z.2 z.1.going refl (λ N' c' q i. reaches j N' c' q i)
     where
       go : (N' : Nodes) (r : Turn) → Turned wheel01 N t d c N' r → (b : Bool) → r.going ≡ b
           → ((N'' : Nodes) (c'' : Clock) → Pulling M t d k N'' c'' → left wheel01 N''.links.home c'' < j → Answered) → Answered
-      go N' r u true h more = more N' r.clock (pull-again M t d k y N c p N' r u h) (omega (arith, l, pull-less M t d k y N c p N' r u h))
-      go N' r u false h more = (N', r.clock, r.event, pull-ends M t d k y N c p N' r u h)
+      go N' r u true h more = more N' r.clock (pull_again M t d k y N c p N' r u h) (omega (arith, l, pull_less M t d k y N c p N' r u h))
+      go N' r u false h more = (N', r.clock, r.event, pull_ends M t d k y N c p N' r u h)
 
-  pub pull-right : Answered
-  pull-right = reaches (suc (left wheel01 M.links.home k)) M k (pull-begins M t d k y) (omega arith)
+  pub pull_right : Answered
+  pull_right = reaches (suc (left wheel01 M.links.home k)) M k (pull_begins M t d k y) (omega arith)
 
   abbrev last : Step
-  last = pullStep wheel01 t d M k
+  last = pull_step wheel01 t d M k
 
   -- what the last turn has written is the rules' pull
-  pub pull-does : (ages : List ℕ) (w : Wheel) → Shows wheel01 (records M (entries t d ages) k) w → Sound wheel01 w
+  pub pull_does : (ages : List ℕ) (w : Wheel) → Shows wheel01 (records M (entries t d ages) k) w → Sound wheel01 w
       → ((act wheel01 w pull).0 ≡ told last.turn.event)
       × Shows wheel01 (records last.nodes (entries t d ages) last.turn.clock) (act wheel01 w pull).1
-  pull-does ages w s o =
-      let u = pull-right.3 in
+  pull_does ages w s o =
+      let u = pull_right.3 in
       let v = u.does ages w s o in (
-        subst (λ (a : Pulled). (act wheel01 w pull).0 ≡ told a) u.event-is v.0,
-        subst (λ (c : Clock). Shows wheel01 (records last.nodes (entries t d ages) c) (act wheel01 w pull).1) u.clock-is
-            (subst (λ (N : Nodes). Shows wheel01 (records N (entries t d ages) pull-right.1) (act wheel01 w pull).1) u.is v.1),
+        subst (λ (a : Pulled). (act wheel01 w pull).0 ≡ told a) u.event_is v.0,
+        subst (λ (c : Clock). Shows wheel01 (records last.nodes (entries t d ages) c) (act wheel01 w pull).1) u.clock_is
+            (subst (λ (N : Nodes). Shows wheel01 (records N (entries t d ages) pull_right.1) (act wheel01 w pull).1) u.is v.1),
       )

@@ -40,8 +40,8 @@ module _ (g : Geometry) (T : List Bool) (D G : List ℕ) (e : ℕ) (t : Bool) (d
       (k ∙ sym (says (get_or-set_other T e i t false (λ m. j (sym m))) (get_or-set_other D e i d 0 (λ m. j (sym m))) (get_or-set_other G e i h 0 (λ m. j (sym m))))))
       (same? e i)
 
-  pub sets-does : Sets g E E' e t d h
-  sets-does =
+  pub sets_does : Sets g E E' e t d h
+  sets_does =
       record {
         is = refl;
         does = λ N c w s.
@@ -52,23 +52,23 @@ module _ (g : Geometry) (T : List Bool) (D G : List ℕ) (e : ℕ) (t : Bool) (d
               slots = s.slots;
               bucket = s.bucket;
               free = s.free;
-              free-is = s.free-is;
+              free_is = s.free_is;
               room = s.room;
               armed = s.armed;
               node = s.node;
-              entry-len = s.entry-len;
-              generation-len = s.generation-len;
-              serial-len = s.serial-len;
+              entry_len = s.entry_len;
+              generation_len = s.generation_len;
+              serial_len = s.serial_len;
               entry = λ i l. at w.entry i (s.entry i l);
-              dated-len = length-set T e t ∙ s.dated-len;
-              deadline-len = length-set D e d ∙ s.deadline-len;
-              entries-generation-len = length-set G e h ∙ s.entries-generation-len;
+              dated_len = length-set T e t ∙ s.dated_len;
+              deadline_len = length-set D e d ∙ s.deadline_len;
+              entries_generation_len = length-set G e h ∙ s.entries_generation_len;
               enabled = s.enabled;
-              is-enabled = s.is-enabled;
+              is_enabled = s.is_enabled;
               reading = s.reading;
               next = s.next;
-              nodes-len = s.nodes-len;
-              entries-len = s.entries-len;
+              nodes_len = s.nodes_len;
+              entries_len = s.entries_len;
               advance = s.advance;
             };
       }

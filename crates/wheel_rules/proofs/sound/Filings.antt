@@ -8,16 +8,16 @@ use mathlib.Core.Bool.{Bool, true, false, not, false≢true}
 use mathlib.Core.List.{List}
 use lib.ListN.{length, get_or, set, replicate, length-set, length-replicate}
 use lib.Seq.{get_or-set_same, get_or-set_other}
-use borrow.Author.Tests.{not-true, not-false}
+use borrow.Author.Tests.{not_true, not-false}
 use Rattle.numbers.proofs.Cases.{same?, below?}
 use Rattle.wheel_rules.specs.Lent.{Decides, Armed, SerialsDiffer}
 use Rattle.wheel_rules.specs.sound.Filing.{Leads, here, back, Walkable, Met, Filed, Fileable, Files}
 use Rattle.wheel_rules.proofs.sound.Answers.{yes, no}
 
 -- ---- the way back
-pub leads-some : {b : List ℕ} {y z : ℕ} → Leads b y z → 0 < y
-leads-some (here p) = p
-leads-some (back p l) = p
+pub leads_some : {b : List ℕ} {y z : ℕ} → Leads b y z → 0 < y
+leads_some (here p) = p
+leads_some (back p l) = p
 
 -- the walk from `latest` has come to y: what is met from here on is what is met in all
 pub record MetFrom (before serial : List ℕ) (latest wanted y : ℕ) : Type 0 where
@@ -36,9 +36,9 @@ module _ (before serial : List ℕ) (latest wanted : ℕ) (p : Walkable before s
       go (here q) e = absurd (n e)
       go {z} (back q l) e = record { slot = z; leads = l; is = e }
 
-  pub met-on : (y z : ℕ) → MetFrom before serial latest wanted y → 0 < y → (get_or serial y 0 ≡ wanted → ⊥) → z ≡ get_or before y 0 → MetFrom before serial latest
+  pub met_on : (y z : ℕ) → MetFrom before serial latest wanted y → 0 < y → (get_or serial y 0 ≡ wanted → ⊥) → z ≡ get_or before y 0 → MetFrom before serial latest
       wanted z
-  met-on y z g q n e =
+  met_on y z g q n e =
       rw e
       (record {
         lent = omega (arith, p.earlier.each y q, g.lent);
@@ -49,21 +49,21 @@ module _ (before serial : List ℕ) (latest wanted : ℕ) (p : Walkable before s
   pub met_less : (y z : ℕ) → 0 < y → z ≡ get_or before y 0 → z < y
   met_less y z q e = omega (arith, p.earlier.each y q, e)
 
-  pub met-yes : (y : ℕ) → MetFrom before serial latest wanted y → 0 < y → get_or serial y 0 ≡ wanted → Decides (Met before serial latest wanted) true
-  met-yes y g q e = yes (g.to (record { slot = y; leads = here q; is = e }))
+  pub met_yes : (y : ℕ) → MetFrom before serial latest wanted y → 0 < y → get_or serial y 0 ≡ wanted → Decides (Met before serial latest wanted) true
+  met_yes y g q e = yes (g.to (record { slot = y; leads = here q; is = e }))
 
-  pub met-no : (y : ℕ) → MetFrom before serial latest wanted y → y ≤ 0 → Decides (Met before serial latest wanted) false
-  met-no y g q = no (λ m. omega (arith, leads-some (g.from m).leads, q))
+  pub met_no : (y : ℕ) → MetFrom before serial latest wanted y → y ≤ 0 → Decides (Met before serial latest wanted) false
+  met_no y g q = no (λ m. omega (arith, leads_some (g.from m).leads, q))
 
-pub ruleset met-exits = (met-yes, met-no)
+pub ruleset met-exits = (met_yes, met_no)
 
 -- ---- filing a slot
 -- two arrays that agree below x lead alike from below x
-agree-leads : (b c : List ℕ) (x : ℕ) → ((y : ℕ) → y < x → get_or c y 0 ≡ get_or b y 0) → ((y : ℕ) → 0 < y → get_or b y 0 < y) → {y z : ℕ} → y < x → Leads b y z →
+agree_leads : (b c : List ℕ) (x : ℕ) → ((y : ℕ) → y < x → get_or c y 0 ≡ get_or b y 0) → ((y : ℕ) → 0 < y → get_or b y 0 < y) → {y z : ℕ} → y < x → Leads b y z →
     Leads c y z
-agree-leads b c x a d h (here p) = here p
-agree-leads b c x a d {y} {z} h (back p l) =
-    back p (subst (λ (v : ℕ). Leads c v z) (sym (a y h)) (agree-leads b c x a d (omega (arith, d y p, h)) l))
+agree_leads b c x a d h (here p) = here p
+agree_leads b c x a d {y} {z} h (back p l) =
+    back p (subst (λ (v : ℕ). Leads c v z) (sym (a y h)) (agree_leads b c x a d (omega (arith, d y p, h)) l))
 
 zeros : (n i : ℕ) → ◌≡◌ {A = ℕ} (get_or (replicate n 0) i 0) 0
 zeros zero i = refl
@@ -71,17 +71,17 @@ zeros (suc n) zero = refl
 zeros (suc n) (suc i) = zeros n i
 
 -- nothing is filed yet
-pub file-start : (t : ℕ) (bucket serial : List ℕ) → Filed t bucket serial (replicate 4096 0) (replicate 4096 0) t
-file-start t bucket serial = start (replicate 4096 0) (length-replicate {A = ℕ} 4096 0) (zeros 4096)
+pub file_start : (t : ℕ) (bucket serial : List ℕ) → Filed t bucket serial (replicate 4096 0) (replicate 4096 0) t
+file_start t bucket serial = start (replicate 4096 0) (length-replicate {A = ℕ} 4096 0) (zeros 4096)
   where
     start : (zs : List ℕ) → length zs ≡ 4096 → ((i : ℕ) → get_or zs i 0 ≡ 0) → Filed t bucket serial zs zs t
     start zs l z =
         record {
-          latest-lent = l;
+          latest_lent = l;
           earlier = record { lent = l; each = λ y h. omega (arith, z y, h) };
           low = λ k h. absurd (omega (arith, z k, h));
           filed = λ v a h. absurd (omega (arith, a.after, h));
-          real = λ k v m. absurd (omega (arith, leads-some m, z k));
+          real = λ k v m. absurd (omega (arith, leads_some m, z k));
           differ = λ y v a b h i e. absurd (omega (arith, a.after, h));
         }
 
@@ -89,12 +89,12 @@ module _ (t : ℕ) (bucket serial latest before : List ℕ) (x : ℕ) (f : Filea
   abbrev o : Filed t bucket serial latest before x
   o = f.so_far
 
-  pub file-other : t ≤ get_or bucket x 0 → Files t bucket serial latest before x true
-  file-other h =
+  pub file_other : t ≤ get_or bucket x 0 → Files t bucket serial latest before x true
+  file_other h =
       record {
         filed = λ _.
             record {
-              latest-lent = o.latest-lent;
+              latest_lent = o.latest_lent;
               earlier = o.earlier;
               low = λ k p. omega (arith, o.low k p);
               filed = λ z a i. o.filed z a (still z a i);
@@ -108,8 +108,8 @@ module _ (t : ℕ) (bucket serial latest before : List ℕ) (x : ℕ) (f : Filea
       still z a i = ⊎_elim (λ (e : z ≡ x). absurd (omega (arith, (subst (λ (v : ℕ). Armed t bucket v) e a).names, h))) (λ (n : z ≡ x → ⊥). omega (arith, i, n))
           (same? z x)
 
-  pub file-walk : (k y : ℕ) → y ≡ get_or latest k 0 → Walkable before serial y
-  file-walk k y e =
+  pub file_walk : (k y : ℕ) → y ≡ get_or latest k 0 → Walkable before serial y
+  file_walk k y e =
       record {
         earlier = o.earlier;
         few = omega (arith, f.sized.same, f.sized.few);
@@ -118,17 +118,17 @@ module _ (t : ℕ) (bucket serial latest before : List ℕ) (x : ℕ) (f : Filea
       }
 
   module _ (h : get_or bucket x 0 < t) where
-    armed-x : Armed t bucket x
-    armed-x = record { after = f.beyond; lent = f.lent; names = h }
+    armed_x : Armed t bucket x
+    armed_x = record { after = f.beyond; lent = f.lent; names = h }
 
-    pub file-met : (k y : ℕ) (r : Bool) → y ≡ get_or latest k 0 → Decides (Met before serial y (get_or serial x 0)) r → r ≡ true → Files t bucket serial latest
+    pub file_met : (k y : ℕ) (r : Bool) → y ≡ get_or latest k 0 → Decides (Met before serial y (get_or serial x 0)) r → r ≡ true → Files t bucket serial latest
         before x false
-    file-met k y r e d i =
+    file_met k y r e d i =
         let m = d.sound i in
         let u = o.real k m.slot (rw e at m.leads) in
         record {
           filed = λ z. absurd (false≢true z);
-          twice = λ _ s. omega (arith, s.each m.slot x u.0 armed-x m.is, u.1);
+          twice = λ _ s. omega (arith, s.each m.slot x u.0 armed_x m.is, u.1);
         }
 
     abbrev key : ℕ
@@ -140,75 +140,75 @@ module _ (t : ℕ) (bucket serial latest before : List ℕ) (x : ℕ) (f : Filea
     abbrev before' : List ℕ
     before' = set before x (get_or latest key 0)
 
-    key-lent : key < length latest
-    key-lent = let b : key < 4096 = mod-lt (get_or serial x 0) (omega arith) in omega (arith, o.latest-lent)
+    key_lent : key < length latest
+    key_lent = let b : key < 4096 = mod-lt (get_or serial x 0) (omega arith) in omega (arith, o.latest_lent)
 
-    x-lent : x < length before
-    x-lent = omega (arith, o.earlier.lent, f.lent, f.sized.few)
+    x_lent : x < length before
+    x_lent = omega (arith, o.earlier.lent, f.lent, f.sized.few)
 
-    some-x : 0 < x
-    some-x = omega (arith, f.beyond, h)
+    some_x : 0 < x
+    some_x = omega (arith, f.beyond, h)
 
     at_key : get_or latest' key 0 ≡ x
-    at_key = get_or-set_same latest key x 0 key-lent
+    at_key = get_or-set_same latest key x 0 key_lent
 
-    off-key : (k : ℕ) → (k ≡ key → ⊥) → get_or latest' k 0 ≡ get_or latest k 0
-    off-key k n = get_or-set_other latest key k x 0 n
+    off_key : (k : ℕ) → (k ≡ key → ⊥) → get_or latest' k 0 ≡ get_or latest k 0
+    off_key k n = get_or-set_other latest key k x 0 n
 
     at_x : get_or before' x 0 ≡ get_or latest key 0
-    at_x = get_or-set_same before x (get_or latest key 0) 0 x-lent
+    at_x = get_or-set_same before x (get_or latest key 0) 0 x_lent
 
-    off-x : (y : ℕ) → (y ≡ x → ⊥) → get_or before' y 0 ≡ get_or before y 0
-    off-x y n = get_or-set_other before x y (get_or latest key 0) 0 n
+    off_x : (y : ℕ) → (y ≡ x → ⊥) → get_or before' y 0 ≡ get_or before y 0
+    off_x y n = get_or-set_other before x y (get_or latest key 0) 0 n
 
-    low-key : get_or latest key 0 < x
-    low-key = ⊎_elim (λ (p : 0 < get_or latest key 0). o.low key p) (λ p. omega (arith, p, some-x)) (below? 0 (get_or latest key 0))
+    low_key : get_or latest key 0 < x
+    low_key = ⊎_elim (λ (p : 0 < get_or latest key 0). o.low key p) (λ p. omega (arith, p, some_x)) (below? 0 (get_or latest key 0))
 
     earlier' : (y : ℕ) → 0 < y → get_or before' y 0 < y
     earlier' y p =
         ⊎_elim
-        (λ (e : y ≡ x). omega (arith, ap (λ (v : ℕ). get_or before' v 0) e, at_x, low-key, e))
-        (λ (n : y ≡ x → ⊥). omega (arith, off-x y n, o.earlier.each y p))
+        (λ (e : y ≡ x). omega (arith, ap (λ (v : ℕ). get_or before' v 0) e, at_x, low_key, e))
+        (λ (n : y ≡ x → ⊥). omega (arith, off_x y n, o.earlier.each y p))
         (same? y x)
 
     -- what was led to is led to, and the other way round
-    leads-now : (y z : ℕ) → y < x → Leads before y z → Leads before' y z
-    leads-now y z i l = agree-leads before before' x (λ v j. off-x v (λ e. omega (arith, e, j))) o.earlier.each i l
+    leads_now : (y z : ℕ) → y < x → Leads before y z → Leads before' y z
+    leads_now y z i l = agree_leads before before' x (λ v j. off_x v (λ e. omega (arith, e, j))) o.earlier.each i l
 
-    leads-then : (y z : ℕ) → y < x → Leads before' y z → Leads before y z
-    leads-then y z i l = agree-leads before' before x (λ v j. sym (off-x v (λ e. omega (arith, e, j)))) earlier' i l
+    leads_then : (y z : ℕ) → y < x → Leads before' y z → Leads before y z
+    leads_then y z i l = agree_leads before' before x (λ v j. sym (off_x v (λ e. omega (arith, e, j)))) earlier' i l
 
-    below-x : (k z : ℕ) → Leads before (get_or latest k 0) z → get_or latest k 0 < x
-    below-x k z l = o.low k (leads-some l)
+    below_x : (k z : ℕ) → Leads before (get_or latest k 0) z → get_or latest k 0 < x
+    below_x k z l = o.low k (leads_some l)
 
-    leads-from-x : (z : ℕ) → Leads before' x z → Armed t bucket z × (z < x + 1)
-    leads-from-x z (here p) = (armed-x, omega arith)
-    leads-from-x z (back p l) =
-        let u = o.real key z (leads-then (get_or latest key 0) z low-key (rw at_x at l)) in
+    leads_from_x : (z : ℕ) → Leads before' x z → Armed t bucket z × (z < x + 1)
+    leads_from_x z (here p) = (armed_x, omega arith)
+    leads_from_x z (back p l) =
+        let u = o.real key z (leads_then (get_or latest key 0) z low_key (rw at_x at l)) in
         (u.0, omega (arith, u.1))
 
     filed' : (z : ℕ) → Armed t bucket z → z < x + 1 → Leads before' (get_or latest' (get_or serial z 0 % 4096) 0) z
     filed' z a i =
         ⊎_elim
-        (λ (e : z ≡ x). subst (λ (v : ℕ). Leads before' (get_or latest' (get_or serial v 0 % 4096) 0) v) (sym e) (rw at_key (here some-x)))
+        (λ (e : z ≡ x). subst (λ (v : ℕ). Leads before' (get_or latest' (get_or serial v 0 % 4096) 0) v) (sym e) (rw at_key (here some_x)))
         (λ (n : z ≡ x → ⊥).
         let l = o.filed z a (omega (arith, i, n)) in
         ⊎_elim
         (λ (e : get_or serial z 0 % 4096 ≡ key).
         let l' : Leads before (get_or latest key 0) z = rw e at l in
-        rw (e, at_key) (back some-x (subst (λ (v : ℕ). Leads before' v z) (sym at_x) (leads-now (get_or latest key 0) z low-key l'))))
+        rw (e, at_key) (back some_x (subst (λ (v : ℕ). Leads before' v z) (sym at_x) (leads_now (get_or latest key 0) z low_key l'))))
         (λ (m : get_or serial z 0 % 4096 ≡ key → ⊥).
-        rw (off-key (get_or serial z 0 % 4096) m) (leads-now _ z (below-x (get_or serial z 0 % 4096) z l) l))
+        rw (off_key (get_or serial z 0 % 4096) m) (leads_now _ z (below_x (get_or serial z 0 % 4096) z l) l))
         (same? (get_or serial z 0 % 4096) key))
         (same? z x)
 
     real' : (k z : ℕ) → Leads before' (get_or latest' k 0) z → Armed t bucket z × (z < x + 1)
     real' k z l =
         ⊎_elim
-        (λ (e : k ≡ key). leads-from-x z (rw (e, at_key) at l))
+        (λ (e : k ≡ key). leads_from_x z (rw (e, at_key) at l))
         (λ (n : k ≡ key → ⊥).
-        let l' : Leads before' (get_or latest k 0) z = rw (off-key k n) at l in
-        let u = o.real k z (leads-then (get_or latest k 0) z (o.low k (leads-some l')) l') in
+        let l' : Leads before' (get_or latest k 0) z = rw (off_key k n) at l in
+        let u = o.real k z (leads_then (get_or latest k 0) z (o.low k (leads_some l')) l') in
         (u.0, omega (arith, u.1)))
         (same? k key)
 
@@ -216,7 +216,7 @@ module _ (t : ℕ) (bucket serial latest before : List ℕ) (x : ℕ) (f : Filea
     low' k p =
         ⊎_elim
         (λ (e : k ≡ key). omega (arith, ap (λ (v : ℕ). get_or latest' v 0) e, at_key))
-        (λ (n : k ≡ key → ⊥). let q : 0 < get_or latest k 0 = rw (off-key k n) at p in omega (arith, off-key k n, o.low k q))
+        (λ (n : k ≡ key → ⊥). let q : 0 < get_or latest k 0 = rw (off_key k n) at p in omega (arith, off_key k n, o.low k q))
         (same? k key)
 
     module _ (y : ℕ) (r : Bool) (e : y ≡ get_or latest (get_or serial x 0 % 4096) 0) (d : Decides (Met before serial y (get_or serial x 0)) r) (i : r ≡ false) where
@@ -241,12 +241,12 @@ module _ (t : ℕ) (bucket serial latest before : List ℕ) (x : ℕ) (f : Filea
           (same? z x))
           (same? y x)
 
-      pub file-new : Files t bucket serial (set latest (get_or serial x 0 % 4096) x) (set before x (get_or latest (get_or serial x 0 % 4096) 0)) x true
-      file-new =
+      pub file_new : Files t bucket serial (set latest (get_or serial x 0 % 4096) x) (set before x (get_or latest (get_or serial x 0 % 4096) 0)) x true
+      file_new =
           record {
             filed = λ _.
                 record {
-                  latest-lent = length-set latest key x ∙ o.latest-lent;
+                  latest_lent = length-set latest key x ∙ o.latest_lent;
                   earlier = record { lent = length-set before x (get_or latest key 0) ∙ o.earlier.lent; each = earlier' };
                   low = low';
                   filed = filed';
@@ -256,15 +256,15 @@ module _ (t : ℕ) (bucket serial latest before : List ℕ) (x : ℕ) (f : Filea
             twice = λ z. absurd (false≢true (sym z));
           }
 
-pub ruleset file-exits = (file-other, file-met, file-new)
+pub ruleset file-exits = (file_other, file_met, file_new)
 
 -- ---- all slots
 module _ (t : ℕ) (bucket serial latest before : List ℕ) (x : ℕ) where
-  pub file-on : (r : Bool) → Files t bucket serial latest before x r → not r ≡ false → Filed t bucket serial latest before (x + 1)
-  file-on r f e = f.filed (not-false r e)
+  pub file_on : (r : Bool) → Files t bucket serial latest before x r → not r ≡ false → Filed t bucket serial latest before (x + 1)
+  file_on r f e = f.filed (not-false r e)
 
-  pub differ-fail : (r : Bool) → Files t bucket serial latest before x r → not r ≡ true → Decides (SerialsDiffer t bucket serial) false
-  differ-fail r f e = no (f.twice (not-true r e))
+  pub differ_fail : (r : Bool) → Files t bucket serial latest before x r → not r ≡ true → Decides (SerialsDiffer t bucket serial) false
+  differ_fail r f e = no (f.twice (not_true r e))
 
-  pub differ-done : Filed t bucket serial latest before x → length bucket ≤ x → Decides (SerialsDiffer t bucket serial) true
-  differ-done f h = yes (record { each = λ y z a b e. f.differ y z a b (omega (arith, a.lent, h)) (omega (arith, b.lent, h)) e })
+  pub differ_done : Filed t bucket serial latest before x → length bucket ≤ x → Decides (SerialsDiffer t bucket serial) true
+  differ_done f h = yes (record { each = λ y z a b e. f.differ y z a b (omega (arith, a.lent, h)) (omega (arith, b.lent, h)) e })

@@ -9,51 +9,51 @@ use lib.ListN.{length}
 use Rattle.numbers.specs.Shared.{In}
 use Rattle.deque_rules.specs.Links.{Links, deq}
 use Rattle.deque_rules.specs.Lists.{turn as turnLists}
-use Rattle.deque_rules.specs.Change.{turnTo, HeldBy, Turns}
+use Rattle.deque_rules.specs.Change.{turn_to, HeldBy, Turns}
 use Rattle.numbers.proofs.Members.{app_right, in-same}
-use Rattle.deque_rules.proofs.Laws.{home-turned}
-use Rattle.rules.specs.Places.{wheel01, buckets, visitedAt, bucketAt, ahead}
+use Rattle.deque_rules.proofs.Laws.{home_turned}
+use Rattle.rules.specs.Places.{wheel01, buckets, visited_at, bucket_at, ahead}
 use Rattle.rules.specs.Wheel.{enter, closed, within, Wheel, Answer, end}
-use Rattle.rules.specs.Calls.{swept, pulled, withLists, withClock}
+use Rattle.rules.specs.Calls.{swept, pulled, with_lists, with_clock}
 use Rattle.rules.specs.Sound.{Sound}
-use Rattle.numbers.proofs.Cases.{not-both}
-use Rattle.rules.proofs.SoundLists.{sound-enter}
+use Rattle.numbers.proofs.Cases.{not_both}
+use Rattle.rules.proofs.SoundLists.{sound_enter}
 use Rattle.wheel_rules.specs.declared.calls.Clock.{Clock}
 use Rattle.wheel_rules.specs.Lent.{Entries, records, Shows}
 use Rattle.wheel_rules.specs.records.Records.{join}
 use Rattle.wheel_rules.specs.records.Clocks.{standing}
-use Rattle.wheel_rules.specs.records.Counts.{armedAmong}
+use Rattle.wheel_rules.specs.records.Counts.{armed_among}
 use Rattle.wheel_rules.specs.records.Moments.{EndsAdvance}
-use Rattle.wheel_rules.proofs.records.Showing.{tied-enter}
-use Rattle.wheel_rules.proofs.records.Tying.{tied, untied-nodes}
+use Rattle.wheel_rules.proofs.records.Showing.{tied_enter}
+use Rattle.wheel_rules.proofs.records.Tying.{tied, untied_nodes}
 use Rattle.wheel_rules.proofs.records.Retiming.{retimed}
 use Rattle.wheel_rules.specs.declared.popping.Position.{Position}
 use Rattle.wheel_rules.specs.declared.popping.Pulled.TheVariants.{End}
 use Rattle.wheel_rules.specs.popping.Position.{onward}
-use Rattle.wheel_rules.specs.popping.Pop.{goes, stops, nextPosition, Outcome}
+use Rattle.wheel_rules.specs.popping.Pop.{goes, stops, next_position, Outcome}
 use Rattle.wheel_rules.specs.turns.Turns.{OnReady, GoesOn}
-use Rattle.wheel_rules.proofs.popping.Positions.{Leads, leads, bucketAt-in}
+use Rattle.wheel_rules.proofs.popping.Positions.{Leads, leads, bucket_at_in}
 use Rattle.wheel_rules.proofs.popping.Turning.{after}
-use Rattle.wheel_rules.proofs.popping.Waiting.{to-sweep}
+use Rattle.wheel_rules.proofs.popping.Waiting.{to_sweep}
 
 module _ (a : Links) (c : Clock) (y : OnReady wheel01 a c) (r : Position) (e : r ≡ onward wheel01 c.previous c.reading c.level c.step) where
   lead : Leads wheel01 c.previous c.reading c.level c.step r
   lead = subst (Leads wheel01 c.previous c.reading c.level c.step) (sym e) (leads wheel01 c.previous c.reading c.level c.step)
 
   -- the advance ends
-  pub on-ends : (k : Clock) → r.more ≡ false → EndsAdvance wheel01 c k → GoesOn wheel01 a c a (stops k End)
-  on-ends k m z =
-      let f : (nextPosition wheel01 c).more ≡ false = ap (λ (x : Position). x.more) (sym e) ∙ m in
+  pub on_ends : (k : Clock) → r.more ≡ false → EndsAdvance wheel01 c k → GoesOn wheel01 a c a (stops k End)
+  on_ends k m z =
+      let f : (next_position wheel01 c).more ≡ false = ap (λ (x : Position). x.more) (sym e) ∙ m in
       record {
         is = rw f;
         turn_is = rw f (ap (λ (x : Clock). stops x End) z.is);
-        nears = record { less = λ i. absurd (not-both i); opened = λ i. absurd (not-both i) };
+        nears = record { less = λ i. absurd (not_both i); opened = λ i. absurd (not_both i) };
         does = λ pe ph pn E w s o.
             let q : pulled wheel01 w.entry w.reading w.advance w.lists ≡ record { answer = end; advance = closed; lists = w.lists } =
-            to-sweep wheel01 (join a pe ph pn) E c w s o y.turn.opened y.front
+            to_sweep wheel01 (join a pe ph pn) E c w s o y.turn.opened y.front
             ∙ ap (λ (l : List ℕ). swept wheel01 w.entry c.previous w.reading l w.lists) (lead.none m) in
             record {
-              on = λ i. absurd (not-both i);
+              on = λ i. absurd (not_both i);
               stop = λ i.
                   subst (λ (x : Answer × Wheel). (x.0 ≡ end) × Shows wheel01 (records (join a pe ph pn) E k) x.1) (sym (ap (after w) q))
                   (refl, z.does (join a pe ph pn) E w s);
@@ -61,20 +61,20 @@ module _ (a : Links) (c : Clock) (y : OnReady wheel01 a c) (r : Position) (e : r
       }
 
   module _ (m : r.more ≡ true) where
-    some : (i : ℕ) × (r.step ≡ suc i) × (i < visitedAt wheel01 c.previous c.reading r.level)
-        × (ahead wheel01 c.previous c.reading c.level c.step ≡ bucketAt wheel01 c.previous r.level i ∷ ahead wheel01 c.previous
+    some : (i : ℕ) × (r.step ≡ suc i) × (i < visited_at wheel01 c.previous c.reading r.level)
+        × (ahead wheel01 c.previous c.reading c.level c.step ≡ bucket_at wheel01 c.previous r.level i ∷ ahead wheel01 c.previous
         c.reading r.level (suc i))
     some = lead.some m
 
-    pub step-some : 0 < r.step
-    step-some = omega (arith, some.1)
+    pub step_some : 0 < r.step
+    step_some = omega (arith, some.1)
 
-    module _ (b : ℕ) (eb : b ≡ bucketAt wheel01 c.previous r.level (r.step - 1)) where
+    module _ (b : ℕ) (eb : b ≡ bucket_at wheel01 c.previous r.level (r.step - 1)) where
       hb : b < buckets wheel01
-      hb = omega (arith, eb, bucketAt-in wheel01 c.previous r.level (r.step - 1))
+      hb = omega (arith, eb, bucket_at_in wheel01 c.previous r.level (r.step - 1))
 
-      pub enter-asks : HeldBy a b b
-      enter-asks =
+      pub enter_asks : HeldBy a b b
+      enter_asks =
           let z = y.turn.ready.shows in
           let i : In b (deq z.lists b) = in-same b (sym (z.bucket b hb))
           (app_right (y.turn.ready.w.lists.bucket b).early (b ∷ (y.turn.ready.w.lists.bucket b).late) b (inl refl)) in
@@ -88,58 +88,58 @@ module _ (a : Links) (c : Clock) (y : OnReady wheel01 a c) (r : Position) (e : r
           }
 
       module _ (a' : Links) (u : Turns a a' b b) where
-        on-does : (pe ph pn : List ℕ) (E : Entries) (w : Wheel) → Shows wheel01 (records (join a pe ph pn) E c) w → Sound wheel01 w
+        on_does : (pe ph pn : List ℕ) (E : Entries) (w : Wheel) → Shows wheel01 (records (join a pe ph pn) E c) w → Sound wheel01 w
             → Outcome wheel01 (records (join a' pe ph pn) E (standing r.level r.step c)) (goes (standing r.level r.step c)) w
-        on-does pe ph pn E w s o =
+        on_does pe ph pn E w s o =
             let i : ℕ = some.0 in
             let p : ℕ = c.previous in
             let bs : List ℕ = ahead wheel01 p c.reading r.level (suc i) in
             let ei : r.step - 1 ≡ i = omega (arith, some.1) in
-            let bi : b ≡ bucketAt wheel01 p r.level i = eb ∙ ap (bucketAt wheel01 p r.level) ei in
-            let s1 : Shows wheel01 (records (join a' pe ph pn) E c) (withLists (enter b w.lists) w) =
-            untied-nodes wheel01 (join a pe ph pn) (join a' pe ph pn) E c w (turnLists b b s.lists) (enter b w.lists) s
-            (tied-enter (buckets wheel01) w.nodes w.entries w.next (join a pe ph pn) s.lists w.lists
+            let bi : b ≡ bucket_at wheel01 p r.level i = eb ∙ ap (bucket_at wheel01 p r.level) ei in
+            let s1 : Shows wheel01 (records (join a' pe ph pn) E c) (with_lists (enter b w.lists) w) =
+            untied_nodes wheel01 (join a pe ph pn) (join a' pe ph pn) E c w (turnLists b b s.lists) (enter b w.lists) s
+            (tied_enter (buckets wheel01) w.nodes w.entries w.next (join a pe ph pn) s.lists w.lists
             (tied wheel01 (records (join a pe ph pn) E c) w s) o.lists b a' hb
-            (u.does s.lists [] s.rep) (ap (λ (x : Links). x.home) u.is ∙ home-turned a b b)) s.free-is in
+            (u.does s.lists [] s.rep) (ap (λ (x : Links). x.home) u.is ∙ home_turned a b b)) s.free_is in
             let s2 : Shows wheel01 (records (join a' pe ph pn) E (standing r.level r.step c))
-            (withClock w.reading (within p b bs) (withLists (enter b w.lists) w)) =
-            retimed wheel01 (join a' pe ph pn) E c (withLists (enter b w.lists) w) c.open p r.level r.step c.reading w.reading
+            (with_clock w.reading (within p b bs) (with_lists (enter b w.lists) w)) =
+            retimed wheel01 (join a' pe ph pn) E c (with_lists (enter b w.lists) w) c.open p r.level r.step c.reading w.reading
             (within p b bs) s1 s.reading
             (i, y.turn.opened, refl, some.1, some.2, bi, refl) in
             let q : pulled wheel01 w.entry w.reading w.advance w.lists ≡ swept wheel01 w.entry p w.reading (b ∷ bs) w.lists =
-            to-sweep wheel01 (join a pe ph pn) E c w s o y.turn.opened y.front
+            to_sweep wheel01 (join a pe ph pn) E c w s o y.turn.opened y.front
             ∙ ap (λ (l : List ℕ). swept wheel01 w.entry p w.reading l w.lists) (some.3 ∙ ap (λ (k : ℕ). k ∷ bs) (sym bi)) in
             record {
               on = λ z. (
-                withClock w.reading (within p b bs) (withLists (enter b w.lists) w),
+                with_clock w.reading (within p b bs) (with_lists (enter b w.lists) w),
                 s2,
                 record {
-                  lists = sound-enter (buckets wheel01) w.nodes w.entries w.next b w.lists o.lists;
-                  advance = subst (λ (k : ℕ). (l : ℕ) × (j : ℕ) × (j < visitedAt wheel01 p k l) × (b ≡ bucketAt wheel01 p l j) ×
+                  lists = sound_enter (buckets wheel01) w.nodes w.entries w.next b w.lists o.lists;
+                  advance = subst (λ (k : ℕ). (l : ℕ) × (j : ℕ) × (j < visited_at wheel01 p k l) × (b ≡ bucket_at wheel01 p l j) ×
                       (bs ≡ ahead wheel01 p k l (suc j))) s.reading
                       (r.level, i, some.2, bi, refl);
                 },
                 sym (ap (after w) q),
               );
-              stop = λ z. absurd (not-both (sym z));
+              stop = λ z. absurd (not_both (sym z));
             }
 
-        pub on-goes : GoesOn wheel01 a c a' (goes (standing r.level r.step c))
-        on-goes =
-            let f : (nextPosition wheel01 c).more ≡ true = ap (λ (x : Position). x.more) (sym e) ∙ m in
+        pub on_goes : GoesOn wheel01 a c a' (goes (standing r.level r.step c))
+        on_goes =
+            let f : (next_position wheel01 c).more ≡ true = ap (λ (x : Position). x.more) (sym e) ∙ m in
             record {
-              is = rw f (u.is ∙ ap (λ (k : ℕ). turnTo a k k) eb ∙ ap
-                  (λ (x : Position). turnTo a (bucketAt wheel01 c.previous x.level (x.step - 1))
-                  (bucketAt wheel01 c.previous x.level (x.step - 1))) e);
+              is = rw f (u.is ∙ ap (λ (k : ℕ). turn_to a k k) eb ∙ ap
+                  (λ (x : Position). turn_to a (bucket_at wheel01 c.previous x.level (x.step - 1))
+                  (bucket_at wheel01 c.previous x.level (x.step - 1))) e);
               turn_is = rw f (ap (λ (x : Position). goes (standing x.level x.step c)) e);
               nears = record {
                 less = λ i.
-                    let h : a'.home ≡ a.home = ap (λ (x : Links). x.home) u.is ∙ home-turned a b b in
+                    let h : a'.home ≡ a.home = ap (λ (x : Links). x.home) u.is ∙ home_turned a b b in
                     let k : length (ahead wheel01 c.previous c.reading c.level c.step) ≡ suc
                     (length (ahead wheel01 c.previous c.reading r.level r.step)) =
                     ap length some.3 ∙ ap (λ (j : ℕ). suc (length (ahead wheel01 c.previous c.reading r.level j))) (sym some.1) in
-                    omega (arith, k, ap (λ (l : List ℕ). armedAmong (buckets wheel01) l (length l)) h);
+                    omega (arith, k, ap (λ (l : List ℕ). armed_among (buckets wheel01) l (length l)) h);
                 opened = λ i. y.turn.opened;
               };
-              does = on-does;
+              does = on_does;
             }

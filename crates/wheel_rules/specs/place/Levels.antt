@@ -19,5 +19,5 @@ first01 l = first_of dense 0 wheel01.sizes l
 abbrev pub index_at : ℕ → ℕ → ℕ
 index_at l t = tick (shift01 l) t % 2 ^ size01 l
 
-abbrev pub placeAt : ℕ → ℕ → Place
-placeAt l t = record { bucket = first01 l + index_at l t; number = min l 4 * 64 + index_at l t }
+abbrev pub place_at : ℕ → ℕ → Place
+place_at l t = record { bucket = first01 l + index_at l t; number = min l 4 * 64 + index_at l t }

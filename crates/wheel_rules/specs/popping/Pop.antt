@@ -3,7 +3,7 @@
 use Rattle.std.specs.Prelude.{ℕ, suc, ◌+◌, ◌-◌, ◌<◌, Bool, true, false, cond, List, ◌≡◌, eqb, leb, length, get_or}
 use Rattle.numbers.specs.Shared.{no_slot}
 use Rattle.rules.specs.Calls.{act}
-use Rattle.rules.specs.Places.{Geometry, buckets, bucketOf, place_of, bucketAt, ahead}
+use Rattle.rules.specs.Places.{Geometry, buckets, bucket_of, place_of, bucket_at, ahead}
 use Rattle.rules.specs.Sound.{Sound}
 use Rattle.rules.specs.Wheel.{Wheel, Answer, end, expired, rescheduled, pull}
 use Rattle.wheel_rules.specs.Lent.{Nodes, entries, Records, records, Shows}
@@ -13,9 +13,9 @@ use Rattle.wheel_rules.specs.declared.popping.Pulled.TheVariants.{Expired, Resch
 use Rattle.wheel_rules.specs.declared.popping.Turn.{Turn}
 use Rattle.wheel_rules.specs.declared.calls.Clock.{Clock}
 use Rattle.wheel_rules.specs.popping.Position.{onward}
-use Rattle.wheel_rules.specs.records.Clocks.{setFree}
-use Rattle.wheel_rules.specs.records.Counts.{armedAmong}
-use Rattle.wheel_rules.specs.timers.Change.{freedFrom, moved_to}
+use Rattle.wheel_rules.specs.records.Clocks.{set_free}
+use Rattle.wheel_rules.specs.records.Counts.{armed_among}
+use Rattle.wheel_rules.specs.timers.Change.{freed_from, moved_to}
 use Rattle.wheel_rules.specs.timers.Timers.{Ready}
 
 -- what a pull's answer says: "End"; "Expired(entry, serial, deadline)"; "Rescheduled(entry, serial, new place)"
@@ -32,41 +32,41 @@ abbrev pub stops : Clock → Pulled → Turn
 stops c a = record { going = false; clock = c; event = a }
 
 -- the bucket that the advance stands in
-abbrev pub standsIn : Geometry → Clock → ℕ
-standsIn g c = bucketAt g c.previous c.level (c.step - 1)
+abbrev pub stands_in : Geometry → Clock → ℕ
+stands_in g c = bucket_at g c.previous c.level (c.step - 1)
 
 -- the first node before its sentinel, or none; before the first bucket none
-abbrev pub waitingAt : Geometry → List ℕ → Clock → ℕ
-waitingAt g heads c =
+abbrev pub waiting_at : Geometry → List ℕ → Clock → ℕ
+waiting_at g heads c =
     cond (eqb c.step 0) no_slot
-    (cond (eqb (get_or heads (standsIn g c) 0) (standsIn g c)) no_slot (get_or heads (standsIn g c) 0))
+    (cond (eqb (get_or heads (stands_in g c) 0) (stands_in g c)) no_slot (get_or heads (stands_in g c) 0))
 
 -- where the visit goes on
-abbrev pub nextPosition : Geometry → Clock → Position
-nextPosition g c = onward g c.previous c.reading c.level c.step
+abbrev pub next_position : Geometry → Clock → Position
+next_position g c = onward g c.previous c.reading c.level c.step
 
 -- "nodes before the sentinel are popped in turn. No deadline: slot freed, no event. Deadline at most q: freed,
 -- Expired(entry, serial, deadline). Otherwise placed anew with reading q, at the back: Rescheduled(entry, serial, new
 -- place)"
-abbrev pub popNodes : Geometry → Nodes → List Bool → List ℕ → Clock → ℕ → Nodes
-popNodes g N t d c x =
+abbrev pub pop_nodes : Geometry → Nodes → List Bool → List ℕ → Clock → ℕ → Nodes
+pop_nodes g N t d c x =
     let e : ℕ = get_or N.entry x 0 in
     cond (get_or t e false)
-    (cond (leb (get_or d e 0) c.reading) (freedFrom x c.free N) (moved_to (bucketOf g c.reading (get_or d e 0)) x N))
-    (freedFrom x c.free N)
+    (cond (leb (get_or d e 0) c.reading) (freed_from x c.free N) (moved_to (bucket_of g c.reading (get_or d e 0)) x N))
+    (freed_from x c.free N)
 
-abbrev pub popTurn : Geometry → Nodes → List Bool → List ℕ → Clock → ℕ → Turn
-popTurn g N t d c x =
+abbrev pub pop_turn : Geometry → Nodes → List Bool → List ℕ → Clock → ℕ → Turn
+pop_turn g N t d c x =
     let e : ℕ = get_or N.entry x 0 in
     let n : ℕ = get_or N.serial x 0 in
     cond (get_or t e false)
-    (cond (leb (get_or d e 0) c.reading) (stops (setFree x c) (Expired e n (get_or d e 0))) (stops c (Rescheduled e n (place_of g c.reading (get_or d e 0)))))
-    (goes (setFree x c))
+    (cond (leb (get_or d e 0) c.reading) (stops (set_free x c) (Expired e n (get_or d e 0))) (stops c (Rescheduled e n (place_of g c.reading (get_or d e 0)))))
+    (goes (set_free x c))
 
 -- how many turns there can be: one for each bucket ahead and each armed slot
 abbrev pub left : Geometry → List ℕ → Clock → ℕ
 left g bucket c =
-    length (ahead g c.previous c.reading c.level c.step) + armedAmong (buckets g) bucket (length bucket)
+    length (ahead g c.previous c.reading c.level c.step) + armed_among (buckets g) bucket (length bucket)
 
 -- ---- what is asked
 -- the records show a sound wheel with an open advance
@@ -78,7 +78,7 @@ pub record TurnReady (g : Geometry) (N : Nodes) (t : List Bool) (d : List ℕ) (
 -- the node x waits
 pub record PopReady (g : Geometry) (N : Nodes) (t : List Bool) (d : List ℕ) (c : Clock) (x : ℕ) : Type 0 where
   pub turn : TurnReady g N t d c
-  pub front : x ≡ waitingAt g N.links.heads c
+  pub front : x ≡ waiting_at g N.links.heads c
   pub slot : x < length N.links.next
 
 -- ---- what is done
@@ -93,8 +93,8 @@ pub record Outcome (g : Geometry) (R : Records) (r : Turn) (w : Wheel) : Type 0 
   pub stop : r.going ≡ false → ((act g w pull).0 ≡ told r.event) × Shows g R (act g w pull).1
 
 pub record Pops (g : Geometry) (N : Nodes) (t : List Bool) (d : List ℕ) (c : Clock) (x : ℕ) (N' : Nodes) (r : Turn) : Type 0 where
-  pub is : N' ≡ popNodes g N t d c x
-  pub turn_is : r ≡ popTurn g N t d c x
+  pub is : N' ≡ pop_nodes g N t d c x
+  pub turn_is : r ≡ pop_turn g N t d c x
   pub nears : Nears g c N.links.home N'.links.home r
   pub does :
       (ages : List ℕ) (w : Wheel) → Shows g (records N (entries t d ages) c) w → Sound g w →

@@ -1,6 +1,6 @@
 -- inner: the position of an advance, by level and step, and the next one.
 use Rattle.std.specs.Prelude.{ℕ, ◌+◌, true, false, cond, ltb, length}
-use Rattle.rules.specs.Places.{Geometry, visitedAt}
+use Rattle.rules.specs.Places.{Geometry, visited_at}
 use Rattle.wheel_rules.specs.declared.popping.Position.{Position}
 
 -- in the j-th bucket of the level l
@@ -15,5 +15,5 @@ over = record { more = false; level = 0; step = 0 }
 -- of the level l comes the next one of that level, else the first of the next level, if there is one and it visits any
 abbrev pub onward : Geometry → ℕ → ℕ → ℕ → ℕ → Position
 onward g p q l j =
-    cond (ltb j (visitedAt g p q l)) (at l (j + 1))
-    (cond (ltb l (length g.sizes)) (cond (ltb 0 (visitedAt g p q (l + 1))) (at (l + 1) 1) over) over)
+    cond (ltb j (visited_at g p q l)) (at l (j + 1))
+    (cond (ltb l (length g.sizes)) (cond (ltb 0 (visited_at g p q (l + 1))) (at (l + 1) 1) over) over)

@@ -9,7 +9,7 @@ use Rattle.wheel_rules.specs.declared.popping.Pulled.{Pulled}
 use Rattle.wheel_rules.specs.declared.popping.Turn.{Turn}
 use Rattle.wheel_rules.specs.declared.calls.Clock.{Clock}
 use Rattle.wheel_rules.specs.popping.Pop.{told, goes, left}
-use Rattle.wheel_rules.specs.turns.Turns.{turnNodes, turnTurn}
+use Rattle.wheel_rules.specs.turns.Turns.{turn_nodes, turn_turn}
 
 -- the node records after so many turns, and the last turn
 pub record Step : Type 0 where
@@ -20,21 +20,21 @@ pub record Step : Type 0 where
 abbrev pub turns : Geometry → List Bool → List ℕ → ℕ → Nodes → Clock → Step
 turns g t d zero N c = record { nodes = N; turn = goes c }
 turns g t d (suc k) N c =
-    let r : Turn = turnTurn g N t d c in
-    let M : Nodes = turnNodes g N t d c in
+    let r : Turn = turn_turn g N t d c in
+    let M : Nodes = turn_nodes g N t d c in
     cond r.going (turns g t d k M r.clock) (record { nodes = M; turn = r })
 
 -- a pull. So many turns are enough (the law `enough`): each that goes on enters a bucket ahead or frees an armed slot
-abbrev pub pullStep : Geometry → List Bool → List ℕ → Nodes → Clock → Step
-pullStep g t d N c = turns g t d (suc (left g N.links.home c)) N c
+abbrev pub pull_step : Geometry → List Bool → List ℕ → Nodes → Clock → Step
+pull_step g t d N c = turns g t d (suc (left g N.links.home c)) N c
 
 -- "Pull: one event, or End"
 pub record Pulls (g : Geometry) (N : Nodes) (t : List Bool) (d : List ℕ) (c : Clock) (N' : Nodes) (c' : Clock) (a : Pulled) : Type 0 where
-  pub is : N' ≡ (pullStep g t d N c).nodes
-  pub clock-is : c' ≡ (pullStep g t d N c).turn.clock
-  pub event-is : a ≡ (pullStep g t d N c).turn.event
+  pub is : N' ≡ (pull_step g t d N c).nodes
+  pub clock_is : c' ≡ (pull_step g t d N c).turn.clock
+  pub event_is : a ≡ (pull_step g t d N c).turn.event
   -- the turns reached the answer
-  pub enough : (pullStep g t d N c).turn.going ≡ false
+  pub enough : (pull_step g t d N c).turn.going ≡ false
   pub does :
       (ages : List ℕ) (w : Wheel) → Shows g (records N (entries t d ages) c) w → Sound g w →
       ((act g w pull).0 ≡ told a) × Shows g (records N' (entries t d ages) c') (act g w pull).1

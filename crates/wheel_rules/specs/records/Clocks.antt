@@ -5,8 +5,8 @@ use Rattle.std.specs.Prelude.{ℕ, ◌+◌, Bool, true, false}
 use Rattle.wheel_rules.specs.declared.calls.Clock.{Clock}
 
 -- the first free slot is f
-abbrev pub setFree : ℕ → Clock → Clock
-setFree f c = record {
+abbrev pub set_free : ℕ → Clock → Clock
+set_free f c = record {
   enabled = c.enabled;
   reading = c.reading;
   serial = c.serial;
@@ -20,8 +20,8 @@ setFree f c = record {
 }
 
 -- the next serial is n
-abbrev pub setSerial : ℕ → Clock → Clock
-setSerial n c = record {
+abbrev pub set_serial : ℕ → Clock → Clock
+set_serial n c = record {
   enabled = c.enabled;
   reading = c.reading;
   serial = n;
@@ -35,8 +35,8 @@ setSerial n c = record {
 }
 
 -- the reading is q
-abbrev pub setReading : ℕ → Clock → Clock
-setReading q c = record {
+abbrev pub set_reading : ℕ → Clock → Clock
+set_reading q c = record {
   enabled = c.enabled;
   reading = q;
   serial = c.serial;
@@ -50,8 +50,8 @@ setReading q c = record {
 }
 
 -- whether an advance is open, the reading that it started from, and its position
-abbrev pub setAdvance : Bool → ℕ → ℕ → ℕ → Clock → Clock
-setAdvance o p l j c = record {
+abbrev pub set_advance : Bool → ℕ → ℕ → ℕ → Clock → Clock
+set_advance o p l j c = record {
   enabled = c.enabled;
   reading = c.reading;
   serial = c.serial;
@@ -65,8 +65,8 @@ setAdvance o p l j c = record {
 }
 
 -- enabled, with the lent lengths
-abbrev pub setLengths : ℕ → ℕ → Clock → Clock
-setLengths m k c = record {
+abbrev pub set_lengths : ℕ → ℕ → Clock → Clock
+set_lengths m k c = record {
   enabled = true;
   reading = c.reading;
   serial = c.serial;
@@ -82,20 +82,20 @@ setLengths m k c = record {
 -- ---- what the calls do to the clock
 -- "Start(q): the reading becomes q, the old one p is kept." It stands before the first bucket
 abbrev pub started : ℕ → Clock → Clock
-started q c = setReading q (setAdvance true c.reading 0 0 c)
+started q c = set_reading q (set_advance true c.reading 0 0 c)
 
 -- "End, which closes the advance and keeps q"
 abbrev pub ended : Clock → Clock
-ended c = setAdvance false 0 0 0 c
+ended c = set_advance false 0 0 0 c
 
 -- "Abandon: closes and restores p"
 abbrev pub abandoned : Clock → Clock
-abandoned c = setReading c.previous (ended c)
+abandoned c = set_reading c.previous (ended c)
 
 -- the advance stands in the j-th bucket of the level l
 abbrev pub standing : ℕ → ℕ → Clock → Clock
-standing l j c = setAdvance c.open c.previous l j c
+standing l j c = set_advance c.open c.previous l j c
 
 -- "Serials count up by one per arming": one more, and the first free slot is f
 abbrev pub counted : ℕ → Clock → Clock
-counted f c = setFree f (setSerial (c.serial + 1) c)
+counted f c = set_free f (set_serial (c.serial + 1) c)

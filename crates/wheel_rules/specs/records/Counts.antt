@@ -4,16 +4,16 @@ use Rattle.std.proofs.Math.Option.{Option, none, some}
 use Rattle.rules.specs.Calls.{sooner, act}
 use Rattle.rules.specs.Places.{Geometry}
 use Rattle.rules.specs.Sound.{Sound}
-use Rattle.rules.specs.Wheel.{Wheel, armedCount, nextDue, number, due}
+use Rattle.rules.specs.Wheel.{Wheel, armed_count, next_due, number, due}
 use Rattle.wheel_rules.specs.Lent.{nodes, Entries, entries, records, Shows}
 use Rattle.wheel_rules.specs.declared.calls.Clock.{Clock}
 use Rattle.wheel_rules.specs.declared.records.Due.{Due}
 use Rattle.wheel_rules.specs.declared.records.Due.TheVariants.{At, Nothing}
 
 -- how many of the slots from the total D on and below k are armed
-abbrev pub armedAmong : ℕ → List ℕ → ℕ → ℕ
-armedAmong D bucket zero = 0
-armedAmong D bucket (suc k) = cond (leb D k) (cond (ltb (get_or bucket k 0) D) 1 0) 0 + armedAmong D bucket k
+abbrev pub armed_among : ℕ → List ℕ → ℕ → ℕ
+armed_among D bucket zero = 0
+armed_among D bucket (suc k) = cond (leb D k) (cond (ltb (get_or bucket k 0) D) 1 0) 0 + armed_among D bucket k
 
 -- 1 where the bucket is one of the total, else 0
 pub record IsOne (total bucket r : ℕ) : Type 0 where
@@ -22,16 +22,16 @@ pub record IsOne (total bucket r : ℕ) : Type 0 where
 
 -- armed count: the number of armed slots
 pub record Counts (g : Geometry) (heads bucket : List ℕ) (r : ℕ) : Type 0 where
-  pub is : r ≡ armedAmong (length heads) bucket (length bucket)
+  pub is : r ≡ armed_among (length heads) bucket (length bucket)
   pub does :
       (t n p e h s : List ℕ) (E : Entries) (c : Clock) (w : Wheel) → Shows g (records (nodes heads t n p bucket e h s) E c) w → Sound g w →
-      (act g w armedCount).0 ≡ number r
+      (act g w armed_count).0 ≡ number r
 
 -- ---- next due
 -- what the answer says: a deadline, or none
-abbrev pub dueTold : Due → Option ℕ
-dueTold (At d) = some d
-dueTold Nothing = none
+abbrev pub due_told : Due → Option ℕ
+due_told (At d) = some d
+due_told Nothing = none
 
 -- the key of the slot x: the deadline that its entry holds, where it is armed
 abbrev pub key_at : ℕ → List ℕ → List ℕ → List Bool → List ℕ → ℕ → Option ℕ
@@ -39,10 +39,10 @@ key_at D bucket entry t d x =
     cond (ltb (get_or bucket x 0) D) (cond (get_or t (get_or entry x 0) false) (some (get_or d (get_or entry x 0) 0)) none) none
 
 -- the least key of the slots from the total D on and below k
-abbrev pub leastAmong : ℕ → List ℕ → List ℕ → List Bool → List ℕ → ℕ → Option ℕ
-leastAmong D bucket entry t d zero = none
-leastAmong D bucket entry t d (suc k) =
-    sooner (cond (leb D k) (key_at D bucket entry t d k) none) (leastAmong D bucket entry t d k)
+abbrev pub least_among : ℕ → List ℕ → List ℕ → List Bool → List ℕ → ℕ → Option ℕ
+least_among D bucket entry t d zero = none
+least_among D bucket entry t d (suc k) =
+    sooner (cond (leb D k) (key_at D bucket entry t d k) none) (least_among D bucket entry t d k)
 
 -- the entry of the slot x exists, where x is armed
 pub record KeyReady (D : ℕ) (bucket entry : List ℕ) (t : List Bool) (d : List ℕ) (x : ℕ) : Type 0 where
@@ -53,20 +53,20 @@ pub record KeyReady (D : ℕ) (bucket entry : List ℕ) (t : List Bool) (d : Lis
 
 -- the same of all slots from the total on
 pub record DueReady (heads bucket entry : List ℕ) (t : List Bool) (d : List ℕ) : Type 0 where
-  pub entry-len : length entry ≡ length bucket
+  pub entry_len : length entry ≡ length bucket
   pub room : length heads ≤ length bucket
   pub dated : (x : ℕ) → length heads ≤ x → x < length bucket → get_or bucket x 0 < length heads → get_or entry x 0 < length t
   pub deadline : (x : ℕ) → length heads ≤ x → x < length bucket → get_or bucket x 0 < length heads → get_or entry x 0 < length d
 
 pub record FindsKey (D : ℕ) (bucket entry : List ℕ) (t : List Bool) (d : List ℕ) (x : ℕ) (r : Due) : Type 0 where
-  pub is : dueTold r ≡ key_at D bucket entry t d x
+  pub is : due_told r ≡ key_at D bucket entry t d x
 
 pub record Sooner (a b r : Due) : Type 0 where
-  pub is : dueTold r ≡ sooner (dueTold a) (dueTold b)
+  pub is : due_told r ≡ sooner (due_told a) (due_told b)
 
 -- "the smallest deadline among armed timers, or none"
 pub record FindsDue (g : Geometry) (heads bucket entry : List ℕ) (t : List Bool) (d : List ℕ) (r : Due) : Type 0 where
-  pub is : dueTold r ≡ leastAmong (length heads) bucket entry t d (length bucket)
+  pub is : due_told r ≡ least_among (length heads) bucket entry t d (length bucket)
   pub does :
       (tl n p h s ge : List ℕ) (c : Clock) (w : Wheel) → Shows g (records (nodes heads tl n p bucket entry h s) (entries t d ge) c) w → Sound g w →
-      (act g w nextDue).0 ≡ due (dueTold r)
+      (act g w next_due).0 ≡ due (due_told r)

@@ -1,6 +1,6 @@
 -- inner: start, end and abandon: they change the clock alone.
 use Rattle.std.specs.Prelude.{ℕ, true, ◌≡◌}
-use Rattle.rules.specs.Calls.{withClock, act}
+use Rattle.rules.specs.Calls.{with_clock, act}
 use Rattle.rules.specs.Places.{Geometry}
 use Rattle.rules.specs.Wheel.{closed, Wheel, start, abandon}
 use Rattle.wheel_rules.specs.Lent.{Nodes, Entries, records, Shows}
@@ -15,7 +15,7 @@ pub record Starts (g : Geometry) (c r : Clock) (q : ℕ) : Type 0 where
 -- "End, which closes the advance and keeps q"
 pub record EndsAdvance (g : Geometry) (c r : Clock) : Type 0 where
   pub is : r ≡ ended c
-  pub does : (N : Nodes) (E : Entries) (w : Wheel) → Shows g (records N E c) w → Shows g (records N E r) (withClock w.reading closed w)
+  pub does : (N : Nodes) (E : Entries) (w : Wheel) → Shows g (records N E c) w → Shows g (records N E r) (with_clock w.reading closed w)
 
 -- "Abandon: closes and restores p"
 pub record Abandons (g : Geometry) (c r : Clock) : Type 0 where

@@ -8,5 +8,5 @@ abbrev pub join : Links → List ℕ → List ℕ → List ℕ → Nodes
 join a e g s = record { links = a; entry = e; generation = g; serial = s }
 
 -- the same payload with other links
-abbrev pub withLinks : Links → Nodes → Nodes
-withLinks a N = join a N.entry N.generation N.serial
+abbrev pub with_links : Links → Nodes → Nodes
+with_links a N = join a N.entry N.generation N.serial

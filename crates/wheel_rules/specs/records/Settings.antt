@@ -3,7 +3,7 @@ use Rattle.std.specs.Prelude.{ℕ, ◌<◌, Bool, cond, ◌≡◌, length, set}
 use Rattle.std.proofs.Math.Option.{none, some}
 use Rattle.rules.specs.Calls.{act}
 use Rattle.rules.specs.Places.{Geometry}
-use Rattle.rules.specs.Wheel.{Wheel, setEntry}
+use Rattle.rules.specs.Wheel.{Wheel, set_entry}
 use Rattle.wheel_rules.specs.Lent.{Nodes, Entries, entries, records, Shows}
 use Rattle.wheel_rules.specs.declared.calls.Clock.{Clock}
 
@@ -20,4 +20,4 @@ pub record EntryReady (E : Entries) (e : ℕ) : Type 0 where
 pub record Sets (g : Geometry) (E E' : Entries) (e : ℕ) (t : Bool) (d h : ℕ) : Type 0 where
   pub is : E' ≡ settled e t d h E
   pub does :
-      (N : Nodes) (c : Clock) (w : Wheel) → Shows g (records N E c) w → Shows g (records N E' c) (act g w (setEntry e (cond t (some d) none) h)).1
+      (N : Nodes) (c : Clock) (w : Wheel) → Shows g (records N E c) w → Shows g (records N E' c) (act g w (set_entry e (cond t (some d) none) h)).1

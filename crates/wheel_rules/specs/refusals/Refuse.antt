@@ -4,10 +4,10 @@ use Rattle.std.specs.Prelude.{ℕ, ◌-◌, ◌^◌, ◌≤◌, ◌<◌, Bool, t
 use Rattle.std.proofs.Math.Option.{none as nothing}
 use Rattle.deque_rules.specs.Links.{home_of}
 use Rattle.numbers.specs.Rows.{given}
-use Rattle.numbers.specs.Shared.{no_slot, unless, notRefused}
+use Rattle.numbers.specs.Shared.{no_slot, unless, not_refused}
 use Rattle.rules.specs.Calls.{Tests, rows}
 use Rattle.rules.specs.Places.{wheel01, buckets}
-use Rattle.rules.specs.Wheel.{Call, enable, setEntry, schedule, reschedule, pull, armedCount, nextDue}
+use Rattle.rules.specs.Wheel.{Call, enable, set_entry, schedule, reschedule, pull, armed_count, next_due}
 use Rattle.wheel_rules.specs.Lent.{Records, Ranges, EndsLengths, NodesLengths, EntriesLengths, SoundRecords}
 
 -- ---- the stages
@@ -69,8 +69,8 @@ abbrev pub making : Bool → Type 0 → (ℕ → Type 0) → ℕ → Type 0
 making enabled lendable more = unless (enabled ≡ false) 2 (unless lendable 3 more)
 
 -- ---- the rows of each call: the rules' rows, with these tests of the records
-abbrev pub testsOn : Records → Tests (Type 0)
-testsOn R = record {
+abbrev pub tests_on : Records → Tests (Type 0)
+tests_on R = record {
   enabled = R.clock.enabled ≡ true;
   off = R.clock.enabled ≡ false;
   lendable = λ m k fits. Lendable R;
@@ -87,44 +87,44 @@ testsOn R = record {
 }
 
 -- k is the number that the call is refused with, or 0
-abbrev pub rowsOn : Records → Call → ℕ → Type 0
-rowsOn R c = given (rows (testsOn R) c)
+abbrev pub rows_on : Records → Call → ℕ → Type 0
+rows_on R c = given (rows (tests_on R) c)
 
-abbrev pub enableRows : Records → ℕ → Type 0
-enableRows R = rowsOn R (enable 0 0 true)
+abbrev pub enable_rows : Records → ℕ → Type 0
+enable_rows R = rows_on R (enable 0 0 true)
 
-abbrev pub setRows : Records → ℕ → ℕ → Type 0
-setRows R e = rowsOn R (setEntry e nothing 0)
+abbrev pub set_rows : Records → ℕ → ℕ → Type 0
+set_rows R e = rows_on R (set_entry e nothing 0)
 
-abbrev pub scheduleRows : Records → ℕ → ℕ → ℕ → Type 0
-scheduleRows R e h = rowsOn R (schedule e h)
+abbrev pub schedule_rows : Records → ℕ → ℕ → ℕ → Type 0
+schedule_rows R e h = rows_on R (schedule e h)
 
 -- reschedule, deschedule
-abbrev pub handleRows : Records → ℕ → ℕ → ℕ → ℕ → Type 0
-handleRows R x n h = rowsOn R (reschedule x n h)
+abbrev pub handle_rows : Records → ℕ → ℕ → ℕ → ℕ → Type 0
+handle_rows R x n h = rows_on R (reschedule x n h)
 
 -- start, next due
-abbrev pub closedRows : Records → ℕ → Type 0
-closedRows R = rowsOn R nextDue
+abbrev pub closed_rows : Records → ℕ → Type 0
+closed_rows R = rows_on R next_due
 
 -- pull, abandon
 abbrev pub open_rows : Records → ℕ → Type 0
-open_rows R = rowsOn R pull
+open_rows R = rows_on R pull
 
 -- armed count
-abbrev pub countRows : Records → ℕ → Type 0
-countRows R = rowsOn R armedCount
+abbrev pub count_rows : Records → ℕ → Type 0
+count_rows R = rows_on R armed_count
 
 -- ---- r is the number that the rows give
 pub record RefusesEnable (R : Records) (r : ℕ) : Type 0 where
-  pub by : enableRows R r
+  pub by : enable_rows R r
 
 -- enable's number over lent nodes, which are of one length by what they are: by numbers alone
 pub record RefusesAround (enabled : Bool) (heads tails nodes dated deadline stamp r : ℕ) : Type 0 where
-  pub by : making enabled (LendableAround heads tails nodes dated deadline stamp) notRefused r
+  pub by : making enabled (LendableAround heads tails nodes dated deadline stamp) not_refused r
 
 pub record RefusesSet (R : Records) (e r : ℕ) : Type 0 where
-  pub by : setRows R e r
+  pub by : set_rows R e r
 
 -- a serial of 64 bits is the last one, or below it
 pub record IsLast (serial : ℕ) (r : Bool) : Type 0 where
@@ -132,18 +132,18 @@ pub record IsLast (serial : ℕ) (r : Bool) : Type 0 where
   pub below : r ≡ false → serial < 2 ^ 64 - 1
 
 pub record RefusesSchedule (R : Records) (e h r : ℕ) : Type 0 where
-  pub by : scheduleRows R e h r
+  pub by : schedule_rows R e h r
   -- not refused: there is a serial to give, and one after it
   pub few : r ≡ 0 → R.clock.serial < 2 ^ 64 - 1
 
 pub record RefusesHandle (R : Records) (x n h r : ℕ) : Type 0 where
-  pub by : handleRows R x n h r
+  pub by : handle_rows R x n h r
 
 pub record RefusesClosed (R : Records) (r : ℕ) : Type 0 where
-  pub by : closedRows R r
+  pub by : closed_rows R r
 
 pub record RefusesOpen (R : Records) (r : ℕ) : Type 0 where
   pub by : open_rows R r
 
 pub record RefusesCount (R : Records) (r : ℕ) : Type 0 where
-  pub by : countRows R r
+  pub by : count_rows R r

@@ -34,7 +34,7 @@ pub record Met (before serial : List ℕ) (y wanted : ℕ) : Type 0 where
 
 -- the armed slots below x have been filed, each under its serial's remainder, and no two of them have one serial
 pub record Filed (total : ℕ) (bucket serial latest before : List ℕ) (x : ℕ) : Type 0 where
-  pub latest-lent : length latest ≡ 4096
+  pub latest_lent : length latest ≡ 4096
   pub earlier : Earlier before
   pub low : (k : ℕ) → 0 < get_or latest k 0 → get_or latest k 0 < x
   pub filed : (z : ℕ) → Armed total bucket z → z < x → Leads before (get_or latest (get_or serial z 0 % 4096) 0) z

@@ -9,17 +9,17 @@ invariant-loop block₀ line₀ out₀ stand₀ turns₀ block line out stand tu
 abbrev decreases-loop : tie.decreases-loop
 decreases-loop block₀ line₀ out₀ stand₀ turns₀ block line out stand turns = turns
 
-at-start-requires : tie.Need-at-start-requires invariant-loop decreases-loop
-at-start-requires c κs = search rules
+at_start_requires : tie.Need-at-start-requires invariant-loop decreases-loop
+at_start_requires c κs = search rules
 
 loop-holds : tie.Need-loop-init invariant-loop decreases-loop
 loop-holds c = search rules
 
-session-requires : tie.Need-session-requires invariant-loop decreases-loop
-session-requires c κs = search rules
+session_requires : tie.Need-session-requires invariant-loop decreases-loop
+session_requires c κs = search rules
 
-turns-left-requires : tie.Need-turns-left-requires invariant-loop decreases-loop
-turns-left-requires c κs = search rules
+turns_left_requires : tie.Need-turns-left-requires invariant-loop decreases-loop
+turns_left_requires c κs = search rules
 
 loop-less : tie.Need-loop-smaller invariant-loop decreases-loop
 loop-less c = c.turns-left.ensures.less (omega arith)
@@ -27,8 +27,8 @@ loop-less c = c.turns-left.ensures.less (omega arith)
 loop-again : tie.Need-loop-preserved invariant-loop decreases-loop
 loop-again c = search rules
 
-flush-requires : tie.Need-flush-requires invariant-loop decreases-loop
-flush-requires c κs = search rules
+flush_requires : tie.Need-flush-requires invariant-loop decreases-loop
+flush_requires c κs = search rules
 
 returns : tie.Need-returns invariant-loop decreases-loop
 returns c = search rules
@@ -39,11 +39,11 @@ main_spec =
     (tie.spec
     invariant-loop
     decreases-loop
-    at-start-requires
+    at_start_requires
     loop-holds
-    session-requires
-    turns-left-requires
+    session_requires
+    turns_left_requires
     loop-less
     loop-again
-    flush-requires
+    flush_requires
     returns)

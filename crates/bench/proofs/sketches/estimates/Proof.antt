@@ -13,17 +13,17 @@ decreases-loop table sketch calls first sum₀ x₀ left₀ sum x left = left
 loop-holds : tie.Need-loop-init invariant-loop decreases-loop
 loop-holds c = search rules
 
-following-requires : tie.Need-following-requires invariant-loop decreases-loop
-following-requires c κs = search rules
+following_requires : tie.Need-following-requires invariant-loop decreases-loop
+following_requires c κs = search rules
 
-estimated-requires : tie.Need-estimated-requires invariant-loop decreases-loop
-estimated-requires c κs = search rules
+estimated_requires : tie.Need-estimated-requires invariant-loop decreases-loop
+estimated_requires c κs = search rules
 
-wrapping-add-u64-requires : tie.Need-wrapping-add-u64-requires invariant-loop decreases-loop
-wrapping-add-u64-requires c κs = search rules
+wrapping_add_u64_requires : tie.Need-wrapping-add-u64-requires invariant-loop decreases-loop
+wrapping_add_u64_requires c κs = search rules
 
-sub-left : tie.Need-overflow-sub-left invariant-loop decreases-loop
-sub-left c = search rules
+sub_left : tie.Need-overflow-sub-left invariant-loop decreases-loop
+sub_left c = search rules
 
 loop-less : tie.Need-loop-smaller invariant-loop decreases-loop
 loop-less c = search rules
@@ -34,17 +34,17 @@ loop-again c = search rules
 returns : tie.Need-returns invariant-loop decreases-loop
 returns c = search rules
 
-pub estimates-spec : {M : Type 1} → statement M
-estimates-spec =
+pub estimates_spec : {M : Type 1} → statement M
+estimates_spec =
     tie.close
     (tie.spec
     invariant-loop
     decreases-loop
     loop-holds
-    following-requires
-    estimated-requires
-    wrapping-add-u64-requires
-    sub-left
+    following_requires
+    estimated_requires
+    wrapping_add_u64_requires
+    sub_left
     loop-less
     loop-again
     returns)

@@ -13,14 +13,14 @@ decreases-loop table₀ calls first s₀ x₀ left₀ table s x left = left
 loop-holds : tie.Need-loop-init invariant-loop decreases-loop
 loop-holds c = search rules
 
-following-requires : tie.Need-following-requires invariant-loop decreases-loop
-following-requires c κs = search rules
+following_requires : tie.Need-following-requires invariant-loop decreases-loop
+following_requires c κs = search rules
 
-increased-requires : tie.Need-increased-requires invariant-loop decreases-loop
-increased-requires c κs = search rules
+increased_requires : tie.Need-increased-requires invariant-loop decreases-loop
+increased_requires c κs = search rules
 
-sub-left : tie.Need-overflow-sub-left invariant-loop decreases-loop
-sub-left c = search rules
+sub_left : tie.Need-overflow-sub-left invariant-loop decreases-loop
+sub_left c = search rules
 
 loop-less : tie.Need-loop-smaller invariant-loop decreases-loop
 loop-less c = search rules
@@ -34,16 +34,16 @@ same_length c = search rules
 returns : tie.Need-returns invariant-loop decreases-loop
 returns c = search rules
 
-pub increases-spec : {M : Type 1} → statement M
-increases-spec =
+pub increases_spec : {M : Type 1} → statement M
+increases_spec =
     tie.close
     (tie.spec
     invariant-loop
     decreases-loop
     loop-holds
-    following-requires
-    increased-requires
-    sub-left
+    following_requires
+    increased_requires
+    sub_left
     loop-less
     loop-again
     same_length

@@ -10,23 +10,23 @@ invariant-loop words calls first mask sum₀ x₀ i₀ sum x i = Unit {0}
 abbrev decreases-loop : tie.decreases-loop
 decreases-loop words calls first mask sum₀ x₀ i₀ sum x i = calls - i
 
-wrapping-sub-u64-requires : tie.Need-wrapping-sub-u64-requires invariant-loop decreases-loop
-wrapping-sub-u64-requires c κs = search rules
+wrapping_sub_u64_requires : tie.Need-wrapping-sub-u64-requires invariant-loop decreases-loop
+wrapping_sub_u64_requires c κs = search rules
 
 loop-holds : tie.Need-loop-init invariant-loop decreases-loop
 loop-holds c = search rules
 
-following-requires : tie.Need-following-requires invariant-loop decreases-loop
-following-requires c κs = search rules
+following_requires : tie.Need-following-requires invariant-loop decreases-loop
+following_requires c κs = search rules
 
-word-index-requires : tie.Need-word-index-requires invariant-loop decreases-loop
-word-index-requires c κs = search rules
+word_index_requires : tie.Need-word-index-requires invariant-loop decreases-loop
+word_index_requires c κs = search rules
 
-wrapping-add-u64-requires : tie.Need-wrapping-add-u64-requires invariant-loop decreases-loop
-wrapping-add-u64-requires c κs = search rules
+wrapping_add_u64_requires : tie.Need-wrapping-add-u64-requires invariant-loop decreases-loop
+wrapping_add_u64_requires c κs = search rules
 
-add-i : tie.Need-overflow-add-i invariant-loop decreases-loop
-add-i c = search rules
+add_i : tie.Need-overflow-add-i invariant-loop decreases-loop
+add_i c = search rules
 
 loop-less : tie.Need-loop-smaller invariant-loop decreases-loop
 loop-less c = search rules
@@ -37,18 +37,18 @@ loop-again c = search rules
 returns : tie.Need-returns invariant-loop decreases-loop
 returns c = search rules
 
-pub sum-of-indexes-spec : {M : Type 1} → statement M
-sum-of-indexes-spec =
+pub sum_of_indexes_spec : {M : Type 1} → statement M
+sum_of_indexes_spec =
     tie.close
     (tie.spec
     invariant-loop
     decreases-loop
-    wrapping-sub-u64-requires
+    wrapping_sub_u64_requires
     loop-holds
-    following-requires
-    word-index-requires
-    wrapping-add-u64-requires
-    add-i
+    following_requires
+    word_index_requires
+    wrapping_add_u64_requires
+    add_i
     loop-less
     loop-again
     returns)

@@ -7,39 +7,39 @@ use borrow.Author.Rules.{rules}
 use Rattle.deque.proofs.change.put.Statement.{statement}
 use Rattle.deque.proofs.change.put.Tie as tie
 
-mul-ends : tie.Need-overflow-mul-ends
-mul-ends c = search rules
+mul_ends : tie.Need-overflow-mul-ends
+mul_ends c = search rules
 
-slice-write-ends : tie.Need-slice-write-ends
-slice-write-ends c = search rules
+slice_write_ends : tie.Need-slice-write-ends
+slice_write_ends c = search rules
 
 mul_next : tie.Need-overflow-mul-next
 mul_next c = omega (arith, c.before.requires.slot c.if1.false)
 
-slice-write-next : tie.Need-slice-write-next
-slice-write-next c = omega (arith, c.before.requires.slot c.if1.false)
+slice_write_next : tie.Need-slice-write-next
+slice_write_next c = omega (arith, c.before.requires.slot c.if1.false)
 
 same_length : tie.Need-same-length
 same_length c = search rules
 
 returns : tie.Need-returns
-returns c = record { ends_is = simp (eq-eqb _ _ c.if1.true); next-is = sym (set_out _ _ _ (omega arith)) }
+returns c = record { ends_is = simp (eq-eqb _ _ c.if1.true); next_is = sym (set_out _ _ _ (omega arith)) }
 
-same-length-2 : tie.Need-same-length-2
-same-length-2 c = search rules
+same_length_2 : tie.Need-same-length-2
+same_length_2 c = search rules
 
 returns-2 : tie.Need-returns-2
-returns-2 c = record { ends_is = simp (ne_eqb _ _ c.if1.false); next-is = refl }
+returns-2 c = record { ends_is = simp (ne_eqb _ _ c.if1.false); next_is = refl }
 
 pub put_spec : {M : Type 1} → statement M
 put_spec =
     tie.close
     (tie.spec
-    mul-ends
-    slice-write-ends
+    mul_ends
+    slice_write_ends
     mul_next
-    slice-write-next
+    slice_write_next
     same_length
     returns
-    same-length-2
+    same_length_2
     returns-2)

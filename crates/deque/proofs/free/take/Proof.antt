@@ -1,17 +1,17 @@
 -- `take` meets its contract.
-use Rattle.deque_rules.proofs.Freeing.{take-does}
+use Rattle.deque_rules.proofs.Freeing.{take_does}
 use borrow.Author.Rules.{rules}
 use Rattle.deque.proofs.free.take.Statement.{statement}
 use Rattle.deque.proofs.free.take.Tie as tie
 
-mul-result : tie.Need-overflow-mul-result
-mul-result c = search rules
+mul_result : tie.Need-overflow-mul-result
+mul_result c = search rules
 
-shared-slice-read-result : tie.Need-shared-slice-read-result
-shared-slice-read-result c = search rules
+shared_slice_read_result : tie.Need-shared-slice-read-result
+shared_slice_read_result c = search rules
 
 returns : tie.Need-returns
-returns c = search take-does
+returns c = search take_does
 
 pub take_spec : {M : Type 1} → statement M
-take_spec = tie.close (tie.spec mul-result shared-slice-read-result returns)
+take_spec = tie.close (tie.spec mul_result shared_slice_read_result returns)

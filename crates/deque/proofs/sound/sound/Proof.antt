@@ -14,8 +14,8 @@ invariant-loop heads tails next prev home free total₀ d₀ total d = Upto (lin
 abbrev decreases-loop : tie.decreases-loop
 decreases-loop heads tails next prev home free total₀ d₀ total d = length heads - d
 
-sized-requires : tie.Need-sized-requires invariant-loop decreases-loop
-sized-requires c κs = search rules
+sized_requires : tie.Need-sized-requires invariant-loop decreases-loop
+sized_requires c κs = search rules
 
 returns : tie.Need-returns invariant-loop decreases-loop
 returns c = search exits
@@ -23,8 +23,8 @@ returns c = search exits
 loop-holds : tie.Need-loop-init invariant-loop decreases-loop
 loop-holds c = search begins
 
-walk-requires : tie.Need-walk-requires invariant-loop decreases-loop
-walk-requires c κs = search rules
+walk_requires : tie.Need-walk-requires invariant-loop decreases-loop
+walk_requires c κs = search rules
 
 returns-2 : tie.Need-returns-2 invariant-loop decreases-loop
 returns-2 c = search exits
@@ -32,8 +32,8 @@ returns-2 c = search exits
 add_total : tie.Need-overflow-add-total invariant-loop decreases-loop
 add_total c = search rules
 
-add-d : tie.Need-overflow-add-d invariant-loop decreases-loop
-add-d c = search rules
+add_d : tie.Need-overflow-add-d invariant-loop decreases-loop
+add_d c = search rules
 
 loop-less : tie.Need-loop-smaller invariant-loop decreases-loop
 loop-less c = search rules
@@ -41,34 +41,34 @@ loop-less c = search rules
 loop-again : tie.Need-loop-preserved invariant-loop decreases-loop
 loop-again c = search more
 
-walk-free-requires : tie.Need-walk-free-requires invariant-loop decreases-loop
-walk-free-requires c κs = search rules
+walk_free_requires : tie.Need-walk-free-requires invariant-loop decreases-loop
+walk_free_requires c κs = search rules
 
 returns-3 : tie.Need-returns-3 invariant-loop decreases-loop
 returns-3 c = search exits
 
-add-result : tie.Need-overflow-add-result invariant-loop decreases-loop
-add-result c = search rules
+add_result : tie.Need-overflow-add-result invariant-loop decreases-loop
+add_result c = search rules
 
 returns-4 : tie.Need-returns-4 invariant-loop decreases-loop
 returns-4 c = search exits
 
-pub sound-spec : {M : Type 1} → statement M
-sound-spec =
+pub sound_spec : {M : Type 1} → statement M
+sound_spec =
     tie.close
     (tie.spec
     invariant-loop
     decreases-loop
-    sized-requires
+    sized_requires
     returns
     loop-holds
-    walk-requires
+    walk_requires
     returns-2
     add_total
-    add-d
+    add_d
     loop-less
     loop-again
-    walk-free-requires
+    walk_free_requires
     returns-3
-    add-result
+    add_result
     returns-4)

@@ -22,23 +22,23 @@ returns c = search exits
 returns-2 : tie.Need-returns-2 invariant-loop decreases-loop
 returns-2 c = search exits
 
-mul-if3 : tie.Need-overflow-mul-if3 invariant-loop decreases-loop
-mul-if3 c = search rules
+mul_if3 : tie.Need-overflow-mul-if3 invariant-loop decreases-loop
+mul_if3 c = search rules
 
-shared-slice-read-if3 : tie.Need-shared-slice-read-if3 invariant-loop decreases-loop
-shared-slice-read-if3 c = search rules
+shared_slice_read_if3 : tie.Need-shared-slice-read-if3 invariant-loop decreases-loop
+shared_slice_read_if3 c = search rules
 
 returns-3 : tie.Need-returns-3 invariant-loop decreases-loop
 returns-3 c = search exits
 
-mul-x : tie.Need-overflow-mul-x invariant-loop decreases-loop
-mul-x c = search rules
+mul_x : tie.Need-overflow-mul-x invariant-loop decreases-loop
+mul_x c = search rules
 
-shared-slice-read-x : tie.Need-shared-slice-read-x invariant-loop decreases-loop
-shared-slice-read-x c = search rules
+shared_slice_read_x : tie.Need-shared-slice-read-x invariant-loop decreases-loop
+shared_slice_read_x c = search rules
 
-add-k : tie.Need-overflow-add-k invariant-loop decreases-loop
-add-k c = search rules
+add_k : tie.Need-overflow-add-k invariant-loop decreases-loop
+add_k c = search rules
 
 loop-less : tie.Need-loop-smaller invariant-loop decreases-loop
 loop-less c = search rules
@@ -49,8 +49,8 @@ loop-again c = search goes
 returns-4 : tie.Need-returns-4 invariant-loop decreases-loop
 returns-4 c = search exits
 
-pub walk-free-spec : {M : Type 1} → statement M
-walk-free-spec =
+pub walk_free_spec : {M : Type 1} → statement M
+walk_free_spec =
     tie.close
     (tie.spec
     invariant-loop
@@ -58,12 +58,12 @@ walk-free-spec =
     loop-holds
     returns
     returns-2
-    mul-if3
-    shared-slice-read-if3
+    mul_if3
+    shared_slice_read_if3
     returns-3
-    mul-x
-    shared-slice-read-x
-    add-k
+    mul_x
+    shared_slice_read_x
+    add_k
     loop-less
     loop-again
     returns-4)

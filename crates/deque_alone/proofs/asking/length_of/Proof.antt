@@ -1,25 +1,25 @@
 -- `length_of` meets its promise.
-use Rattle.deque_rules.proofs.alone.Calling.{length-no, length-yes}
-use Rattle.deque_rules.proofs.alone.Refusing.{lens-index, lens-bytes}
+use Rattle.deque_rules.proofs.alone.Calling.{length_no, length_yes}
+use Rattle.deque_rules.proofs.alone.Refusing.{lens_index, lens_bytes}
 use borrow.Author.Rules.{rules}
 use Rattle.deque_alone.proofs.asking.length_of.Statement.{statement}
 use Rattle.deque_alone.proofs.asking.length_of.Tie as tie
 
-deque-refusal-requires : tie.Need-deque-refusal-requires
-deque-refusal-requires c κs = search rules
+deque_refusal_requires : tie.Need-deque-refusal-requires
+deque_refusal_requires c κs = search rules
 
 returns : tie.Need-returns
-returns c = search length-no
+returns c = search length_no
 
-mul-n : tie.Need-overflow-mul-n
-mul-n c = search lens-bytes
+mul_n : tie.Need-overflow-mul-n
+mul_n c = search lens_bytes
 
-shared-slice-read-n : tie.Need-shared-slice-read-n
-shared-slice-read-n c = search lens-index
+shared_slice_read_n : tie.Need-shared-slice-read-n
+shared_slice_read_n c = search lens_index
 
 returns-2 : tie.Need-returns-2
-returns-2 c = search length-yes
+returns-2 c = search length_yes
 
-pub length-of-spec : {M : Type 1} → statement M
-length-of-spec =
-    tie.close (tie.spec deque-refusal-requires returns mul-n shared-slice-read-n returns-2)
+pub length_of_spec : {M : Type 1} → statement M
+length_of_spec =
+    tie.close (tie.spec deque_refusal_requires returns mul_n shared_slice_read_n returns-2)

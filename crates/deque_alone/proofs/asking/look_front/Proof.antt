@@ -1,21 +1,21 @@
 -- `look_front` meets its promise.
-use Rattle.deque_rules.proofs.alone.Calling.{front-no, front-yes}
-use Rattle.deque_rules.proofs.alone.Refusing.{deque-ready}
+use Rattle.deque_rules.proofs.alone.Calling.{front_no, front_yes}
+use Rattle.deque_rules.proofs.alone.Refusing.{deque_ready}
 use borrow.Author.Rules.{rules}
 use Rattle.deque_alone.proofs.asking.look_front.Statement.{statement}
 use Rattle.deque_alone.proofs.asking.look_front.Tie as tie
 
-deque-refusal-requires : tie.Need-deque-refusal-requires
-deque-refusal-requires c κs = search rules
+deque_refusal_requires : tie.Need-deque-refusal-requires
+deque_refusal_requires c κs = search rules
 
 returns : tie.Need-returns
-returns c = search front-no
+returns c = search front_no
 
-front-requires : tie.Need-front-requires
-front-requires c κs = search deque-ready
+front_requires : tie.Need-front-requires
+front_requires c κs = search deque_ready
 
 returns-2 : tie.Need-returns-2
-returns-2 c = search front-yes
+returns-2 c = search front_yes
 
-pub look-front-spec : {M : Type 1} → statement M
-look-front-spec = tie.close (tie.spec deque-refusal-requires returns front-requires returns-2)
+pub look_front_spec : {M : Type 1} → statement M
+look_front_spec = tie.close (tie.spec deque_refusal_requires returns front_requires returns-2)

@@ -1,29 +1,29 @@
 -- `next_by_cursor` meets its promise.
-use Rattle.deque_rules.proofs.alone.Calling.{next-no, next-yes}
-use Rattle.deque_rules.proofs.alone.Refusing.{deque-ready}
+use Rattle.deque_rules.proofs.alone.Calling.{next_no, next_yes}
+use Rattle.deque_rules.proofs.alone.Refusing.{deque_ready}
 use borrow.Author.Rules.{rules}
 use Rattle.deque_alone.proofs.asking.next_by_cursor.Statement.{statement}
 use Rattle.deque_alone.proofs.asking.next_by_cursor.Tie as tie
 
-deque-refusal-requires : tie.Need-deque-refusal-requires
-deque-refusal-requires c κs = search rules
+deque_refusal_requires : tie.Need-deque-refusal-requires
+deque_refusal_requires c κs = search rules
 
 same_length : tie.Need-same-length
 same_length c = search rules
 
 returns : tie.Need-returns
-returns c = search next-no
+returns c = search next_no
 
-step-requires : tie.Need-step-requires
-step-requires c κs = search deque-ready
+step_requires : tie.Need-step-requires
+step_requires c κs = search deque_ready
 
-same-length-2 : tie.Need-same-length-2
-same-length-2 c = search rules
+same_length_2 : tie.Need-same-length-2
+same_length_2 c = search rules
 
 returns-2 : tie.Need-returns-2
-returns-2 c = search next-yes
+returns-2 c = search next_yes
 
-pub next-by-cursor-spec : {M : Type 1} → statement M
-next-by-cursor-spec =
+pub next_by_cursor_spec : {M : Type 1} → statement M
+next_by_cursor_spec =
     tie.close
-    (tie.spec deque-refusal-requires same_length returns step-requires same-length-2 returns-2)
+    (tie.spec deque_refusal_requires same_length returns step_requires same_length_2 returns-2)

@@ -1,7 +1,7 @@
 -- `clear` meets its contract.
 use Prim.Native.Nat.{◌-◌}
 use lib.ListN.{length}
-use Rattle.deque_rules.proofs.alone.Clearing.{Cleared, clear-starts, clear-goes, clear-ends}
+use Rattle.deque_rules.proofs.alone.Clearing.{Cleared, clear_starts, clear_goes, clear_ends}
 use borrow.Author.Rules.{rules}
 use Rattle.deque_alone.proofs.layout.clear.Statement.{statement}
 use Rattle.deque_alone.proofs.layout.clear.Tie as tie
@@ -13,37 +13,37 @@ abbrev decreases-loop : tie.decreases-loop
 decreases-loop lens₀ cursors₀ d₀ lens cursors d = length lens₀ - d
 
 loop-holds : tie.Need-loop-init invariant-loop decreases-loop
-loop-holds c = clear-starts _ _
+loop-holds c = clear_starts _ _
 
-mul-lens : tie.Need-overflow-mul-lens invariant-loop decreases-loop
-mul-lens c = search rules
+mul_lens : tie.Need-overflow-mul-lens invariant-loop decreases-loop
+mul_lens c = search rules
 
-slice-write-lens : tie.Need-slice-write-lens invariant-loop decreases-loop
-slice-write-lens c = search rules
+slice_write_lens : tie.Need-slice-write-lens invariant-loop decreases-loop
+slice_write_lens c = search rules
 
-mul-cursors : tie.Need-overflow-mul-cursors invariant-loop decreases-loop
-mul-cursors c = search rules
+mul_cursors : tie.Need-overflow-mul-cursors invariant-loop decreases-loop
+mul_cursors c = search rules
 
-slice-write-cursors : tie.Need-slice-write-cursors invariant-loop decreases-loop
-slice-write-cursors c = search rules
+slice_write_cursors : tie.Need-slice-write-cursors invariant-loop decreases-loop
+slice_write_cursors c = search rules
 
-add-d : tie.Need-overflow-add-d invariant-loop decreases-loop
-add-d c = search rules
+add_d : tie.Need-overflow-add-d invariant-loop decreases-loop
+add_d c = search rules
 
 loop-less : tie.Need-loop-smaller invariant-loop decreases-loop
 loop-less c = search rules
 
 loop-again : tie.Need-loop-preserved invariant-loop decreases-loop
-loop-again c = search clear-goes
+loop-again c = search clear_goes
 
 same_length : tie.Need-same-length invariant-loop decreases-loop
 same_length c = search rules
 
-same-length-2 : tie.Need-same-length-2 invariant-loop decreases-loop
-same-length-2 c = search rules
+same_length_2 : tie.Need-same-length-2 invariant-loop decreases-loop
+same_length_2 c = search rules
 
 returns : tie.Need-returns invariant-loop decreases-loop
-returns c = search clear-ends
+returns c = search clear_ends
 
 pub clear_spec : {M : Type 1} → statement M
 clear_spec =
@@ -52,13 +52,13 @@ clear_spec =
     invariant-loop
     decreases-loop
     loop-holds
-    mul-lens
-    slice-write-lens
-    mul-cursors
-    slice-write-cursors
-    add-d
+    mul_lens
+    slice_write_lens
+    mul_cursors
+    slice_write_cursors
+    add_d
     loop-less
     loop-again
     same_length
-    same-length-2
+    same_length_2
     returns)

@@ -1,91 +1,91 @@
 -- `push_back` meets its promise.
-use Rattle.deque_rules.proofs.alone.Calling.{push-no, push-yes}
-use Rattle.deque_rules.proofs.alone.Refusing.{push-ready}
+use Rattle.deque_rules.proofs.alone.Calling.{push_no, push_yes}
+use Rattle.deque_rules.proofs.alone.Refusing.{push_ready}
 use borrow.Author.Rules.{rules}
 use Rattle.deque_alone.proofs.linking.push_back.Statement.{statement}
 use Rattle.deque_alone.proofs.linking.push_back.Tie as tie
 
-push-refusal-requires : tie.Need-push-refusal-requires
-push-refusal-requires c κs = search rules
+push_refusal_requires : tie.Need-push-refusal-requires
+push_refusal_requires c κs = search rules
 
 same_length : tie.Need-same-length
 same_length c = search rules
 
-same-length-2 : tie.Need-same-length-2
-same-length-2 c = search rules
+same_length_2 : tie.Need-same-length-2
+same_length_2 c = search rules
 
-same-length-3 : tie.Need-same-length-3
-same-length-3 c = search rules
+same_length_3 : tie.Need-same-length-3
+same_length_3 c = search rules
 
-same-length-4 : tie.Need-same-length-4
-same-length-4 c = search rules
+same_length_4 : tie.Need-same-length-4
+same_length_4 c = search rules
 
-same-length-5 : tie.Need-same-length-5
-same-length-5 c = search rules
+same_length_5 : tie.Need-same-length-5
+same_length_5 c = search rules
 
-same-length-6 : tie.Need-same-length-6
-same-length-6 c = search rules
+same_length_6 : tie.Need-same-length-6
+same_length_6 c = search rules
 
-same-length-7 : tie.Need-same-length-7
-same-length-7 c = search rules
+same_length_7 : tie.Need-same-length-7
+same_length_7 c = search rules
 
-same-length-8 : tie.Need-same-length-8
-same-length-8 c = search rules
+same_length_8 : tie.Need-same-length-8
+same_length_8 c = search rules
 
 returns : tie.Need-returns
-returns c = search push-no
+returns c = search push_no
 
-push-requires : tie.Need-push-requires
-push-requires c κs = search push-ready
+push_requires : tie.Need-push-requires
+push_requires c κs = search push_ready
 
-same-length-9 : tie.Need-same-length-9
-same-length-9 c = search rules
+same_length_9 : tie.Need-same-length-9
+same_length_9 c = search rules
 
-same-length-10 : tie.Need-same-length-10
-same-length-10 c = search rules
+same_length_10 : tie.Need-same-length-10
+same_length_10 c = search rules
 
-same-length-11 : tie.Need-same-length-11
-same-length-11 c = search rules
+same_length_11 : tie.Need-same-length-11
+same_length_11 c = search rules
 
-same-length-12 : tie.Need-same-length-12
-same-length-12 c = search rules
+same_length_12 : tie.Need-same-length-12
+same_length_12 c = search rules
 
-same-length-13 : tie.Need-same-length-13
-same-length-13 c = search rules
+same_length_13 : tie.Need-same-length-13
+same_length_13 c = search rules
 
-same-length-14 : tie.Need-same-length-14
-same-length-14 c = search rules
+same_length_14 : tie.Need-same-length-14
+same_length_14 c = search rules
 
-same-length-15 : tie.Need-same-length-15
-same-length-15 c = search rules
+same_length_15 : tie.Need-same-length-15
+same_length_15 c = search rules
 
-same-length-16 : tie.Need-same-length-16
-same-length-16 c = search rules
+same_length_16 : tie.Need-same-length-16
+same_length_16 c = search rules
 
 returns-2 : tie.Need-returns-2
-returns-2 c = search push-yes
+returns-2 c = search push_yes
 
-pub push-back-spec : {M : Type 1} → statement M
-push-back-spec =
+pub push_back_spec : {M : Type 1} → statement M
+push_back_spec =
     tie.close
     (tie.spec
-    push-refusal-requires
+    push_refusal_requires
     same_length
-    same-length-2
-    same-length-3
-    same-length-4
-    same-length-5
-    same-length-6
-    same-length-7
-    same-length-8
+    same_length_2
+    same_length_3
+    same_length_4
+    same_length_5
+    same_length_6
+    same_length_7
+    same_length_8
     returns
-    push-requires
-    same-length-9
-    same-length-10
-    same-length-11
-    same-length-12
-    same-length-13
-    same-length-14
-    same-length-15
-    same-length-16
+    push_requires
+    same_length_9
+    same_length_10
+    same_length_11
+    same_length_12
+    same_length_13
+    same_length_14
+    same_length_15
+    same_length_16
     returns-2)

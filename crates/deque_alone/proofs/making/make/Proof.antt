@@ -1,76 +1,76 @@
 -- `make` meets its promise.
-use Rattle.deque_rules.proofs.alone.Calling.{make-no, make-clears, make-sizes, make-yes}
+use Rattle.deque_rules.proofs.alone.Calling.{make_no, make_clears, make_sizes, make_yes}
 use borrow.Author.Rules.{rules}
 use Rattle.deque_alone.proofs.making.make.Statement.{statement}
 use Rattle.deque_alone.proofs.making.make.Tie as tie
 
-lent-requires : tie.Need-lent-requires
-lent-requires c κs = search rules
+lent_requires : tie.Need-lent-requires
+lent_requires c κs = search rules
 
 same_length : tie.Need-same-length
 same_length c = search rules
 
-same-length-2 : tie.Need-same-length-2
-same-length-2 c = search rules
+same_length_2 : tie.Need-same-length-2
+same_length_2 c = search rules
 
-same-length-3 : tie.Need-same-length-3
-same-length-3 c = search rules
+same_length_3 : tie.Need-same-length-3
+same_length_3 c = search rules
 
-same-length-4 : tie.Need-same-length-4
-same-length-4 c = search rules
+same_length_4 : tie.Need-same-length-4
+same_length_4 c = search rules
 
-same-length-5 : tie.Need-same-length-5
-same-length-5 c = search rules
+same_length_5 : tie.Need-same-length-5
+same_length_5 c = search rules
 
-same-length-6 : tie.Need-same-length-6
-same-length-6 c = search rules
+same_length_6 : tie.Need-same-length-6
+same_length_6 c = search rules
 
-same-length-7 : tie.Need-same-length-7
-same-length-7 c = search rules
+same_length_7 : tie.Need-same-length-7
+same_length_7 c = search rules
 
-same-length-8 : tie.Need-same-length-8
-same-length-8 c = search rules
+same_length_8 : tie.Need-same-length-8
+same_length_8 c = search rules
 
 returns : tie.Need-returns
-returns c = λ free. search make-no
+returns c = λ free. search make_no
 
-clear-requires : tie.Need-clear-requires
-clear-requires c κs = search make-clears
+clear_requires : tie.Need-clear-requires
+clear_requires c κs = search make_clears
 
-zero-requires : tie.Need-zero-requires
-zero-requires c κs = search rules
+zero_requires : tie.Need-zero-requires
+zero_requires c κs = search rules
 
-lay-out-requires : tie.Need-lay-out-requires
-lay-out-requires c κs = make-sizes _ _ _ _ _ _ _ _ _ c.before.before.before.before.before.before.before.before.before.before.before.before.before.before.before.before.before.lent.ensures c.before.before.before.before.before.before.before.before.before.before.before.before.before.before.before.before.if1.false
+lay_out_requires : tie.Need-lay-out-requires
+lay_out_requires c κs = make_sizes _ _ _ _ _ _ _ _ _ c.before.before.before.before.before.before.before.before.before.before.before.before.before.before.before.before.before.lent.ensures c.before.before.before.before.before.before.before.before.before.before.before.before.before.before.before.before.if1.false
 
-same-length-9 : tie.Need-same-length-9
-same-length-9 c = search rules
+same_length_9 : tie.Need-same-length-9
+same_length_9 c = search rules
 
-same-length-10 : tie.Need-same-length-10
-same-length-10 c = search rules
+same_length_10 : tie.Need-same-length-10
+same_length_10 c = search rules
 
-same-length-11 : tie.Need-same-length-11
-same-length-11 c = search rules
+same_length_11 : tie.Need-same-length-11
+same_length_11 c = search rules
 
-same-length-12 : tie.Need-same-length-12
-same-length-12 c = search rules
+same_length_12 : tie.Need-same-length-12
+same_length_12 c = search rules
 
-same-length-13 : tie.Need-same-length-13
-same-length-13 c = search rules
+same_length_13 : tie.Need-same-length-13
+same_length_13 c = search rules
 
-same-length-14 : tie.Need-same-length-14
-same-length-14 c = search rules
+same_length_14 : tie.Need-same-length-14
+same_length_14 c = search rules
 
-same-length-15 : tie.Need-same-length-15
-same-length-15 c = search rules
+same_length_15 : tie.Need-same-length-15
+same_length_15 c = search rules
 
-same-length-16 : tie.Need-same-length-16
-same-length-16 c = search rules
+same_length_16 : tie.Need-same-length-16
+same_length_16 c = search rules
 
 returns-2 : tie.Need-returns-2
 returns-2 c =
     λ free.
-    make-yes _ _ _ _ _ _ _ _ _ c.before.before.before.before.before.before.before.before.before.before.before.before.before.before.before.before.before.before.before.before.before.before.before.before.before.before.before.before.lent.ensures
+    make_yes _ _ _ _ _ _ _ _ _ c.before.before.before.before.before.before.before.before.before.before.before.before.before.before.before.before.before.before.before.before.before.before.before.before.before.before.before.before.lent.ensures
     c.before.before.before.before.before.before.before.before.before.before.before.before.before.before.before.before.before.before.before.before.before.before.before.before.before.before.before.if1.false
     _ _ _ _ _ _ _ _ free _ c.before.before.before.before.before.before.before.before.before.before.before.before.before.before.before.before.before.before.before.before.before.before.before.before.clear.ensures
     c.before.before.before.before.before.before.before.before.before.before.before.before.before.before.before.before.before.before.zero.ensures c.before.before.before.before.before.before.before.before.before.before.lay-out.ensures
@@ -79,25 +79,25 @@ pub make_spec : {M : Type 1} → statement M
 make_spec =
     tie.close
     (tie.spec
-    lent-requires
+    lent_requires
     same_length
-    same-length-2
-    same-length-3
-    same-length-4
-    same-length-5
-    same-length-6
-    same-length-7
-    same-length-8
+    same_length_2
+    same_length_3
+    same_length_4
+    same_length_5
+    same_length_6
+    same_length_7
+    same_length_8
     returns
-    clear-requires
-    zero-requires
-    lay-out-requires
-    same-length-9
-    same-length-10
-    same-length-11
-    same-length-12
-    same-length-13
-    same-length-14
-    same-length-15
-    same-length-16
+    clear_requires
+    zero_requires
+    lay_out_requires
+    same_length_9
+    same_length_10
+    same_length_11
+    same_length_12
+    same_length_13
+    same_length_14
+    same_length_15
+    same_length_16
     returns-2)

@@ -4,8 +4,8 @@ use borrow.Author.Rules.{rules}
 use Rattle.deque_alone.proofs.refuse.node_refusal.Statement.{statement}
 use Rattle.deque_alone.proofs.refuse.node_refusal.Tie as tie
 
-sound-requires : tie.Need-sound-requires
-sound-requires c κs = search rules
+sound_requires : tie.Need-sound-requires
+sound_requires c κs = search rules
 
 returns : tie.Need-returns
 returns c = search exits
@@ -16,11 +16,11 @@ returns-2 c = search exits
 returns-3 : tie.Need-returns-3
 returns-3 c = search exits
 
-mul-if4 : tie.Need-overflow-mul-if4
-mul-if4 c = search rules
+mul_if4 : tie.Need-overflow-mul-if4
+mul_if4 c = search rules
 
-shared-slice-read-if4 : tie.Need-shared-slice-read-if4
-shared-slice-read-if4 c = search rules
+shared_slice_read_if4 : tie.Need-shared-slice-read-if4
+shared_slice_read_if4 c = search rules
 
 returns-4 : tie.Need-returns-4
 returns-4 c = search exits
@@ -28,15 +28,15 @@ returns-4 c = search exits
 returns-5 : tie.Need-returns-5
 returns-5 c = search exits
 
-pub node-refusal-spec : {M : Type 1} → statement M
-node-refusal-spec =
+pub node_refusal_spec : {M : Type 1} → statement M
+node_refusal_spec =
     tie.close
     (tie.spec
-    sound-requires
+    sound_requires
     returns
     returns-2
     returns-3
-    mul-if4
-    shared-slice-read-if4
+    mul_if4
+    shared_slice_read_if4
     returns-4
     returns-5)

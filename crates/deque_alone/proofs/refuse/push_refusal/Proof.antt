@@ -4,8 +4,8 @@ use borrow.Author.Rules.{rules}
 use Rattle.deque_alone.proofs.refuse.push_refusal.Statement.{statement}
 use Rattle.deque_alone.proofs.refuse.push_refusal.Tie as tie
 
-sound-requires : tie.Need-sound-requires
-sound-requires c κs = search rules
+sound_requires : tie.Need-sound-requires
+sound_requires c κs = search rules
 
 returns : tie.Need-returns
 returns c = search exits
@@ -19,5 +19,5 @@ returns-3 c = search exits
 returns-4 : tie.Need-returns-4
 returns-4 c = search exits
 
-pub push-refusal-spec : {M : Type 1} → statement M
-push-refusal-spec = tie.close (tie.spec sound-requires returns returns-2 returns-3 returns-4)
+pub push_refusal_spec : {M : Type 1} → statement M
+push_refusal_spec = tie.close (tie.spec sound_requires returns returns-2 returns-3 returns-4)

@@ -1,23 +1,23 @@
 -- `lent_nodes` meets its contract.
 use native.Mathlib.Omega.{arith}
-use Rattle.deque_rules.proofs.alone.Testing.{few-nodes, nodes-by}
+use Rattle.deque_rules.proofs.alone.Testing.{few_nodes, nodes_by}
 use Rattle.deque_alone.proofs.sound.lent_nodes.Statement.{statement}
 use Rattle.deque_alone.proofs.sound.lent_nodes.Tie as tie
 
 returns : tie.Need-returns
-returns c = few-nodes _ _ _ _ (λ z. omega arith)
+returns c = few_nodes _ _ _ _ (λ z. omega arith)
 
 returns-2 : tie.Need-returns-2
-returns-2 c = few-nodes _ _ _ _ (λ z. omega arith)
+returns-2 c = few_nodes _ _ _ _ (λ z. omega arith)
 
 returns-3 : tie.Need-returns-3
-returns-3 c = few-nodes _ _ _ _ (λ z. omega arith)
+returns-3 c = few_nodes _ _ _ _ (λ z. omega arith)
 
 returns-4 : tie.Need-returns-4
-returns-4 c = few-nodes _ _ _ _ (λ z. omega arith)
+returns-4 c = few_nodes _ _ _ _ (λ z. omega arith)
 
 returns-5 : tie.Need-returns-5
-returns-5 c = search nodes-by
+returns-5 c = search nodes_by
 
-pub lent-nodes-spec : {M : Type 1} → statement M
-lent-nodes-spec = tie.close (tie.spec returns returns-2 returns-3 returns-4 returns-5)
+pub lent_nodes_spec : {M : Type 1} → statement M
+lent_nodes_spec = tie.close (tie.spec returns returns-2 returns-3 returns-4 returns-5)

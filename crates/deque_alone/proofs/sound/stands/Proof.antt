@@ -13,15 +13,15 @@ returns-2 c = search cursors
 returns-3 : tie.Need-returns-3
 returns-3 c = search cursors
 
-mul-result : tie.Need-overflow-mul-result
-mul-result c = search rules
+mul_result : tie.Need-overflow-mul-result
+mul_result c = search rules
 
-shared-slice-read-result : tie.Need-shared-slice-read-result
-shared-slice-read-result c = search rules
+shared_slice_read_result : tie.Need-shared-slice-read-result
+shared_slice_read_result c = search rules
 
 returns-4 : tie.Need-returns-4
 returns-4 c = search cursors
 
-pub stands-spec : {M : Type 1} → statement M
-stands-spec =
-    tie.close (tie.spec returns returns-2 returns-3 mul-result shared-slice-read-result returns-4)
+pub stands_spec : {M : Type 1} → statement M
+stands_spec =
+    tie.close (tie.spec returns returns-2 returns-3 mul_result shared_slice_read_result returns-4)

@@ -1,62 +1,62 @@
 -- `pop` meets its contract.
-use Rattle.deque_rules.proofs.alone.Working.{pop-empty, pop-asks, pop-does}
+use Rattle.deque_rules.proofs.alone.Working.{pop_empty, pop_asks, pop_does}
 use borrow.Author.Rules.{rules}
 use Rattle.deque_alone.proofs.unchecked.pop.Statement.{statement}
 use Rattle.deque_alone.proofs.unchecked.pop.Tie as tie
 
-mul-s : tie.Need-overflow-mul-s
-mul-s c = search rules
+mul_s : tie.Need-overflow-mul-s
+mul_s c = search rules
 
-slice-read-s : tie.Need-slice-read-s
-slice-read-s c = search rules
+slice_read_s : tie.Need-slice-read-s
+slice_read_s c = search rules
 
 returns : tie.Need-returns
-returns c = search pop-empty
+returns c = search pop_empty
 
-release-requires : tie.Need-release-requires
-release-requires c κs = search pop-asks
+release_requires : tie.Need-release-requires
+release_requires c κs = search pop_asks
 
 same_length : tie.Need-same-length
 same_length c = search rules
 
-same-length-2 : tie.Need-same-length-2
-same-length-2 c = search rules
+same_length_2 : tie.Need-same-length-2
+same_length_2 c = search rules
 
-same-length-3 : tie.Need-same-length-3
-same-length-3 c = search rules
+same_length_3 : tie.Need-same-length-3
+same_length_3 c = search rules
 
-same-length-4 : tie.Need-same-length-4
-same-length-4 c = search rules
+same_length_4 : tie.Need-same-length-4
+same_length_4 c = search rules
 
-same-length-5 : tie.Need-same-length-5
-same-length-5 c = search rules
+same_length_5 : tie.Need-same-length-5
+same_length_5 c = search rules
 
-same-length-6 : tie.Need-same-length-6
-same-length-6 c = search rules
+same_length_6 : tie.Need-same-length-6
+same_length_6 c = search rules
 
-same-length-7 : tie.Need-same-length-7
-same-length-7 c = search rules
+same_length_7 : tie.Need-same-length-7
+same_length_7 c = search rules
 
-same-length-8 : tie.Need-same-length-8
-same-length-8 c = search rules
+same_length_8 : tie.Need-same-length-8
+same_length_8 c = search rules
 
 returns-2 : tie.Need-returns-2
-returns-2 c = search pop-does
+returns-2 c = search pop_does
 
 pub pop_spec : {M : Type 1} → statement M
 pop_spec =
     tie.close
     (tie.spec
-    mul-s
-    slice-read-s
+    mul_s
+    slice_read_s
     returns
-    release-requires
+    release_requires
     same_length
-    same-length-2
-    same-length-3
-    same-length-4
-    same-length-5
-    same-length-6
-    same-length-7
-    same-length-8
+    same_length_2
+    same_length_3
+    same_length_4
+    same_length_5
+    same_length_6
+    same_length_7
+    same_length_8
     returns-2)

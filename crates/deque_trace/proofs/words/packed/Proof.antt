@@ -15,17 +15,17 @@ returns c = search rules
 loop-holds : tie.Need-loop-init invariant-loop decreases-loop
 loop-holds c = search rules
 
-shared-slice-read-byte : tie.Need-shared-slice-read-byte invariant-loop decreases-loop
-shared-slice-read-byte c = search rules
+shared_slice_read_byte : tie.Need-shared-slice-read-byte invariant-loop decreases-loop
+shared_slice_read_byte c = search rules
 
 returns-2 : tie.Need-returns-2 invariant-loop decreases-loop
 returns-2 c = search rules
 
-cast-number : tie.Need-overflow-cast-number invariant-loop decreases-loop
-cast-number c = omega (arith, c.before.shared-slice-known.given c.before.before.before.loop.i)
+cast_number : tie.Need-overflow-cast-number invariant-loop decreases-loop
+cast_number c = omega (arith, c.before.shared-slice-known.given c.before.before.before.loop.i)
 
-add-i : tie.Need-overflow-add-i invariant-loop decreases-loop
-add-i c = search rules
+add_i : tie.Need-overflow-add-i invariant-loop decreases-loop
+add_i c = search rules
 
 loop-less : tie.Need-loop-smaller invariant-loop decreases-loop
 loop-less c = search rules
@@ -36,18 +36,18 @@ loop-again c = search rules
 returns-3 : tie.Need-returns-3 invariant-loop decreases-loop
 returns-3 c = search rules
 
-pub packed-spec : {M : Type 1} → statement M
-packed-spec =
+pub packed_spec : {M : Type 1} → statement M
+packed_spec =
     tie.close
     (tie.spec
     invariant-loop
     decreases-loop
     returns
     loop-holds
-    shared-slice-read-byte
+    shared_slice_read_byte
     returns-2
-    cast-number
-    add-i
+    cast_number
+    add_i
     loop-less
     loop-again
     returns-3)

@@ -41,8 +41,8 @@ use denote.Triple.Walked.{says, Stays, walk_of, Walks, ends_at, walked, walk_Mee
 use Rattle.face_rules.specs.declared.Node.{Node}
 use Rattle.wheel_rules.specs.declared.calls.Clock.{Clock}
 use Rattle.wheel_rules.specs.declared.calls.Noted.{Noted}
-use Rattle.face_rules.specs.Face.{Writes, recordsOf, words_of}
-use Rattle.wheel_rules.specs.Promise.{Promised, enabling, notedSays}
+use Rattle.face_rules.specs.Face.{Writes, records_of, words_of}
+use Rattle.wheel_rules.specs.Promise.{Promised, enabling, noted_says}
 use Rattle.nodes.proofs.Passing.{passed_on}
 use Rattle.face_rules.specs.contracts.Node as T
 use Rattle.wheel_rules.specs.contracts.calls.Clock as K
@@ -108,8 +108,8 @@ module _ {M : Type 1} {𝓤 : Ura M} (𝓛 : Logic 𝓤) (at_mem : Memory → SP
   abbrev given : (MutBor (List Node) × (MutBor Clock × (MutBor (List ℕ) × (MutBor (List ℕ) × (MutBor (List Bool) × (MutBor (List ℕ) × (MutBor (List ℕ) × Unit {0})))))))
   given = (x₁, (x₂, (x₃, (x₄, (x₅, (x₆, (x₇, tt)))))))
 
-  abbrev given-at : (List Val × (List Val × (List Val × (List Val × (List Val × (List Val × (List Val × Unit {0})))))))
-  given-at = (
+  abbrev given_at : (List Val × (List Val × (List Val × (List Val × (List Val × (List Val × (List Val × Unit {0})))))))
+  given_at = (
     slice_val x₁.ref_ptr (length x₁.now) ∷ [],
     (
       vptr x₂.ptr.0 x₂.ptr.1 ∷ [],
@@ -133,9 +133,9 @@ module _ {M : Type 1} {𝓤 : Ura M} (𝓛 : Logic 𝓤) (at_mem : Memory → SP
   Last = Lasts calls.ended (κ₀, (κ₁, (κ₂, (κ₃, (κ₄, (κ₅, (κ₆, tt))))))) given
 
   abbrev Does : Last → Noted → Type 0
-  Does ws u = Promised (enabling (recordsOf x₃.now x₄.now x₁.now x₅.now x₆.now x₇.now x₂.now))
-      (recordsOf x₃.now x₄.now x₁.now x₅.now x₆.now x₇.now x₂.now)
-      (recordsOf ws.1.1.0 ws.1.1.1.0 ws.0 ws.1.1.1.1.0 ws.1.1.1.1.1.0 ws.1.1.1.1.1.1.0 ws.1.0) (notedSays u)
+  Does ws u = Promised (enabling (records_of x₃.now x₄.now x₁.now x₅.now x₆.now x₇.now x₂.now))
+      (records_of x₃.now x₄.now x₁.now x₅.now x₆.now x₇.now x₂.now)
+      (records_of ws.1.1.0 ws.1.1.1.0 ws.0 ws.1.1.1.1.0 ws.1.1.1.1.1.0 ws.1.1.1.1.1.1.0 ws.1.0) (noted_says u)
 
   -- and to `tell_noted`
   abbrev telling : Noted → Noted × (MutBor (List ℕ) × Unit {0})
@@ -145,7 +145,7 @@ module _ {M : Type 1} {𝓤 : Ura M} (𝓛 : Logic 𝓤) (at_mem : Memory → SP
   Last-told u = Lasts tells.ended (κ₇, tt) (telling u)
 
   abbrev Written : (u : Noted) → Last-told u → ℕ → Type 0
-  Written u vs k = Writes (words_of (notedSays u)) vs.1.0 k
+  Written u vs k = Writes (words_of (noted_says u)) vs.1.0 k
 
   abbrev Post : Val → SProp 𝓤
   Post = (walk_of 𝓛 told.ended stayed (told.clauses 𝓛 at_mem run)).post
@@ -172,22 +172,22 @@ module _ {M : Type 1} {𝓤 : Ura M} (𝓛 : Logic 𝓤) (at_mem : Memory → SP
       (2 ∷ 0 ∷ []) $ fjoin ! $ move ! (2 ∷ 0 ∷ []) $ fjoin ! $ move ! (2 ∷ 0 ∷ []) $ fjoin ! $ move ! (2 ∷ 0 ∷ []) $ fjoin ! $ keep ! (0 ∷ 2 ∷ []) $ done !
 
   -- ---- what each callee's triple binds outside, and that the caller has what it asks
-  abbrev to-call : (Call 𝓛 at_mem run).Ghost
-  to-call = (((κ₀, (κ₁, (κ₂, (κ₃, (κ₄, (κ₅, (κ₆, tt))))))), (q₀, (q₁, (q₂, (q₃, (q₄, (q₅, (q₆, tt))))))), tt, given, given-at), tt)
+  abbrev to_call : (Call 𝓛 at_mem run).Ghost
+  to_call = (((κ₀, (κ₁, (κ₂, (κ₃, (κ₄, (κ₅, (κ₆, tt))))))), (q₀, (q₁, (q₂, (q₃, (q₄, (q₅, (q₆, tt))))))), tt, given, given_at), tt)
 
-  goes-call : ent 𝓤 (⋆ 𝓛 (Tokens ∷ ‵ (owns (MutSlice (named 0) κ₀ T.the_row ∷ MutRef (named 1) κ₁ (K.the_row) ∷ MutSlice (named 2) κ₂ usize ∷ MutSlice
-      (named 3) κ₃ usize ∷ MutSlice (named 4) κ₄ bool ∷ MutSlice (named 5) κ₅ u64 ∷ MutSlice (named 6) κ₆ u32 ∷ []) given given-at) ∷ []))
-      ((Call 𝓛 at_mem run).pre to-call)
-  goes-call = qed 𝓛 (Tokens ∷ ‵ (owns (MutSlice (named 0) κ₀ T.the_row ∷ MutRef (named 1) κ₁ (K.the_row) ∷ MutSlice (named 2) κ₂ usize ∷ MutSlice (named 3) κ₃
-      usize ∷ MutSlice (named 4) κ₄ bool ∷ MutSlice (named 5) κ₅ u64 ∷ MutSlice (named 6) κ₆ u32 ∷ []) given given-at) ∷ []) ∵ join ! $ nothing ! $ move !
+  goes_call : ent 𝓤 (⋆ 𝓛 (Tokens ∷ ‵ (owns (MutSlice (named 0) κ₀ T.the_row ∷ MutRef (named 1) κ₁ (K.the_row) ∷ MutSlice (named 2) κ₂ usize ∷ MutSlice
+      (named 3) κ₃ usize ∷ MutSlice (named 4) κ₄ bool ∷ MutSlice (named 5) κ₅ u64 ∷ MutSlice (named 6) κ₆ u32 ∷ []) given given_at) ∷ []))
+      ((Call 𝓛 at_mem run).pre to_call)
+  goes_call = qed 𝓛 (Tokens ∷ ‵ (owns (MutSlice (named 0) κ₀ T.the_row ∷ MutRef (named 1) κ₁ (K.the_row) ∷ MutSlice (named 2) κ₂ usize ∷ MutSlice (named 3) κ₃
+      usize ∷ MutSlice (named 4) κ₄ bool ∷ MutSlice (named 5) κ₅ u64 ∷ MutSlice (named 6) κ₆ u32 ∷ []) given given_at) ∷ []) ∵ join ! $ nothing ! $ move !
       (1 ∷ 0 ∷ []) $ done !
 
-  abbrev to-tell : Noted → Val → (Tell 𝓛 at_mem run).Ghost
-  to-tell u z = (((κ₇, tt), (q₇, tt), tt, telling u, (z ∷ [], (vptr x₈.ptr.0 x₈.ptr.1 ∷ [], tt))), tt)
+  abbrev to_tell : Noted → Val → (Tell 𝓛 at_mem run).Ghost
+  to_tell u z = (((κ₇, tt), (q₇, tt), tt, telling u, (z ∷ [], (vptr x₈.ptr.0 x₈.ptr.1 ∷ [], tt))), tt)
 
-  goes-tell : (u : Noted) (z : Val) → ent 𝓤 (⋆ 𝓛 (‵ (flft κ₇ q₇) ∷ ‵ ((E.the_row).own_val u (z ∷ [])) ∷ ‵
-      ((MutRef (named 7) κ₇ (Array u64 5)).own_val x₈ (vptr x₈.ptr.0 x₈.ptr.1 ∷ [])) ∷ [])) ((Tell 𝓛 at_mem run).pre (to-tell u z))
-  goes-tell u z =
+  goes_tell : (u : Noted) (z : Val) → ent 𝓤 (⋆ 𝓛 (‵ (flft κ₇ q₇) ∷ ‵ ((E.the_row).own_val u (z ∷ [])) ∷ ‵
+      ((MutRef (named 7) κ₇ (Array u64 5)).own_val x₈ (vptr x₈.ptr.0 x₈.ptr.1 ∷ [])) ∷ [])) ((Tell 𝓛 at_mem run).pre (to_tell u z))
+  goes_tell u z =
       qed 𝓛 (‵ (flft κ₇ q₇) ∷ ‵ ((E.the_row).own_val u (z ∷ [])) ∷ ‵ ((MutRef (named 7) κ₇ (Array u64 5)).own_val x₈ (vptr x₈.ptr.0 x₈.ptr.1 ∷ [])) ∷ []) ∵
       nothing ! $ move ! (1 ∷ 0 ∷ []) $ join ! $ nothing ! $ move ! (3 ∷ 0 ∷ []) $ fjoin ! $ move ! (2 ∷ 0 ∷ []) $ fjoin ! $ move ! (1 ∷ 0 ∷ []) $ join ! $
       nothing ! $ move ! (1 ∷ 0 ∷ []) $ done !
@@ -250,8 +250,8 @@ module _ {M : Type 1} {𝓤 : Ura M} (𝓛 : Logic 𝓤) (at_mem : Memory → SP
         assigns ! (agg ! (and_then ! (load ! (from ! (stop !)) (look ! 8 refl))
         (and_then ! (load ! (from ! (fld ! refl (stop !))) (look_in ! 36 (sub ! 1 refl (whole !)))) (no_more !)))) (from ! (stop !))
         (init ! 6 refl (tt, (tt, (record { fits = room₇.0 }, tt)))) $
-        move ! (0 ∷ 2 ∷ []) $ use2 𝓛 (raw ((Call 𝓛 at_mem run).pre to-call)) goes-call $
-        calls_at ! fm (Call 𝓛 at_mem run) known-call to-call
+        move ! (0 ∷ 2 ∷ []) $ use2 𝓛 (raw ((Call 𝓛 at_mem run).pre to_call)) goes_call $
+        calls_at ! fm (Call 𝓛 at_mem run) known-call to_call
         (and_then ! (load ! (from ! (stop !)) (look ! 27 refl))
         (and_then ! (load ! (from ! (stop !)) (look ! 25 refl))
         (and_then ! (load ! (from ! (stop !)) (look ! 21 refl))
@@ -269,8 +269,8 @@ module _ {M : Type 1} {𝓤 : Ura M} (𝓛 : Logic 𝓤) (at_mem : Memory → SP
         land ! (from ! (stop !)) (init ! 33 refl ((EL.lawful E.the_type E'.the_laws 𝓛 tt).typed u _ is).0) $
         -- `tell_noted`, which `answer` is passed on to
         assigns ! (addr ! (from ! (hop ! (look ! 35 refl) (stop !)))) (from ! (stop !)) (init ! 5 refl (tt, tt)) $
-        move ! (3 ∷ 0 ∷ 4 ∷ []) $ use3 𝓛 (raw ((Tell 𝓛 at_mem run).pre (to-tell u z))) (goes-tell u z) $
-        calls_at ! fm (Tell 𝓛 at_mem run) known-tell (to-tell u z)
+        move ! (3 ∷ 0 ∷ 4 ∷ []) $ use3 𝓛 (raw ((Tell 𝓛 at_mem run).pre (to_tell u z))) (goes_tell u z) $
+        calls_at ! fm (Tell 𝓛 at_mem run) known-tell (to_tell u z)
         (and_then ! (load ! (from ! (stop !)) (look ! 31 refl)) (and_then ! (load ! (from ! (stop !)) (look ! 3 refl)) (no_more !))) (λ y.
         use1 𝓛 (later (some (λ (k : ℕ). ((‵ (flft κ₇ q₇) ⊛ ‵ ftrue) ⊛ ‵ (u64.own_val k (y ∷ []))) ⊛ raw
         (ensured 𝓛 tells.ended (tells.clauses 𝓛 at_mem run) (κ₇, tt) (telling u) tt k)))) (id⊢ 𝓤 _) $ await ! tt $ pick ! (λ k.
@@ -297,9 +297,9 @@ module _ {M : Type 1} {𝓤 : Ura M} (𝓛 : Logic 𝓤) (at_mem : Memory → SP
 module _ {M : Type 1} {𝓤 : Ura M} (𝓛 : Logic 𝓤) (at_mem : Memory → SProp 𝓤) (run : Routine → Fun 𝓤) where
   open 𝓛 use {H}
 
-  told-walks : (C : Calls 𝓤 H) (Λ : Loops 𝓤 H) → FmC 𝓤 H 𝓛.laws C → Triple 𝓤 (C #call) (Call 𝓛 at_mem run) → Triple 𝓤 (C #tell) (Tell 𝓛 at_mem run)
+  told_walks : (C : Calls 𝓤 H) (Λ : Loops 𝓤 H) → FmC 𝓤 H 𝓛.laws C → Triple 𝓤 (C #call) (Call 𝓛 at_mem run) → Triple 𝓤 (C #tell) (Tell 𝓛 at_mem run)
       → Walks 𝓛 told.ended stayed (WpFn 𝓤 H C Λ code.function) (told.clauses 𝓛 at_mem run)
-  told-walks C Λ fm known-call known-tell = walked 𝓛 told.ended stayed (told.clauses 𝓛 at_mem run) (WpFn 𝓤 H C Λ code.function)
+  told_walks C Λ fm known-call known-tell = walked 𝓛 told.ended stayed (told.clauses 𝓛 at_mem run) (WpFn 𝓤 H C Λ code.function)
       (λ κs. (mut_slice_vals, (mut_vals, (mut_slice_vals, (mut_slice_vals, (mut_slice_vals, (mut_slice_vals, (mut_slice_vals, (mut_vals, tt)))))))))
       (λ κs. (
         mut_slice_Tells (named 0) κs.0 T.the_row,
@@ -328,10 +328,10 @@ module _ {M : Type 1} {𝓤 : Ura M} (𝓛 : Logic 𝓤) (at_mem : Memory → SP
       are.0.0.1 are.1.1.0.0.1 are.1.1.1.0.0.1 are.1.1.1.1.0.0.1 are.1.1.1.1.1.0.0.1 are.1.1.1.1.1.1.0.0.1 C Λ
       fm known-call known-tell))
 
-told-meets : {M : Type 1} {𝓤 : Ura M} (𝓛 : Logic 𝓤) → (at_mem : Memory → SProp 𝓤) (run : Routine → Fun 𝓤) (𝓣 : Tables 𝓤 𝓛.H) → Triple
+told_meets : {M : Type 1} {𝓤 : Ura M} (𝓛 : Logic 𝓤) → (at_mem : Memory → SProp 𝓤) (run : Routine → Fun 𝓤) (𝓣 : Tables 𝓤 𝓛.H) → Triple
     𝓤 (𝓣.C #call) (Call 𝓛 at_mem run) → Triple 𝓤 (𝓣.C #tell) (Tell 𝓛 at_mem run)
     → Meets 𝓛 told.signature (WpFn 𝓤 𝓛.H 𝓣.C 𝓣.Λ code.function) (told.spec 𝓛 at_mem run)
-told-meets {𝓤 = 𝓤} 𝓛 at_mem run 𝓣 known-call known-tell =
+told_meets {𝓤 = 𝓤} 𝓛 at_mem run 𝓣 known-call known-tell =
     walk_Meets 𝓛 told.ended stayed (
       λ κs y f vs fits. 𝓛.laws.⇛_intro _,
       (
@@ -350,13 +350,13 @@ told-meets {𝓤 = 𝓤} 𝓛 at_mem run 𝓣 known-call known-tell =
     )
     (told.clauses 𝓛 at_mem run)
     (WpFn 𝓤 𝓛.H 𝓣.C 𝓣.Λ code.function) (WpFn-mono 𝓤 𝓛.H 𝓛.laws 𝓣 code.function)
-    (told-walks 𝓛 at_mem run 𝓣.C 𝓣.Λ (fm_of 𝓤 𝓛.H 𝓛.laws 𝓣) known-call known-tell)
+    (told_walks 𝓛 at_mem run 𝓣.C 𝓣.Λ (fm_of 𝓤 𝓛.H 𝓛.laws 𝓣) known-call known-tell)
 
-pub wheel-enable-spec : {M : Type 1} → stated.statement M
+pub wheel_enable_spec : {M : Type 1} → stated.statement M
 unfolding code.routine tables_of
-wheel-enable-spec 𝓤 𝓛 𝓜 𝓡 =
+wheel_enable_spec 𝓤 𝓛 𝓜 𝓡 =
     entered 𝓤 𝓛.H (triple_of 𝓛 told.signature (told.spec 𝓛 𝓜.mem 𝓡.run))
     (tables 𝓤 𝓛.H 𝓜 𝓡 code.env).C (tables 𝓤 𝓛.H 𝓜 𝓡 code.env).Λ #told code.function (code.unfolded 𝓤 𝓛.H 𝓜 𝓡)
-    (told-meets 𝓛 𝓜.mem 𝓡.run (tables_of 𝓤 𝓛.H 𝓜 (tables 𝓤 𝓛.H 𝓜 𝓡 code.env))
+    (told_meets 𝓛 𝓜.mem 𝓡.run (tables_of 𝓤 𝓛.H 𝓜 (tables 𝓤 𝓛.H 𝓜 𝓡 code.env))
     (cited 𝓤 𝓛.H (Call 𝓛 𝓜.mem 𝓡.run) 𝓜 𝓡 code.env #call call-def.routine code.calls-face::making::enable (call-thm.met 𝓤 𝓛 𝓜 𝓡))
     (cited 𝓤 𝓛.H (Tell 𝓛 𝓜.mem 𝓡.run) 𝓜 𝓡 code.env #tell tell-def.routine code.calls-exports::words::tell-noted (tell-thm.met 𝓤 𝓛 𝓜 𝓡)))

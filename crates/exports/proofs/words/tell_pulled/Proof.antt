@@ -1,57 +1,57 @@
 -- `tell_pulled` meets its promise.
-use Rattle.face_rules.proofs.exports.Wording.{pulled-as}
+use Rattle.face_rules.proofs.exports.Wording.{pulled_as}
 use borrow.Author.Rules.{rules}
 use Rattle.exports.proofs.words.tell_pulled.Statement.{statement}
 use Rattle.exports.proofs.words.tell_pulled.Tie as tie
 
-enum-known-r : tie.Need-enum-known-r
-enum-known-r c = search rules
+enum_known_r : tie.Need-enum-known-r
+enum_known_r c = search rules
 
-write-requires : tie.Need-write-requires
-write-requires c κs = search rules
+write_requires : tie.Need-write-requires
+write_requires c κs = search rules
 
-enum-known-r-2 : tie.Need-enum-known-r-2
-enum-known-r-2 c = search rules
+enum_known_r_2 : tie.Need-enum-known-r-2
+enum_known_r_2 c = search rules
 
-write-requires-2 : tie.Need-write-requires-2
-write-requires-2 c κs = search rules
+write_requires_2 : tie.Need-write-requires-2
+write_requires_2 c κs = search rules
 
 enum_told : tie.Need-enum-told
 enum_told c = search rules
 
-write-requires-3 : tie.Need-write-requires-3
-write-requires-3 c κs = search rules
+write_requires_3 : tie.Need-write-requires-3
+write_requires_3 c κs = search rules
 
-enum-known-r-3 : tie.Need-enum-known-r-3
-enum-known-r-3 c = search rules
+enum_known_r_3 : tie.Need-enum-known-r-3
+enum_known_r_3 c = search rules
 
-write-requires-4 : tie.Need-write-requires-4
-write-requires-4 c κs = search rules
+write_requires_4 : tie.Need-write-requires-4
+write_requires_4 c κs = search rules
 
 returns : tie.Need-returns
-returns c = search pulled-as
+returns c = search pulled_as
 
 returns-2 : tie.Need-returns-2
-returns-2 c = search pulled-as
+returns-2 c = search pulled_as
 
 returns-3 : tie.Need-returns-3
-returns-3 c = search pulled-as
+returns-3 c = search pulled_as
 
 returns-4 : tie.Need-returns-4
-returns-4 c = search pulled-as
+returns-4 c = search pulled_as
 
-pub tell-pulled-spec : {M : Type 1} → statement M
-tell-pulled-spec =
+pub tell_pulled_spec : {M : Type 1} → statement M
+tell_pulled_spec =
     tie.close
     (tie.spec
-    enum-known-r
-    write-requires
-    enum-known-r-2
-    write-requires-2
+    enum_known_r
+    write_requires
+    enum_known_r_2
+    write_requires_2
     enum_told
-    write-requires-3
-    enum-known-r-3
-    write-requires-4
+    write_requires_3
+    enum_known_r_3
+    write_requires_4
     returns
     returns-2
     returns-3

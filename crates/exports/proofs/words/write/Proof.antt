@@ -4,11 +4,11 @@ use borrow.Author.Rules.{rules}
 use Rattle.exports.proofs.words.write.Statement.{statement}
 use Rattle.exports.proofs.words.write.Tie as tie
 
-array-read-result : tie.Need-array-read-result
-array-read-result c = search rules
+array_read_result : tie.Need-array-read-result
+array_read_result c = search rules
 
 returns : tie.Need-returns
 returns c = record { words_are = refl; number_is = refl }
 
 pub write_spec : {M : Type 1} → statement M
-write_spec = tie.close (tie.spec array-read-result returns)
+write_spec = tie.close (tie.spec array_read_result returns)

@@ -46,16 +46,16 @@ use denote.Triple.Spec.{Meets, triple_of}
 use denote.Triple.Statement.{Contract, Triple}
 use denote.Triple.Table.{entered, cited}
 use denote.Triple.Walked.{says, Stays, stay_ref, walk_of, Goes-ref, Walks, ends_at, walked, walk_Meets}
-use Rattle.nodes.proofs.Lending.{ref-to, lft-of, zeros-typed, length-lit}
-use Rattle.nodes.proofs.Six.{Full, Leases, Rows, Lenders, Sharers, Owned, Viewed, Lasting, full-holds, Tokens as With, makes-six, lends-six, six-back}
-use Rattle.nodes.proofs.Six.{shares-six, six-unshared, six-rooms}
+use Rattle.nodes.proofs.Lending.{ref_to, lft_of, zeros_typed, length_lit}
+use Rattle.nodes.proofs.Six.{Full, Leases, Rows, Lenders, Sharers, Owned, Viewed, Lasting, full_holds, Tokens as With, makes_six, lends_six, six_back}
+use Rattle.nodes.proofs.Six.{shares_six, six_unshared, six_rooms}
 use Rattle.face_rules.specs.declared.Node.{Node}
 use Rattle.wheel_rules.specs.declared.calls.Clock.{Clock}
 use Rattle.face_rules.specs.declared.NotedTurn.{NotedTurn}
 use Rattle.face_rules.specs.Works.{Loaded}
 use Rattle.face_rules.specs.nodes.Columns.{Columns, Loads, columns}
 use Rattle.rules.specs.Wheel.{abandon}
-use Rattle.wheel_rules.specs.Promise.{notedSays}
+use Rattle.wheel_rules.specs.Promise.{noted_says}
 use Rattle.nodes.proofs.Passing.{passed_on}
 use Rattle.face_rules.specs.contracts.Node as T
 use Rattle.wheel_rules.specs.contracts.calls.Clock as K
@@ -91,17 +91,17 @@ abbrev vals : Clock → List Val
 vals = LL.vals K.the_type K'.the_laws
 
 -- ---- 4168 numbers fit
-some-8 : 0 < 2 ^ bits w64
-some-8 = lit< tt
+some_8 : 0 < 2 ^ bits w64
+some_8 = lit< tt
 
-some-4 : 0 < 2 ^ bits w32
-some-4 = lit< tt
+some_4 : 0 < 2 ^ bits w32
+some_4 = lit< tt
 
 fits_8 : Room u64 4168
 fits_8 = (lit< tt, lit< tt)
 
-fits-4 : Room u32 4168
-fits-4 = (lit< tt, lit< tt)
+fits_4 : Room u32 4168
+fits_4 = (lit< tt, lit< tt)
 
 module _ {M : Type 1} {𝓤 : Ura M} (𝓛 : Logic 𝓤) (at_mem : Memory → SProp 𝓤) (run : Routine → Fun 𝓤) where
   abbrev Load : Contract 𝓤
@@ -156,14 +156,14 @@ module _ {M : Type 1} {𝓤 : Ura M} (𝓛 : Logic 𝓤) (at_mem : Memory → SP
       (((κ₀, (κ₁, (κ₂, (κ₃, (κ₄, (κ₅, (κ₆, tt))))))), (q₀, (q₁, (q₂, (q₃, (q₄, (q₅, (q₆, tt))))))), tt, x, at), tt)
 
   -- what whoever holds what the work returns knows of its fields
-  is-clock : (u : NotedTurn) {v : Val} → Is U.the_row u (v ∷ []) → Is K.the_row u.clock (vals u.clock)
-  is-clock u is = (LL.owed U.the_type U'.the_laws u _ is).0
+  is_clock : (u : NotedTurn) {v : Val} → Is U.the_row u (v ∷ []) → Is K.the_row u.clock (vals u.clock)
+  is_clock u is = (LL.owed U.the_type U'.the_laws u _ is).0
 
   abbrev ans : NotedTurn → Val
   ans u = EL.val E.the_type E'.the_laws u.answer
 
-  is-answer : (u : NotedTurn) {v : Val} → Is U.the_row u (v ∷ []) → Is E.the_row u.answer (ans u ∷ [])
-  is-answer u is = (LL.owed U.the_type U'.the_laws u _ is).1.0
+  is_answer : (u : NotedTurn) {v : Val} → Is U.the_row u (v ∷ []) → Is E.the_row u.answer (ans u ∷ [])
+  is_answer u is = (LL.owed U.the_type U'.the_laws u _ is).1.0
 
   -- what the work takes after the columns
   abbrev Tokens : Item 𝓤
@@ -196,16 +196,16 @@ module _ {M : Type 1} {𝓤 : Ura M} (𝓛 : Logic 𝓤) (at_mem : Memory → SP
         (MutBor (List ℕ) × (MutBor (List ℕ) × (ℕ × (Clock ×
         (MutBor (List ℕ) × (MutBor (List ℕ) × (MutBor (List Bool) × (MutBor (List ℕ) × (MutBor (List ℕ) × Unit {0})))))))))))))
     passed ls c = (
-      ref-to a₁ ls.next.name c.next,
+      ref_to a₁ ls.next.name c.next,
       (
-        ref-to a₂ ls.prev.name c.prev,
+        ref_to a₂ ls.prev.name c.prev,
         (
-          ref-to a₃ ls.bucket.name c.bucket,
+          ref_to a₃ ls.bucket.name c.bucket,
           (
-            ref-to a₄ ls.entry.name c.entry,
+            ref_to a₄ ls.entry.name c.entry,
             (
-              ref-to a₅ ls.generation.name c.generation,
-              (ref-to a₆ ls.serial.name c.serial, (n, (h, (x₃, (x₄, (x₅, (x₆, (x₇, tt)))))))),
+              ref_to a₅ ls.generation.name c.generation,
+              (ref_to a₆ ls.serial.name c.serial, (n, (h, (x₃, (x₄, (x₅, (x₆, (x₇, tt)))))))),
             ),
           ),
         ),
@@ -214,16 +214,16 @@ module _ {M : Type 1} {𝓤 : Ura M} (𝓛 : Logic 𝓤) (at_mem : Memory → SP
 
     abbrev Last : Leases → Columns → Type 0
     Last ls c = Lasts works.ended (
-      lft-of ls.next,
+      lft_of ls.next,
       (
-        lft-of ls.prev,
-        (lft-of ls.bucket, (lft-of ls.entry, (lft-of ls.generation, (lft-of ls.serial, (κ₂, (κ₃, (κ₄, (κ₅, (κ₆, tt))))))))),
+        lft_of ls.prev,
+        (lft_of ls.bucket, (lft_of ls.entry, (lft_of ls.generation, (lft_of ls.serial, (κ₂, (κ₃, (κ₄, (κ₅, (κ₆, tt))))))))),
       ),
     ) (passed ls c)
 
     abbrev For : (ls : Leases) (c : Columns) → Last ls c → NotedTurn → Type 0
     For ls c ws u = Loaded abandon (columns c.next c.prev c.bucket c.entry c.generation c.serial) n h u.clock x₃.now x₄.now
-        x₅.now x₅.now x₆.now x₇.now x₆.now x₇.now (notedSays u.answer)
+        x₅.now x₅.now x₆.now x₇.now x₆.now x₇.now (noted_says u.answer)
 
     abbrev Rest-last : (ls : Leases) (c : Columns) → Last ls c → Fml
     Rest-last ls c ws = fsep (ftrue) (fsep (ftrue) (fsep (ftrue) (fsep (ftrue) (fsep (ftrue) (ftrue)))))
@@ -244,16 +244,16 @@ module _ {M : Type 1} {𝓤 : Ura M} (𝓛 : Logic 𝓤) (at_mem : Memory → SP
         owned ! E.the_row (Is E.the_row) (EL.makes E.the_type E'.the_plain 𝓛) u.answer _ g $ move ! (1 ∷ 0 ∷ []) $ done !
 
     -- ---- what each callee's triple binds outside, and that the caller has what it asks
-    abbrev to-load : Lft → Share → GName → Leases → Columns → (Load 𝓛 at_mem run).Ghost
-    to-load α p δ ls c = (
+    abbrev to_load : Lft → Share → GName → Leases → Columns → (Load 𝓛 at_mem run).Ghost
+    to_load α p δ ls c = (
       (
         (
           α,
           (
-            lft-of ls.next,
+            lft_of ls.next,
             (
-              lft-of ls.prev,
-              (lft-of ls.bucket, (lft-of ls.entry, (lft-of ls.generation, (lft-of ls.serial, tt)))),
+              lft_of ls.prev,
+              (lft_of ls.bucket, (lft_of ls.entry, (lft_of ls.generation, (lft_of ls.serial, tt)))),
             ),
           ),
         ),
@@ -262,12 +262,12 @@ module _ {M : Type 1} {𝓤 : Ura M} (𝓛 : Logic 𝓤) (at_mem : Memory → SP
         (
           ref δ,
           (
-            ref-to a₁ ls.next.name c.next,
+            ref_to a₁ ls.next.name c.next,
             (
-              ref-to a₂ ls.prev.name c.prev,
+              ref_to a₂ ls.prev.name c.prev,
               (
-                ref-to a₃ ls.bucket.name c.bucket,
-                (ref-to a₄ ls.entry.name c.entry, (ref-to a₅ ls.generation.name c.generation, (ref-to a₆ ls.serial.name c.serial, tt))),
+                ref_to a₃ ls.bucket.name c.bucket,
+                (ref_to a₄ ls.entry.name c.entry, (ref_to a₅ ls.generation.name c.generation, (ref_to a₆ ls.serial.name c.serial, tt))),
               ),
             ),
           ),
@@ -289,22 +289,22 @@ module _ {M : Type 1} {𝓤 : Ura M} (𝓛 : Logic 𝓤) (at_mem : Memory → SP
     goes_load : (α : Lft) (p : Share) (δ : GName) (ls : Leases) (c : Columns) → Full 4168 c
         → ent 𝓤 (mean 𝓛 ((‵ (flft α p) ⊛ With 𝓛 ls (‵ ftrue)) ⊛ ‵
         (fsep ((ShrSlice (named 0) α T.the_row).own_val (ref δ) (s ∷ [])) (Owned 4168 a₁ a₂ a₃ a₄ a₅ a₆ ls c ftrue))))
-        ((Load 𝓛 at_mem run).pre (to-load α p δ ls c))
+        ((Load 𝓛 at_mem run).pre (to_load α p δ ls c))
     goes_load α p δ ls c full =
         qed 𝓛 ((‵ (flft α p) ⊛ With 𝓛 ls (‵ ftrue)) ∷ ‵
-        (fsep ((ShrSlice (named 0) α T.the_row).own_val (ref δ) (s ∷ [])) (Owned 4168 a₁ a₂ a₃ a₄ a₅ a₆ ls c ftrue)) ∷ []) ∵ says ! (full-holds c full) $ done !
+        (fsep ((ShrSlice (named 0) α T.the_row).own_val (ref δ) (s ∷ [])) (Owned 4168 a₁ a₂ a₃ a₄ a₅ a₆ ls c ftrue)) ∷ []) ∵ says ! (full_holds c full) $ done !
 
     load_of : (α : Lft) (p : Share) (δ : GName) (ls : Leases) (c₀ : Columns) (none : Unit {0})
         → ent 𝓤 (ensured 𝓛 loads.ended (loads.clauses 𝓛 at_mem run)
-        (α, (lft-of ls.next, (lft-of ls.prev, (lft-of ls.bucket, (lft-of ls.entry, (lft-of ls.generation, (lft-of ls.serial, tt))))))) (
+        (α, (lft_of ls.next, (lft_of ls.prev, (lft_of ls.bucket, (lft_of ls.entry, (lft_of ls.generation, (lft_of ls.serial, tt))))))) (
           ref δ,
           (
-            ref-to a₁ ls.next.name c₀.next,
+            ref_to a₁ ls.next.name c₀.next,
             (
-              ref-to a₂ ls.prev.name c₀.prev,
+              ref_to a₂ ls.prev.name c₀.prev,
               (
-                ref-to a₃ ls.bucket.name c₀.bucket,
-                (ref-to a₄ ls.entry.name c₀.entry, (ref-to a₅ ls.generation.name c₀.generation, (ref-to a₆ ls.serial.name c₀.serial, tt))),
+                ref_to a₃ ls.bucket.name c₀.bucket,
+                (ref_to a₄ ls.entry.name c₀.entry, (ref_to a₅ ls.generation.name c₀.generation, (ref_to a₆ ls.serial.name c₀.serial, tt))),
               ),
             ),
           ),
@@ -317,14 +317,14 @@ module _ {M : Type 1} {𝓤 : Ura M} (𝓛 : Logic 𝓤) (at_mem : Memory → SP
         (fact 𝓤 (Loads ys (columns c.next c.prev c.bucket c.entry c.generation c.serial)))))
         (columns zs.1.0 zs.1.1.0 zs.1.1.1.0 zs.1.1.1.1.0 zs.1.1.1.1.1.0 zs.1.1.1.1.1.1.0))
 
-    abbrev to-work : Leases → Columns → (Work 𝓛 at_mem run).Ghost
-    to-work ls c = (
+    abbrev to_work : Leases → Columns → (Work 𝓛 at_mem run).Ghost
+    to_work ls c = (
       (
         (
-          lft-of ls.next,
+          lft_of ls.next,
           (
-            lft-of ls.prev,
-            (lft-of ls.bucket, (lft-of ls.entry, (lft-of ls.generation, (lft-of ls.serial, (κ₂, (κ₃, (κ₄, (κ₅, (κ₆, tt))))))))),
+            lft_of ls.prev,
+            (lft_of ls.bucket, (lft_of ls.entry, (lft_of ls.generation, (lft_of ls.serial, (κ₂, (κ₃, (κ₄, (κ₅, (κ₆, tt))))))))),
           ),
         ),
         (full_share, (full_share, (full_share, (full_share, (full_share, (full_share, (q₂, (q₃, (q₄, (q₅, (q₆, tt))))))))))),
@@ -368,9 +368,9 @@ module _ {M : Type 1} {𝓤 : Ura M} (𝓛 : Logic 𝓤) (at_mem : Memory → SP
       tt,
     )
 
-    goes-work : (ls : Leases) (c : Columns) → Full 4168 c → ent 𝓤 (mean 𝓛 (With 𝓛 ls Tokens ⊛ ‵ (Viewed 4168 a₁ a₂ a₃ a₄ a₅ a₆ ls c Others)))
-        ((Work 𝓛 at_mem run).pre (to-work ls c))
-    goes-work ls c full = qed 𝓛 (With 𝓛 ls Tokens ∷ ‵ (Viewed 4168 a₁ a₂ a₃ a₄ a₅ a₆ ls c Others) ∷ []) ∵ says ! (full-holds c full) $ done !
+    goes_work : (ls : Leases) (c : Columns) → Full 4168 c → ent 𝓤 (mean 𝓛 (With 𝓛 ls Tokens ⊛ ‵ (Viewed 4168 a₁ a₂ a₃ a₄ a₅ a₆ ls c Others)))
+        ((Work 𝓛 at_mem run).pre (to_work ls c))
+    goes_work ls c full = qed 𝓛 (With 𝓛 ls Tokens ∷ ‵ (Viewed 4168 a₁ a₂ a₃ a₄ a₅ a₆ ls c Others) ∷ []) ∵ says ! (full_holds c full) $ done !
 
   module _ (C : Calls 𝓤 H) (Λ : Loops 𝓤 H) (fm : FmC 𝓤 H 𝓛.laws C) (known-load : Triple 𝓤 (C #load) (Load 𝓛 at_mem run))
       (known-work : Triple 𝓤 (C #work) (Work 𝓛 at_mem run)) where
@@ -409,44 +409,44 @@ module _ {M : Type 1} {𝓤 : Ura M} (𝓛 : Logic 𝓤) (at_mem : Memory → SP
         (λ vs. spelt ! K.the_row (Is K.the_row) (shows 𝓛 K.the_row) vals (LL.tells K.the_type K'.the_laws) full_share h vs b₁ o₁ $
         move ! (1 ∷ []) $ peeks ! K.the_row (Is K.the_row) (shows 𝓛 K.the_row) h (vals h) (λ was. drop ! $
         -- the columns
-        assigns ! (rep ! 4168 (lit ! tt)) (from ! (stop !)) (init ! 74 refl (zeros-typed 𝓛 w64 some-8 4168)) $
-        assigns ! (rep ! 4168 (lit ! tt)) (from ! (stop !)) (init ! 72 refl (zeros-typed 𝓛 w64 some-8 4168)) $
-        assigns ! (rep ! 4168 (lit ! tt)) (from ! (stop !)) (init ! 70 refl (zeros-typed 𝓛 w64 some-8 4168)) $
-        assigns ! (rep ! 4168 (lit ! tt)) (from ! (stop !)) (init ! 68 refl (zeros-typed 𝓛 w64 some-8 4168)) $
-        assigns ! (rep ! 4168 (lit ! tt)) (from ! (stop !)) (init ! 66 refl (zeros-typed 𝓛 w32 some-4 4168)) $
-        assigns ! (rep ! 4168 (lit ! tt)) (from ! (stop !)) (init ! 64 refl (zeros-typed 𝓛 w64 some-8 4168)) $
+        assigns ! (rep ! 4168 (lit ! tt)) (from ! (stop !)) (init ! 74 refl (zeros_typed 𝓛 w64 some_8 4168)) $
+        assigns ! (rep ! 4168 (lit ! tt)) (from ! (stop !)) (init ! 72 refl (zeros_typed 𝓛 w64 some_8 4168)) $
+        assigns ! (rep ! 4168 (lit ! tt)) (from ! (stop !)) (init ! 70 refl (zeros_typed 𝓛 w64 some_8 4168)) $
+        assigns ! (rep ! 4168 (lit ! tt)) (from ! (stop !)) (init ! 68 refl (zeros_typed 𝓛 w64 some_8 4168)) $
+        assigns ! (rep ! 4168 (lit ! tt)) (from ! (stop !)) (init ! 66 refl (zeros_typed 𝓛 w32 some_4 4168)) $
+        assigns ! (rep ! 4168 (lit ! tt)) (from ! (stop !)) (init ! 64 refl (zeros_typed 𝓛 w64 some_8 4168)) $
         move ! (66 ∷ 64 ∷ []) $ join ! $ move ! (67 ∷ 0 ∷ []) $ join ! $ move ! (68 ∷ 0 ∷ []) $ join ! $ move ! (69 ∷ 0 ∷ []) $ join ! $ move ! (70 ∷ 0 ∷ []) $
         join ! $
         use1 𝓛 (some (λ (c : Columns). given (Full 4168 c) (‵ (Rows 4168 l₈ l₉ l₁₀ l₁₁ l₁₂ l₁₃ c))))
-        (makes-six 𝓛 4168 l₈ l₉ l₁₀ l₁₁ l₁₂ l₁₃ some-8 some-4) $ pick ! (λ c₀. learn ! (λ full₀.
+        (makes_six 𝓛 4168 l₈ l₉ l₁₀ l₁₁ l₁₂ l₁₃ some_8 some_4) $ pick ! (λ c₀. learn ! (λ full₀.
         -- `load`: the columns are lent, each for a lifetime of its own
         assigns ! (addr ! (from ! (stop !))) (from ! (stop !)) (init ! 59 refl (tt, tt)) $
-        assigns ! (agg ! (and_then ! (load ! (from ! (stop !)) (look ! 59 refl)) (and_then ! (length-lit ! (record { fits = lit< tt })) (no_more !))))
+        assigns ! (agg ! (and_then ! (load ! (from ! (stop !)) (look ! 59 refl)) (and_then ! (length_lit ! (record { fits = lit< tt })) (no_more !))))
         (from ! (stop !)) (init ! 57 refl (tt, (tt, (record { fits = lit< tt }, tt)))) $
         assigns ! (addr ! (from ! (stop !))) (from ! (stop !)) (init ! 55 refl (tt, tt)) $
-        assigns ! (agg ! (and_then ! (load ! (from ! (stop !)) (look ! 55 refl)) (and_then ! (length-lit ! (record { fits = lit< tt })) (no_more !))))
+        assigns ! (agg ! (and_then ! (load ! (from ! (stop !)) (look ! 55 refl)) (and_then ! (length_lit ! (record { fits = lit< tt })) (no_more !))))
         (from ! (stop !)) (init ! 53 refl (tt, (tt, (record { fits = lit< tt }, tt)))) $
         assigns ! (addr ! (from ! (stop !))) (from ! (stop !)) (init ! 51 refl (tt, tt)) $
-        assigns ! (agg ! (and_then ! (load ! (from ! (stop !)) (look ! 51 refl)) (and_then ! (length-lit ! (record { fits = lit< tt })) (no_more !))))
+        assigns ! (agg ! (and_then ! (load ! (from ! (stop !)) (look ! 51 refl)) (and_then ! (length_lit ! (record { fits = lit< tt })) (no_more !))))
         (from ! (stop !)) (init ! 49 refl (tt, (tt, (record { fits = lit< tt }, tt)))) $
         assigns ! (addr ! (from ! (stop !))) (from ! (stop !)) (init ! 47 refl (tt, tt)) $
-        assigns ! (agg ! (and_then ! (load ! (from ! (stop !)) (look ! 47 refl)) (and_then ! (length-lit ! (record { fits = lit< tt })) (no_more !))))
+        assigns ! (agg ! (and_then ! (load ! (from ! (stop !)) (look ! 47 refl)) (and_then ! (length_lit ! (record { fits = lit< tt })) (no_more !))))
         (from ! (stop !)) (init ! 45 refl (tt, (tt, (record { fits = lit< tt }, tt)))) $
         assigns ! (addr ! (from ! (stop !))) (from ! (stop !)) (init ! 43 refl (tt, tt)) $
-        assigns ! (agg ! (and_then ! (load ! (from ! (stop !)) (look ! 43 refl)) (and_then ! (length-lit ! (record { fits = lit< tt })) (no_more !))))
+        assigns ! (agg ! (and_then ! (load ! (from ! (stop !)) (look ! 43 refl)) (and_then ! (length_lit ! (record { fits = lit< tt })) (no_more !))))
         (from ! (stop !)) (init ! 41 refl (tt, (tt, (record { fits = lit< tt }, tt)))) $
         assigns ! (addr ! (from ! (stop !))) (from ! (stop !)) (init ! 39 refl (tt, tt)) $
-        assigns ! (agg ! (and_then ! (load ! (from ! (stop !)) (look ! 39 refl)) (and_then ! (length-lit ! (record { fits = lit< tt })) (no_more !))))
+        assigns ! (agg ! (and_then ! (load ! (from ! (stop !)) (look ! 39 refl)) (and_then ! (length_lit ! (record { fits = lit< tt })) (no_more !))))
         (from ! (stop !)) (init ! 37 refl (tt, (tt, (record { fits = lit< tt }, tt)))) $
         nothing ! $ nothing ! $
         move ! (2 ∷ 0 ∷ 1 ∷ []) $ use3 𝓛 (later (some (λ (ls : Leases). With 𝓛 ls (‵ ftrue) ⊛ ‵ (Owned 4168 l₈ l₉ l₁₀ l₁₁ l₁₂ l₁₃ ls c₀ ftrue) ⊛ ‵
-        (Lenders 4168 l₈ l₉ l₁₀ l₁₁ l₁₂ l₁₃ ls)))) (lends-six 𝓛 4168 l₈ l₉ l₁₀ l₁₁ l₁₂ l₁₃ fits_8 fits-4 c₀ full₀ (‵ ftrue) ftrue) $
+        (Lenders 4168 l₈ l₉ l₁₀ l₁₁ l₁₂ l₁₃ ls)))) (lends_six 𝓛 4168 l₈ l₉ l₁₀ l₁₁ l₁₂ l₁₃ fits_8 fits_4 c₀ full₀ (‵ ftrue) ftrue) $
         await ! tt $ pick ! (λ ls. split ! $ move ! (1 ∷ []) $ split ! $
         move ! (8 ∷ 2 ∷ []) $ join ! $
         move ! (9 ∷ 1 ∷ []) $ fjoin ! $
-        move ! (1 ∷ 0 ∷ []) $ use2 𝓛 (raw ((Load 𝓛 at_mem run).pre (to-load l₈ l₉ l₁₀ l₁₁ l₁₂ l₁₃ κ₀ q₀ γ ls c₀)))
+        move ! (1 ∷ 0 ∷ []) $ use2 𝓛 (raw ((Load 𝓛 at_mem run).pre (to_load l₈ l₉ l₁₀ l₁₁ l₁₂ l₁₃ κ₀ q₀ γ ls c₀)))
         (goes_load l₈ l₉ l₁₀ l₁₁ l₁₂ l₁₃ κ₀ q₀ γ ls c₀ full₀) $
-        calls_at ! fm (Load 𝓛 at_mem run) known-load (to-load l₈ l₉ l₁₀ l₁₁ l₁₂ l₁₃ κ₀ q₀ γ ls c₀)
+        calls_at ! fm (Load 𝓛 at_mem run) known-load (to_load l₈ l₉ l₁₀ l₁₁ l₁₂ l₁₃ κ₀ q₀ γ ls c₀)
         (and_then ! (load ! (from ! (stop !)) (look ! 82 refl))
         (and_then ! (load ! (from ! (stop !)) (look ! 56 refl))
         (and_then ! (load ! (from ! (stop !)) (look ! 52 refl))
@@ -455,17 +455,17 @@ module _ {M : Type 1} {𝓤 : Ura M} (𝓛 : Logic 𝓤) (at_mem : Memory → SP
         (and_then ! (load ! (from ! (stop !)) (look ! 40 refl)) (and_then ! (load ! (from ! (stop !)) (look ! 36 refl)) (no_more !)))))))) (λ v.
         use1 𝓛 (later (some (λ (none : Unit {0}). ((‵ (flft κ₀ q₀) ⊛ With 𝓛 ls (‵ ftrue)) ⊛ ‵ (Nothing.own none (v ∷ []))) ⊛ raw
         (ensured 𝓛 loads.ended (loads.clauses 𝓛 at_mem run)
-        (κ₀, (lft-of ls.next, (lft-of ls.prev, (lft-of ls.bucket, (lft-of ls.entry, (lft-of ls.generation, (lft-of ls.serial, tt))))))) (
+        (κ₀, (lft_of ls.next, (lft_of ls.prev, (lft_of ls.bucket, (lft_of ls.entry, (lft_of ls.generation, (lft_of ls.serial, tt))))))) (
           ref γ,
           (
-            ref-to l₈ ls.next.name c₀.next,
+            ref_to l₈ ls.next.name c₀.next,
             (
-              ref-to l₉ ls.prev.name c₀.prev,
+              ref_to l₉ ls.prev.name c₀.prev,
               (
-                ref-to l₁₀ ls.bucket.name c₀.bucket,
+                ref_to l₁₀ ls.bucket.name c₀.bucket,
                 (
-                  ref-to l₁₁ ls.entry.name c₀.entry,
-                  (ref-to l₁₂ ls.generation.name c₀.generation, (ref-to l₁₃ ls.serial.name c₀.serial, tt)),
+                  ref_to l₁₁ ls.entry.name c₀.entry,
+                  (ref_to l₁₂ ls.generation.name c₀.generation, (ref_to l₁₃ ls.serial.name c₀.serial, tt)),
                 ),
               ),
             ),
@@ -478,28 +478,28 @@ module _ {M : Type 1} {𝓤 : Ura M} (𝓛 : Logic 𝓤) (at_mem : Memory → SP
         move ! (1 ∷ []) $ heard ! (Loads ys (columns c.next c.prev c.bucket c.entry c.generation c.serial)) (λ loaded. fsplit ! $ drop ! $
         move ! (1 ∷ []) $ split ! $ move ! (1 ∷ []) $ peeks ! Nothing (Is Nothing) (shows 𝓛 Nothing) none (v ∷ []) (λ isv. drop ! $ split ! $
         move ! (1 ∷ 3 ∷ 2 ∷ []) $ use3 𝓛 (later (given (Full 4168 c) (‵ (Rows 4168 l₈ l₉ l₁₀ l₁₁ l₁₂ l₁₃ c) ⊛ (‵ ftrue) ⊛ ‵ ftrue)))
-        (six-back 𝓛 4168 l₈ l₉ l₁₀ l₁₁ l₁₂ l₁₃ fits_8 fits-4 c₀ full₀ (‵ ftrue) ftrue ls c) $ await ! tt $ learn !
+        (six_back 𝓛 4168 l₈ l₉ l₁₀ l₁₁ l₁₂ l₁₃ fits_8 fits_4 c₀ full₀ (‵ ftrue) ftrue ls c) $ await ! tt $ learn !
         (λ full. split ! $ move ! (1 ∷ []) $ split ! $
         drop ! $ drop ! $
         land ! (from ! (stop !)) (init ! 60 refl ((Nothing-Lawful 𝓛).typed none _ isv).0) $
         -- `abandon_work`
         assigns ! (addr ! (from ! (stop !))) (from ! (stop !)) (init ! 34 refl (tt, tt)) $
-        assigns ! (agg ! (and_then ! (load ! (from ! (stop !)) (look ! 34 refl)) (and_then ! (length-lit ! (record { fits = lit< tt })) (no_more !))))
+        assigns ! (agg ! (and_then ! (load ! (from ! (stop !)) (look ! 34 refl)) (and_then ! (length_lit ! (record { fits = lit< tt })) (no_more !))))
         (from ! (stop !)) (init ! 32 refl (tt, (tt, (record { fits = lit< tt }, tt)))) $
         assigns ! (addr ! (from ! (stop !))) (from ! (stop !)) (init ! 30 refl (tt, tt)) $
-        assigns ! (agg ! (and_then ! (load ! (from ! (stop !)) (look ! 30 refl)) (and_then ! (length-lit ! (record { fits = lit< tt })) (no_more !))))
+        assigns ! (agg ! (and_then ! (load ! (from ! (stop !)) (look ! 30 refl)) (and_then ! (length_lit ! (record { fits = lit< tt })) (no_more !))))
         (from ! (stop !)) (init ! 28 refl (tt, (tt, (record { fits = lit< tt }, tt)))) $
         assigns ! (addr ! (from ! (stop !))) (from ! (stop !)) (init ! 26 refl (tt, tt)) $
-        assigns ! (agg ! (and_then ! (load ! (from ! (stop !)) (look ! 26 refl)) (and_then ! (length-lit ! (record { fits = lit< tt })) (no_more !))))
+        assigns ! (agg ! (and_then ! (load ! (from ! (stop !)) (look ! 26 refl)) (and_then ! (length_lit ! (record { fits = lit< tt })) (no_more !))))
         (from ! (stop !)) (init ! 24 refl (tt, (tt, (record { fits = lit< tt }, tt)))) $
         assigns ! (addr ! (from ! (stop !))) (from ! (stop !)) (init ! 22 refl (tt, tt)) $
-        assigns ! (agg ! (and_then ! (load ! (from ! (stop !)) (look ! 22 refl)) (and_then ! (length-lit ! (record { fits = lit< tt })) (no_more !))))
+        assigns ! (agg ! (and_then ! (load ! (from ! (stop !)) (look ! 22 refl)) (and_then ! (length_lit ! (record { fits = lit< tt })) (no_more !))))
         (from ! (stop !)) (init ! 20 refl (tt, (tt, (record { fits = lit< tt }, tt)))) $
         assigns ! (addr ! (from ! (stop !))) (from ! (stop !)) (init ! 18 refl (tt, tt)) $
-        assigns ! (agg ! (and_then ! (load ! (from ! (stop !)) (look ! 18 refl)) (and_then ! (length-lit ! (record { fits = lit< tt })) (no_more !))))
+        assigns ! (agg ! (and_then ! (load ! (from ! (stop !)) (look ! 18 refl)) (and_then ! (length_lit ! (record { fits = lit< tt })) (no_more !))))
         (from ! (stop !)) (init ! 16 refl (tt, (tt, (record { fits = lit< tt }, tt)))) $
         assigns ! (addr ! (from ! (stop !))) (from ! (stop !)) (init ! 14 refl (tt, tt)) $
-        assigns ! (agg ! (and_then ! (load ! (from ! (stop !)) (look ! 14 refl)) (and_then ! (length-lit ! (record { fits = lit< tt })) (no_more !))))
+        assigns ! (agg ! (and_then ! (load ! (from ! (stop !)) (look ! 14 refl)) (and_then ! (length_lit ! (record { fits = lit< tt })) (no_more !))))
         (from ! (stop !)) (init ! 12 refl (tt, (tt, (record { fits = lit< tt }, tt)))) $
         assigns ! (of_opd ! (load ! (from ! (fld ! refl (stop !))) (look_in ! 82 (sub ! 1 refl (whole !))))) (from ! (stop !))
         (init ! 10 refl (tt, record { fits = room.0 })) $
@@ -508,10 +508,10 @@ module _ {M : Type 1} {𝓤 : Ura M} (𝓛 : Logic 𝓤) (at_mem : Memory → SP
         move ! (7 ∷ []) $ owned ! K.the_row (Is K.the_row) (LL.makes K.the_type K'.the_plain 𝓛) h _ was $ fjoin ! $ owned ! usize (Is usize)
         (uint_Makes 𝓛 w64) n _ (refl, room.0) $ fjoin ! $
         move ! (1 ∷ 7 ∷ 0 ∷ []) $ use3 𝓛 (later (some (λ (ls : Leases). With 𝓛 ls Tokens ⊛ ‵ (Viewed 4168 l₈ l₉ l₁₀ l₁₁ l₁₂ l₁₃ ls c Others) ⊛ ‵
-        (Sharers 4168 l₈ l₉ l₁₀ l₁₁ l₁₂ l₁₃ ls c)))) (shares-six 𝓛 4168 l₈ l₉ l₁₀ l₁₁ l₁₂ l₁₃ fits_8 fits-4 c full Tokens Others) $
+        (Sharers 4168 l₈ l₉ l₁₀ l₁₁ l₁₂ l₁₃ ls c)))) (shares_six 𝓛 4168 l₈ l₉ l₁₀ l₁₁ l₁₂ l₁₃ fits_8 fits_4 c full Tokens Others) $
         await ! tt $ pick ! (λ ks. split ! $ move ! (1 ∷ []) $ split ! $
-        move ! (2 ∷ 0 ∷ []) $ use2 𝓛 (raw ((Work 𝓛 at_mem run).pre (to-work l₈ l₉ l₁₀ l₁₁ l₁₂ l₁₃ ks c))) (goes-work l₈ l₉ l₁₀ l₁₁ l₁₂ l₁₃ ks c full) $
-        calls_at ! fm (Work 𝓛 at_mem run) known-work (to-work l₈ l₉ l₁₀ l₁₁ l₁₂ l₁₃ ks c)
+        move ! (2 ∷ 0 ∷ []) $ use2 𝓛 (raw ((Work 𝓛 at_mem run).pre (to_work l₈ l₉ l₁₀ l₁₁ l₁₂ l₁₃ ks c))) (goes_work l₈ l₉ l₁₀ l₁₁ l₁₂ l₁₃ ks c full) $
+        calls_at ! fm (Work 𝓛 at_mem run) known-work (to_work l₈ l₉ l₁₀ l₁₁ l₁₂ l₁₃ ks c)
         (and_then ! (load ! (from ! (stop !)) (look ! 31 refl))
         (and_then ! (load ! (from ! (stop !)) (look ! 27 refl))
         (and_then ! (load ! (from ! (stop !)) (look ! 23 refl))
@@ -526,22 +526,22 @@ module _ {M : Type 1} {𝓤 : Ura M} (𝓛 : Logic 𝓤) (at_mem : Memory → SP
         (and_then ! (load ! (from ! (stop !)) (look ! 71 refl)) (and_then ! (load ! (from ! (stop !)) (look ! 69 refl)) (no_more !)))))))))))))) (λ z.
         use1 𝓛 (later (some (λ (u : NotedTurn). (With 𝓛 ks Tokens ⊛ ‵ ((U.the_row).own_val u (z ∷ []))) ⊛ raw
         (ensured 𝓛 works.ended (works.clauses 𝓛 at_mem run) (
-          lft-of ks.next,
+          lft_of ks.next,
           (
-            lft-of ks.prev,
+            lft_of ks.prev,
             (
-              lft-of ks.bucket,
-              (lft-of ks.entry, (lft-of ks.generation, (lft-of ks.serial, (κ₂, (κ₃, (κ₄, (κ₅, (κ₆, tt)))))))),
+              lft_of ks.bucket,
+              (lft_of ks.entry, (lft_of ks.generation, (lft_of ks.serial, (κ₂, (κ₃, (κ₄, (κ₅, (κ₆, tt)))))))),
             ),
           ),
         ) (passed l₈ l₉ l₁₀ l₁₁ l₁₂ l₁₃ ks c) tt
         u)))) (id⊢ 𝓤 _) $ await ! tt $ pick ! (λ u.
         split ! $ move ! (1 ∷ []) $ use1 𝓛 (some (λ (ws : Last l₈ l₉ l₁₀ l₁₁ l₁₂ l₁₃ ks c). ‵
         (lasts works.ended (
-          lft-of ks.next,
+          lft_of ks.next,
           (
-            lft-of ks.prev,
-            (lft-of ks.bucket, (lft-of ks.entry, (lft-of ks.generation, (lft-of ks.serial, (κ₂, (κ₃, (κ₄, (κ₅, (κ₆, tt))))))))),
+            lft_of ks.prev,
+            (lft_of ks.bucket, (lft_of ks.entry, (lft_of ks.generation, (lft_of ks.serial, (κ₂, (κ₃, (κ₄, (κ₅, (κ₆, tt))))))))),
           ),
         )
         (passed l₈ l₉ l₁₀ l₁₁ l₁₂ l₁₃ ks c) ws) ⊛ raw (fact 𝓤 (For l₈ l₉ l₁₀ l₁₁ l₁₂ l₁₃ ks c ws u)))) (id⊢ 𝓤 _) $ pick ! (λ ws. split ! $
@@ -550,20 +550,20 @@ module _ {M : Type 1} {𝓤 : Ura M} (𝓛 : Logic 𝓤) (at_mem : Memory → SP
         drop ! $ fsplit ! $ drop ! $
         move ! (1 ∷ []) $ split ! $ move ! (1 ∷ []) $ peeks ! U.the_row (Is U.the_row) (shows 𝓛 U.the_row) u (z ∷ []) (λ is. drop ! $
         move ! (0 ∷ 2 ∷ []) $ use2 𝓛 (later (‵ (Rows 4168 l₈ l₉ l₁₀ l₁₁ l₁₂ l₁₃ c) ⊛ Tokens))
-        (six-unshared 𝓛 4168 l₈ l₉ l₁₀ l₁₁ l₁₂ l₁₃ fits_8 fits-4 c full Tokens ftrue ks) $ await ! tt $ split ! $
+        (six_unshared 𝓛 4168 l₈ l₉ l₁₀ l₁₁ l₁₂ l₁₃ fits_8 fits_4 c full Tokens ftrue ks) $ await ! tt $ split ! $
         land ! (from ! (stop !)) (init ! 62 refl ((LL.lawful U.the_type U'.the_laws 𝓛).typed u _ is).0) $
         rewrite ! 62 (λ (y : Val). ‵ (fat full_share U'.mir l₁₄ 0 y)) (ap only (LL.tells U.the_type U'.the_laws u _ is)) refl $
         -- the clock is stored back, and its borrow closed
         assigns ! (of_opd ! (load ! (from ! (fld ! refl (stop !))) (look_in ! 62 (sub ! 0 refl (whole !))))) (from ! (hop ! (look ! 80 refl) (stop !)))
-        (store_raw ! 4 refl ((LL.lawful K.the_type K'.the_laws 𝓛).typed u.clock _ (is-clock u is)).0) $
-        owned ! K.the_row (Is K.the_row) (LL.makes K.the_type K'.the_plain 𝓛) u.clock _ (is-clock u is) $ move ! (5 ∷ 0 ∷ 6 ∷ 7 ∷ 8 ∷ []) $ closes ! tt
+        (store_raw ! 4 refl ((LL.lawful K.the_type K'.the_laws 𝓛).typed u.clock _ (is_clock u is)).0) $
+        owned ! K.the_row (Is K.the_row) (LL.makes K.the_type K'.the_plain 𝓛) u.clock _ (is_clock u is) $ move ! (5 ∷ 0 ∷ 6 ∷ 7 ∷ 8 ∷ []) $ closes ! tt
         K.the_row u.clock (vals u.clock) b₁ o₁ $
         assigns ! (of_opd ! (load ! (from ! (fld ! refl (stop !))) (look_in ! 61 (sub ! 1 refl (whole !))))) (from ! (stop !))
-        (init ! 83 refl ((EL.lawful E.the_type E'.the_laws 𝓛 tt).typed u.answer _ (is-answer u is)).0) $
+        (init ! 83 refl ((EL.lawful E.the_type E'.the_laws 𝓛 tt).typed u.answer _ (is_answer u is)).0) $
         returns ! (look ! 83 refl) $
         move ! (3 ∷ []) $ use1 𝓛 (‵ (froom (ty_array (ty_int w64) 4168) l₈ 0) ⊛ ‵ (froom (ty_array (ty_int w64) 4168) l₉ 0) ⊛ ‵
         (froom (ty_array (ty_int w64) 4168) l₁₀ 0) ⊛ ‵ (froom (ty_array (ty_int w64) 4168) l₁₁ 0) ⊛ ‵ (froom (ty_array (ty_int w32) 4168) l₁₂ 0) ⊛ ‵
-        (froom (ty_array (ty_int w64) 4168) l₁₃ 0)) (six-rooms 𝓛 4168 l₈ l₉ l₁₀ l₁₁ l₁₂ l₁₃ c full) $ split ! $ move ! (1 ∷ []) $ split ! $ move !
+        (froom (ty_array (ty_int w64) 4168) l₁₃ 0)) (six_rooms 𝓛 4168 l₈ l₉ l₁₀ l₁₁ l₁₂ l₁₃ c full) $ split ! $ move ! (1 ∷ []) $ split ! $ move !
         (1 ∷ []) $ split ! $ move ! (1 ∷ []) $ split ! $ move ! (1 ∷ []) $ split ! $
         forget ! 88 refl $ forget ! 86 refl $ forget ! 84 refl $ forget ! 82 refl $ forget ! 80 refl $ forget ! 78 refl $ forget ! 76 refl $ forget ! 74 refl $
         forget ! 66 refl $ forget ! 64 refl $ forget ! 62 refl $ forget ! 60 refl $ forget ! 58 refl $ forget ! 56 refl $ forget ! 54 refl $ forget ! 52
@@ -582,14 +582,14 @@ module _ {M : Type 1} {𝓤 : Ura M} (𝓛 : Logic 𝓤) (at_mem : Memory → SP
         (14 ∷ 15 ∷ []) $ free1 ! $ move ! (12 ∷ 13 ∷ []) $ free1 ! $ move ! (10 ∷ 11 ∷ []) $ free1 ! $ move ! (8 ∷ 9 ∷ []) $ free1 ! $ move ! (6 ∷ 7 ∷ [])
         $ free1 ! $ free0 ! $
         keep ! (0 ∷ 1 ∷ 4 ∷ 5 ∷ 2 ∷ 3 ∷ []) $
-        by ! (exits l₈ l₉ l₁₀ l₁₁ l₁₂ l₁₃ ks c loaded ws u works-for (is-answer u is)))))))))))))))))))))))))))))))))))))))))))))))))))))))))))))
+        by ! (exits l₈ l₉ l₁₀ l₁₁ l₁₂ l₁₃ ks c loaded ws u works-for (is_answer u is)))))))))))))))))))))))))))))))))))))))))))))))))))))))))))))
 
 module _ {M : Type 1} {𝓤 : Ura M} (𝓛 : Logic 𝓤) (at_mem : Memory → SProp 𝓤) (run : Routine → Fun 𝓤) where
   open 𝓛 use {H}
 
-  thin-walks : (C : Calls 𝓤 H) (Λ : Loops 𝓤 H) → FmC 𝓤 H 𝓛.laws C → Triple 𝓤 (C #load) (Load 𝓛 at_mem run) → Triple 𝓤 (C #work) (Work 𝓛 at_mem run)
+  thin_walks : (C : Calls 𝓤 H) (Λ : Loops 𝓤 H) → FmC 𝓤 H 𝓛.laws C → Triple 𝓤 (C #load) (Load 𝓛 at_mem run) → Triple 𝓤 (C #work) (Work 𝓛 at_mem run)
       → Walks 𝓛 thin.ended stayed (WpFn 𝓤 H C Λ code.function) (thin.clauses 𝓛 at_mem run)
-  thin-walks C Λ fm known-load known-work = walked 𝓛 thin.ended stayed (thin.clauses 𝓛 at_mem run) (WpFn 𝓤 H C Λ code.function)
+  thin_walks C Λ fm known-load known-work = walked 𝓛 thin.ended stayed (thin.clauses 𝓛 at_mem run) (WpFn 𝓤 H C Λ code.function)
       (λ κs. (shr_slice_vals, (shr_vals, (shr_slice_vals, (shr_slice_vals, (shr_slice_vals, (shr_slice_vals, (shr_slice_vals, tt))))))))
       (λ κs. (
         shr_slice_Tells (named 0) κs.0 T.the_row,
@@ -615,10 +615,10 @@ module _ {M : Type 1} {𝓤 : Ura M} (𝓛 : Logic 𝓤) (at_mem : Memory → SP
       are.0.0.1 are.1.1.0.0.1 are.1.1.1.0.0.1 are.1.1.1.1.0.0.1 are.1.1.1.1.1.0.0.1 are.1.1.1.1.1.1.0.0.1 C Λ
       fm known-load known-work))
 
-thin-meets : {M : Type 1} {𝓤 : Ura M} (𝓛 : Logic 𝓤) → (at_mem : Memory → SProp 𝓤) (run : Routine → Fun 𝓤) (𝓣 : Tables 𝓤 𝓛.H) → Triple
+thin_meets : {M : Type 1} {𝓤 : Ura M} (𝓛 : Logic 𝓤) → (at_mem : Memory → SProp 𝓤) (run : Routine → Fun 𝓤) (𝓣 : Tables 𝓤 𝓛.H) → Triple
     𝓤 (𝓣.C #load) (Load 𝓛 at_mem run) → Triple 𝓤 (𝓣.C #work) (Work 𝓛 at_mem run)
     → Meets 𝓛 thin.signature (WpFn 𝓤 𝓛.H 𝓣.C 𝓣.Λ code.function) (thin.spec 𝓛 at_mem run)
-thin-meets {𝓤 = 𝓤} 𝓛 at_mem run 𝓣 known-load known-work =
+thin_meets {𝓤 = 𝓤} 𝓛 at_mem run 𝓣 known-load known-work =
     walk_Meets 𝓛 thin.ended stayed (
       λ κs y f vs fits. 𝓛.laws.⇛_intro _,
       (
@@ -634,13 +634,13 @@ thin-meets {𝓤 = 𝓤} 𝓛 at_mem run 𝓣 known-load known-work =
     )
     (thin.clauses 𝓛 at_mem run)
     (WpFn 𝓤 𝓛.H 𝓣.C 𝓣.Λ code.function) (WpFn-mono 𝓤 𝓛.H 𝓛.laws 𝓣 code.function)
-    (thin-walks 𝓛 at_mem run 𝓣.C 𝓣.Λ (fm_of 𝓤 𝓛.H 𝓛.laws 𝓣) known-load known-work)
+    (thin_walks 𝓛 at_mem run 𝓣.C 𝓣.Λ (fm_of 𝓤 𝓛.H 𝓛.laws 𝓣) known-load known-work)
 
-pub abandon-spec : {M : Type 1} → stated.statement M
+pub abandon_spec : {M : Type 1} → stated.statement M
 unfolding code.routine tables_of
-abandon-spec 𝓤 𝓛 𝓜 𝓡 =
+abandon_spec 𝓤 𝓛 𝓜 𝓡 =
     entered 𝓤 𝓛.H (triple_of 𝓛 thin.signature (thin.spec 𝓛 𝓜.mem 𝓡.run))
     (tables 𝓤 𝓛.H 𝓜 𝓡 code.env).C (tables 𝓤 𝓛.H 𝓜 𝓡 code.env).Λ #thin code.function (code.unfolded 𝓤 𝓛.H 𝓜 𝓡)
-    (thin-meets 𝓛 𝓜.mem 𝓡.run (tables_of 𝓤 𝓛.H 𝓜 (tables 𝓤 𝓛.H 𝓜 𝓡 code.env))
+    (thin_meets 𝓛 𝓜.mem 𝓡.run (tables_of 𝓤 𝓛.H 𝓜 (tables 𝓤 𝓛.H 𝓜 𝓡 code.env))
     (cited 𝓤 𝓛.H (Load 𝓛 𝓜.mem 𝓡.run) 𝓜 𝓡 code.env #load load-def.routine code.calls-nodes::load (load-thm.met 𝓤 𝓛 𝓜 𝓡))
     (cited 𝓤 𝓛.H (Work 𝓛 𝓜.mem 𝓡.run) 𝓜 𝓡 code.env #work work-def.routine code.calls-face-works::advancing::abandon-work (work-thm.met 𝓤 𝓛 𝓜 𝓡)))

@@ -52,7 +52,7 @@ use Rattle.wheel_rules.specs.declared.calls.Clock.{Clock}
 use Rattle.face_rules.specs.declared.LaidTurn.{LaidTurn}
 use Rattle.face_rules.specs.Works.{Enabled}
 use Rattle.face_rules.specs.nodes.Laid.{Laid}
-use Rattle.wheel_rules.specs.Promise.{notedSays}
+use Rattle.wheel_rules.specs.Promise.{noted_says}
 use Rattle.nodes.proofs.Passing.{passed_on}
 use Rattle.face_rules.specs.contracts.Node as T
 use Rattle.wheel_rules.specs.contracts.calls.Clock as K
@@ -140,14 +140,14 @@ module _ {M : Type 1} {𝓤 : Ura M} (𝓛 : Logic 𝓤) (at_mem : Memory → SP
       (((κ₀, (κ₁, (κ₂, (κ₃, (κ₄, (κ₅, (κ₆, tt))))))), (q₀, (q₁, (q₂, (q₃, (q₄, (q₅, (q₆, tt))))))), tt, x, at), tt)
 
   -- what whoever holds what the work returns knows of its fields
-  is-clock : (u : LaidTurn) {v : Val} → Is U.the_row u (v ∷ []) → Is K.the_row u.clock (vals u.clock)
-  is-clock u is = (LL.owed U.the_type U'.the_laws u _ is).0
+  is_clock : (u : LaidTurn) {v : Val} → Is U.the_row u (v ∷ []) → Is K.the_row u.clock (vals u.clock)
+  is_clock u is = (LL.owed U.the_type U'.the_laws u _ is).0
 
   abbrev ans : LaidTurn → Val
   ans u = EL.val E.the_type E'.the_laws u.answer
 
-  is-answer : (u : LaidTurn) {v : Val} → Is U.the_row u (v ∷ []) → Is E.the_row u.answer (ans u ∷ [])
-  is-answer u is = (LL.owed U.the_type U'.the_laws u _ is).1.0
+  is_answer : (u : LaidTurn) {v : Val} → Is U.the_row u (v ∷ []) → Is E.the_row u.answer (ans u ∷ [])
+  is_answer u is = (LL.owed U.the_type U'.the_laws u _ is).1.0
 
   -- what is passed to the work, what it says of it at exit, and its promise
   abbrev Tokens : Item 𝓤
@@ -156,8 +156,8 @@ module _ {M : Type 1} {𝓤 : Ura M} (𝓛 : Logic 𝓤) (at_mem : Memory → SP
   abbrev passed : (ℕ × (Clock × (MutBor (List ℕ) × (MutBor (List ℕ) × (MutBor (List Bool) × (MutBor (List ℕ) × (MutBor (List ℕ) × Unit {0})))))))
   passed = (n, (h, (x₃, (x₄, (x₅, (x₆, (x₇, tt)))))))
 
-  abbrev passed-at : (List Val × (List Val × (List Val × (List Val × (List Val × (List Val × (List Val × Unit {0})))))))
-  passed-at = (
+  abbrev passed_at : (List Val × (List Val × (List Val × (List Val × (List Val × (List Val × (List Val × Unit {0})))))))
+  passed_at = (
     vint w64 n ∷ [],
     (
       vals h,
@@ -176,14 +176,14 @@ module _ {M : Type 1} {𝓤 : Ura M} (𝓛 : Logic 𝓤) (at_mem : Memory → SP
 
   abbrev Others : Fml
   Others = owns (usize ∷ K.the_row ∷ MutSlice (named 2) κ₂ usize ∷ MutSlice (named 3) κ₃ usize ∷ MutSlice (named 4) κ₄ bool ∷ MutSlice (named 5) κ₅ u64 ∷
-      MutSlice (named 6) κ₆ u32 ∷ []) passed passed-at
+      MutSlice (named 6) κ₆ u32 ∷ []) passed passed_at
 
   abbrev Last : Type 0
   Last = Lasts works.ended (κ₂, (κ₃, (κ₄, (κ₅, (κ₆, tt))))) passed
 
   abbrev For : Last → LaidTurn → Type 0
   For ws u = Enabled n h u.clock x₃.now x₄.now ws.1.1.0 ws.1.1.1.0 x₅.now ws.1.1.1.1.0 x₆.now x₇.now ws.1.1.1.1.1.0
-      ws.1.1.1.1.1.1.0 u.laid (notedSays u.answer)
+      ws.1.1.1.1.1.1.0 u.laid (noted_says u.answer)
 
   abbrev Rest-last : Last → Fml
   Rest-last ws = fsep (fsep (finally usize x₃.ghost_name ws.1.1.0) (feq ℕ (length ws.1.1.0) (length x₃.now)))
@@ -207,21 +207,21 @@ module _ {M : Type 1} {𝓤 : Ura M} (𝓛 : Logic 𝓤) (at_mem : Memory → SP
       owned ! E.the_row (Is E.the_row) (EL.makes E.the_type E'.the_plain 𝓛) u.answer _ g $ move ! (1 ∷ 0 ∷ []) $ done !
 
   -- ---- what each callee's triple binds outside, and that the caller has what it asks
-  abbrev to-work : (Work 𝓛 at_mem run).Ghost
-  to-work = (((κ₂, (κ₃, (κ₄, (κ₅, (κ₆, tt))))), (q₂, (q₃, (q₄, (q₅, (q₆, tt))))), tt, passed, passed-at), tt)
+  abbrev to_work : (Work 𝓛 at_mem run).Ghost
+  to_work = (((κ₂, (κ₃, (κ₄, (κ₅, (κ₆, tt))))), (q₂, (q₃, (q₄, (q₅, (q₆, tt))))), tt, passed, passed_at), tt)
 
-  goes-work : ent 𝓤 (⋆ 𝓛 (Tokens ∷ ‵ Others ∷ [])) ((Work 𝓛 at_mem run).pre to-work)
-  goes-work = qed 𝓛 (Tokens ∷ ‵ Others ∷ []) ∵ join ! $ nothing ! $ move ! (1 ∷ 0 ∷ []) $ done !
+  goes_work : ent 𝓤 (⋆ 𝓛 (Tokens ∷ ‵ Others ∷ [])) ((Work 𝓛 at_mem run).pre to_work)
+  goes_work = qed 𝓛 (Tokens ∷ ‵ Others ∷ []) ∵ join ! $ nothing ! $ move ! (1 ∷ 0 ∷ []) $ done !
 
-  abbrev to-lay : Bool → (Lay 𝓛 at_mem run).Ghost
-  to-lay on = (((κ₀, tt), (q₀, tt), tt, (ref γ, (on, tt)), (s ∷ [], (vbool on ∷ [], tt))), tt)
+  abbrev to_lay : Bool → (Lay 𝓛 at_mem run).Ghost
+  to_lay on = (((κ₀, tt), (q₀, tt), tt, (ref γ, (on, tt)), (s ∷ [], (vbool on ∷ [], tt))), tt)
 
-  abbrev nodes-had : List (Item 𝓤)
-  nodes-had = ‵ (flft κ₀ q₀) ∷ ‵ (fobs γ ((coded_holeys T.the_row).code (heres T.the_row ys))) ∷ ‵ (fbor κ₀ (Held T.the_row n b o γ)) ∷ []
+  abbrev nodes_had : List (Item 𝓤)
+  nodes_had = ‵ (flft κ₀ q₀) ∷ ‵ (fobs γ ((coded_holeys T.the_row).code (heres T.the_row ys))) ∷ ‵ (fbor κ₀ (Held T.the_row n b o γ)) ∷ []
 
-  goes-lay : (on : Bool) → ent 𝓤 (⋆ 𝓛 nodes-had) ((Lay 𝓛 at_mem run).pre (to-lay on))
-  goes-lay on =
-      qed 𝓛 nodes-had ∵ nothing ! $ move ! (1 ∷ 0 ∷ []) $ join ! $ move ! (1 ∷ 2 ∷ []) $ fjoin ! $ pure_i ! (mut_slice_at T.the_row (ref γ) (s ∷ [])) (tt, (tt, tt))
+  goes_lay : (on : Bool) → ent 𝓤 (⋆ 𝓛 nodes_had) ((Lay 𝓛 at_mem run).pre (to_lay on))
+  goes_lay on =
+      qed 𝓛 nodes_had ∵ nothing ! $ move ! (1 ∷ 0 ∷ []) $ join ! $ move ! (1 ∷ 2 ∷ []) $ fjoin ! $ pure_i ! (mut_slice_at T.the_row (ref γ) (s ∷ [])) (tt, (tt, tt))
       (refl, room) $ fjoin ! $
       nothing ! $ owned ! bool (Is bool) (bool_Makes 𝓛) on _ refl $ fjoin ! $ move ! (1 ∷ 0 ∷ []) $ fjoin ! $ move ! (1 ∷ 0 ∷ []) $ join ! $ nothing ! $
       move ! (1 ∷ 0 ∷ []) $ done !
@@ -283,8 +283,8 @@ module _ {M : Type 1} {𝓤 : Ura M} (𝓛 : Logic 𝓤) (at_mem : Memory → SP
         (init ! 15 refl (tt, (tt, (record { fits = room₇.0 }, tt)))) $
         move ! (6 ∷ []) $ owned ! K.the_row (Is K.the_row) (LL.makes K.the_type K'.the_plain 𝓛) h _ was $ fjoin ! $ owned ! usize (Is usize)
         (uint_Makes 𝓛 w64) n _ (refl, room.0) $ fjoin ! $
-        move ! (5 ∷ 0 ∷ []) $ use2 𝓛 (raw ((Work 𝓛 at_mem run).pre to-work)) goes-work $
-        calls_at ! fm (Work 𝓛 at_mem run) known-work to-work
+        move ! (5 ∷ 0 ∷ []) $ use2 𝓛 (raw ((Work 𝓛 at_mem run).pre to_work)) goes_work $
+        calls_at ! fm (Work 𝓛 at_mem run) known-work to_work
         (and_then ! (load ! (from ! (stop !)) (look ! 36 refl))
         (and_then ! (load ! (from ! (stop !)) (look ! 34 refl))
         (and_then ! (load ! (from ! (stop !)) (look ! 30 refl))
@@ -301,16 +301,16 @@ module _ {M : Type 1} {𝓤 : Ura M} (𝓛 : Logic 𝓤) (at_mem : Memory → SP
         rewrite ! 39 (λ (y : Val). ‵ (fat full_share U'.mir l₈ 0 y)) (ap only (LL.tells U.the_type U'.the_laws u _ is)) refl $
         -- the clock is stored back, and its borrow closed
         assigns ! (of_opd ! (load ! (from ! (fld ! refl (stop !))) (look_in ! 39 (sub ! 0 refl (whole !))))) (from ! (hop ! (look ! 51 refl) (stop !)))
-        (store_raw ! 2 refl ((LL.lawful K.the_type K'.the_laws 𝓛).typed u.clock _ (is-clock u is)).0) $
-        owned ! K.the_row (Is K.the_row) (LL.makes K.the_type K'.the_plain 𝓛) u.clock _ (is-clock u is) $ move ! (3 ∷ 0 ∷ 4 ∷ 5 ∷ 6 ∷ []) $ closes ! tt
+        (store_raw ! 2 refl ((LL.lawful K.the_type K'.the_laws 𝓛).typed u.clock _ (is_clock u is)).0) $
+        owned ! K.the_row (Is K.the_row) (LL.makes K.the_type K'.the_plain 𝓛) u.clock _ (is_clock u is) $ move ! (3 ∷ 0 ∷ 4 ∷ 5 ∷ 6 ∷ []) $ closes ! tt
         K.the_row u.clock (vals u.clock) b₁ o₁ $
         -- `lay`, which the nodes' borrow is passed on to
         assigns ! (addr ! (from ! (fld ! refl (hop ! (look_in ! 52 (sub ! 0 refl (whole !))) (stop !))))) (from ! (stop !)) (init ! 10 refl (tt, tt)) $
         assigns ! (agg ! (and_then ! (load ! (from ! (stop !)) (look ! 10 refl))
         (and_then ! (load ! (from ! (fld ! refl (stop !))) (look_in ! 52 (sub ! 1 refl (whole !)))) (no_more !)))) (from ! (stop !))
         (init ! 8 refl (tt, (tt, (record { fits = room.0 }, tt)))) $
-        move ! (5 ∷ 6 ∷ 7 ∷ []) $ use3 𝓛 (raw ((Lay 𝓛 at_mem run).pre (to-lay u.laid))) (goes-lay u.laid) $
-        calls_at ! fm (Lay 𝓛 at_mem run) known-lay (to-lay u.laid)
+        move ! (5 ∷ 6 ∷ 7 ∷ []) $ use3 𝓛 (raw ((Lay 𝓛 at_mem run).pre (to_lay u.laid))) (goes_lay u.laid) $
+        calls_at ! fm (Lay 𝓛 at_mem run) known-lay (to_lay u.laid)
         (and_then ! (load ! (from ! (stop !)) (look ! 6 refl))
         (and_then ! (load ! (from ! (fld ! refl (stop !))) (look_in ! 36 (sub ! 2 refl (whole !)))) (no_more !))) (λ y.
         use1 𝓛 (later (some (λ (none : Unit {0}). ((‵ (flft κ₀ q₀) ⊛ ‵ ftrue) ⊛ ‵ (Nothing.own none (y ∷ []))) ⊛ raw
@@ -321,7 +321,7 @@ module _ {M : Type 1} {𝓤 : Ura M} (𝓛 : Logic 𝓤) (at_mem : Memory → SP
         move ! (1 ∷ []) $ split ! $ move ! (1 ∷ []) $ peeks ! Nothing (Is Nothing) (shows 𝓛 Nothing) none (y ∷ []) (λ isy. drop ! $ split ! $
         land ! (from ! (stop !)) (init ! 12 refl ((Nothing-Lawful 𝓛).typed none _ isy).0) $
         assigns ! (of_opd ! (load ! (from ! (fld ! refl (stop !))) (look_in ! 38 (sub ! 1 refl (whole !))))) (from ! (stop !))
-        (init ! 54 refl ((EL.lawful E.the_type E'.the_laws 𝓛 tt).typed u.answer _ (is-answer u is)).0) $
+        (init ! 54 refl ((EL.lawful E.the_type E'.the_laws 𝓛 tt).typed u.answer _ (is_answer u is)).0) $
         returns ! (look ! 54 refl) $
         forget ! 54 refl $ forget ! 52 refl $ forget ! 50 refl $ forget ! 48 refl $ forget ! 46 refl $ forget ! 44 refl $ forget ! 42 refl $ forget ! 40 refl $
         forget ! 38 refl $ forget ! 36 refl $ forget ! 34 refl $ forget ! 32 refl $ forget ! 30 refl $ forget ! 28 refl $ forget ! 26 refl $ forget ! 24
@@ -334,14 +334,14 @@ module _ {M : Type 1} {𝓤 : Ura M} (𝓛 : Logic 𝓤) (at_mem : Memory → SP
         (22 ∷ 23 ∷ []) $ free1 ! $ move ! (20 ∷ 21 ∷ []) $ free1 ! $ move ! (18 ∷ 19 ∷ []) $ free1 ! $ move ! (16 ∷ 17 ∷ []) $ free1 ! $ move !
         (14 ∷ 15 ∷ []) $ free1 ! $ move ! (12 ∷ 13 ∷ []) $ free1 ! $ move ! (10 ∷ 11 ∷ []) $ free1 ! $ move ! (8 ∷ 9 ∷ []) $ free1 ! $ free0 ! $
         keep ! (2 ∷ 3 ∷ 4 ∷ 7 ∷ 0 ∷ 5 ∷ 6 ∷ []) $
-        by ! (exits ws u works-for zs.0 laid (is-answer u is))))))))))))))))))))))))))))))))))))))
+        by ! (exits ws u works-for zs.0 laid (is_answer u is))))))))))))))))))))))))))))))))))))))
 
 module _ {M : Type 1} {𝓤 : Ura M} (𝓛 : Logic 𝓤) (at_mem : Memory → SProp 𝓤) (run : Routine → Fun 𝓤) where
   open 𝓛 use {H}
 
-  thin-walks : (C : Calls 𝓤 H) (Λ : Loops 𝓤 H) → FmC 𝓤 H 𝓛.laws C → Triple 𝓤 (C #work) (Work 𝓛 at_mem run) → Triple 𝓤 (C #lay) (Lay 𝓛 at_mem run)
+  thin_walks : (C : Calls 𝓤 H) (Λ : Loops 𝓤 H) → FmC 𝓤 H 𝓛.laws C → Triple 𝓤 (C #work) (Work 𝓛 at_mem run) → Triple 𝓤 (C #lay) (Lay 𝓛 at_mem run)
       → Walks 𝓛 thin.ended stayed (WpFn 𝓤 H C Λ code.function) (thin.clauses 𝓛 at_mem run)
-  thin-walks C Λ fm known-work known-lay = walked 𝓛 thin.ended stayed (thin.clauses 𝓛 at_mem run) (WpFn 𝓤 H C Λ code.function)
+  thin_walks C Λ fm known-work known-lay = walked 𝓛 thin.ended stayed (thin.clauses 𝓛 at_mem run) (WpFn 𝓤 H C Λ code.function)
       (λ κs. (mut_slice_vals, (mut_vals, (mut_slice_vals, (mut_slice_vals, (mut_slice_vals, (mut_slice_vals, (mut_slice_vals, tt))))))))
       (λ κs. (
         mut_slice_Tells (named 0) κs.0 T.the_row,
@@ -367,10 +367,10 @@ module _ {M : Type 1} {𝓤 : Ura M} (𝓛 : Logic 𝓤) (at_mem : Memory → SP
       are.0.0.1 are.1.1.0.0.1 are.1.1.1.0.0.1 are.1.1.1.1.0.0.1 are.1.1.1.1.1.0.0.1 are.1.1.1.1.1.1.0.0.1 C Λ
       fm known-work known-lay))
 
-thin-meets : {M : Type 1} {𝓤 : Ura M} (𝓛 : Logic 𝓤) → (at_mem : Memory → SProp 𝓤) (run : Routine → Fun 𝓤) (𝓣 : Tables 𝓤 𝓛.H) → Triple
+thin_meets : {M : Type 1} {𝓤 : Ura M} (𝓛 : Logic 𝓤) → (at_mem : Memory → SProp 𝓤) (run : Routine → Fun 𝓤) (𝓣 : Tables 𝓤 𝓛.H) → Triple
     𝓤 (𝓣.C #work) (Work 𝓛 at_mem run) → Triple 𝓤 (𝓣.C #lay) (Lay 𝓛 at_mem run)
     → Meets 𝓛 thin.signature (WpFn 𝓤 𝓛.H 𝓣.C 𝓣.Λ code.function) (thin.spec 𝓛 at_mem run)
-thin-meets {𝓤 = 𝓤} 𝓛 at_mem run 𝓣 known-work known-lay =
+thin_meets {𝓤 = 𝓤} 𝓛 at_mem run 𝓣 known-work known-lay =
     walk_Meets 𝓛 thin.ended stayed (
       λ κs y f vs fits. 𝓛.laws.⇛_intro _,
       (
@@ -386,13 +386,13 @@ thin-meets {𝓤 = 𝓤} 𝓛 at_mem run 𝓣 known-work known-lay =
     )
     (thin.clauses 𝓛 at_mem run)
     (WpFn 𝓤 𝓛.H 𝓣.C 𝓣.Λ code.function) (WpFn-mono 𝓤 𝓛.H 𝓛.laws 𝓣 code.function)
-    (thin-walks 𝓛 at_mem run 𝓣.C 𝓣.Λ (fm_of 𝓤 𝓛.H 𝓛.laws 𝓣) known-work known-lay)
+    (thin_walks 𝓛 at_mem run 𝓣.C 𝓣.Λ (fm_of 𝓤 𝓛.H 𝓛.laws 𝓣) known-work known-lay)
 
-pub enable-spec : {M : Type 1} → stated.statement M
+pub enable_spec : {M : Type 1} → stated.statement M
 unfolding code.routine tables_of
-enable-spec 𝓤 𝓛 𝓜 𝓡 =
+enable_spec 𝓤 𝓛 𝓜 𝓡 =
     entered 𝓤 𝓛.H (triple_of 𝓛 thin.signature (thin.spec 𝓛 𝓜.mem 𝓡.run))
     (tables 𝓤 𝓛.H 𝓜 𝓡 code.env).C (tables 𝓤 𝓛.H 𝓜 𝓡 code.env).Λ #thin code.function (code.unfolded 𝓤 𝓛.H 𝓜 𝓡)
-    (thin-meets 𝓛 𝓜.mem 𝓡.run (tables_of 𝓤 𝓛.H 𝓜 (tables 𝓤 𝓛.H 𝓜 𝓡 code.env))
+    (thin_meets 𝓛 𝓜.mem 𝓡.run (tables_of 𝓤 𝓛.H 𝓜 (tables 𝓤 𝓛.H 𝓜 𝓡 code.env))
     (cited 𝓤 𝓛.H (Work 𝓛 𝓜.mem 𝓡.run) 𝓜 𝓡 code.env #work work-def.routine code.calls-face-works::making::enable-work (work-thm.met 𝓤 𝓛 𝓜 𝓡))
     (cited 𝓤 𝓛.H (Lay 𝓛 𝓜.mem 𝓡.run) 𝓜 𝓡 code.env #lay lay-def.routine code.calls-nodes::laying::lay (lay-thm.met 𝓤 𝓛 𝓜 𝓡)))

@@ -42,16 +42,16 @@ use denote.Triple.Spec.{Meets, triple_of}
 use denote.Triple.Statement.{Contract, Triple}
 use denote.Triple.Table.{entered, cited}
 use denote.Triple.Walked.{says, Stays, walk_of, Walks, ends_at, walked, walk_Meets}
-use Rattle.nodes.proofs.Lending.{ref-to, lft-of, zeros-typed, length-lit}
-use Rattle.nodes.proofs.Six.{Full, Leases, Rows, Lenders, Sharers, Owned, Viewed, Lasting, full-holds, Tokens as With, makes-six, lends-six, six-back}
-use Rattle.nodes.proofs.Six.{shares-six, six-unshared, six-rooms}
+use Rattle.nodes.proofs.Lending.{ref_to, lft_of, zeros_typed, length_lit}
+use Rattle.nodes.proofs.Six.{Full, Leases, Rows, Lenders, Sharers, Owned, Viewed, Lasting, full_holds, Tokens as With, makes_six, lends_six, six_back}
+use Rattle.nodes.proofs.Six.{shares_six, six_unshared, six_rooms}
 use Rattle.face_rules.specs.declared.Node.{Node}
 use Rattle.wheel_rules.specs.declared.calls.Clock.{Clock}
 use Rattle.wheel_rules.specs.declared.calls.Noted.{Noted}
 use Rattle.face_rules.specs.Works.{Loaded}
 use Rattle.face_rules.specs.nodes.Columns.{Columns, Loads, columns}
-use Rattle.rules.specs.Wheel.{setEntry}
-use Rattle.wheel_rules.specs.Promise.{notedSays}
+use Rattle.rules.specs.Wheel.{set_entry}
+use Rattle.wheel_rules.specs.Promise.{noted_says}
 use mathlib.Core.Bool.{cond}
 use mathlib.Core.Option as Option
 use Rattle.nodes.proofs.Passing.{passed_on}
@@ -90,17 +90,17 @@ abbrev vals : Clock → List Val
 vals = LL.vals K.the_type K'.the_laws
 
 -- ---- 4168 numbers fit
-some-8 : 0 < 2 ^ bits w64
-some-8 = lit< tt
+some_8 : 0 < 2 ^ bits w64
+some_8 = lit< tt
 
-some-4 : 0 < 2 ^ bits w32
-some-4 = lit< tt
+some_4 : 0 < 2 ^ bits w32
+some_4 = lit< tt
 
 fits_8 : Room u64 4168
 fits_8 = (lit< tt, lit< tt)
 
-fits-4 : Room u32 4168
-fits-4 = (lit< tt, lit< tt)
+fits_4 : Room u32 4168
+fits_4 = (lit< tt, lit< tt)
 
 module _ {M : Type 1} {𝓤 : Ura M} (𝓛 : Logic 𝓤) (at_mem : Memory → SProp 𝓤) (run : Routine → Fun 𝓤) where
   abbrev Load : Contract 𝓤
@@ -159,8 +159,8 @@ module _ {M : Type 1} {𝓤 : Ura M} (𝓛 : Logic 𝓤) (at_mem : Memory → SP
     ),
   )
 
-  typed-h : Holds (has_ty K'.mir (only (vals h))) × WT (only (vals h))
-  typed-h = ((LL.lawful K.the_type K'.the_laws 𝓛).typed h _ was).0
+  typed_h : Holds (has_ty K'.mir (only (vals h))) × WT (only (vals h))
+  typed_h = ((LL.lawful K.the_type K'.the_laws 𝓛).typed h _ was).0
 
   abbrev Post : Val → SProp 𝓤
   Post = (walk_of 𝓛 thin.ended stayed (thin.clauses 𝓛 at_mem run)).post
@@ -203,16 +203,16 @@ module _ {M : Type 1} {𝓤 : Ura M} (𝓛 : Logic 𝓤) (at_mem : Memory → SP
         (MutBor (List ℕ) × (MutBor (List ℕ) × (ℕ × (Clock ×
         (MutBor (List ℕ) × (MutBor (List ℕ) × (MutBor (List Bool) × (MutBor (List ℕ) × (MutBor (List ℕ) × (ℕ × (Bool × (ℕ × (ℕ × Unit {0})))))))))))))))))
     passed ls c = (
-      ref-to a₁ ls.next.name c.next,
+      ref_to a₁ ls.next.name c.next,
       (
-        ref-to a₂ ls.prev.name c.prev,
+        ref_to a₂ ls.prev.name c.prev,
         (
-          ref-to a₃ ls.bucket.name c.bucket,
+          ref_to a₃ ls.bucket.name c.bucket,
           (
-            ref-to a₄ ls.entry.name c.entry,
+            ref_to a₄ ls.entry.name c.entry,
             (
-              ref-to a₅ ls.generation.name c.generation,
-              (ref-to a₆ ls.serial.name c.serial, (n, (h, (x₃, (x₄, (x₅, (x₆, (x₇, (m₈, (t₉, (m₁₀, (m₁₁, tt)))))))))))),
+              ref_to a₅ ls.generation.name c.generation,
+              (ref_to a₆ ls.serial.name c.serial, (n, (h, (x₃, (x₄, (x₅, (x₆, (x₇, (m₈, (t₉, (m₁₀, (m₁₁, tt)))))))))))),
             ),
           ),
         ),
@@ -221,18 +221,18 @@ module _ {M : Type 1} {𝓤 : Ura M} (𝓛 : Logic 𝓤) (at_mem : Memory → SP
 
     abbrev Last : Leases → Columns → Type 0
     Last ls c = Lasts works.ended (
-      lft-of ls.next,
+      lft_of ls.next,
       (
-        lft-of ls.prev,
-        (lft-of ls.bucket, (lft-of ls.entry, (lft-of ls.generation, (lft-of ls.serial, (κ₁, (κ₂, (κ₃, (κ₄, (κ₅, tt))))))))),
+        lft_of ls.prev,
+        (lft_of ls.bucket, (lft_of ls.entry, (lft_of ls.generation, (lft_of ls.serial, (κ₁, (κ₂, (κ₃, (κ₄, (κ₅, tt))))))))),
       ),
     ) (passed ls c)
 
     abbrev For : (ls : Leases) (c : Columns) → Last ls c → Noted → Type 0
-    For ls c ws u = Loaded (setEntry m₈ (cond t₉ (Option.some m₁₀) Option.none) m₁₁)
+    For ls c ws u = Loaded (set_entry m₈ (cond t₉ (Option.some m₁₀) Option.none) m₁₁)
         (columns c.next c.prev c.bucket c.entry c.generation c.serial) n h h x₃.now x₄.now x₅.now
         ws.1.1.1.1.1.1.1.1.1.1.0 x₆.now x₇.now ws.1.1.1.1.1.1.1.1.1.1.1.0 ws.1.1.1.1.1.1.1.1.1.1.1.1.0
-        (notedSays u)
+        (noted_says u)
 
     abbrev Rest-last : (ls : Leases) (c : Columns) → Last ls c → Fml
     Rest-last ls c ws = fsep (ftrue) (fsep (ftrue) (fsep
@@ -255,16 +255,16 @@ module _ {M : Type 1} {𝓤 : Ura M} (𝓛 : Logic 𝓤) (at_mem : Memory → SP
         owned ! E.the_row (Is E.the_row) (EL.makes E.the_type E'.the_plain 𝓛) u _ g $ move ! (1 ∷ 0 ∷ []) $ done !
 
     -- ---- what each callee's triple binds outside, and that the caller has what it asks
-    abbrev to-load : Lft → Share → GName → Leases → Columns → (Load 𝓛 at_mem run).Ghost
-    to-load α p δ ls c = (
+    abbrev to_load : Lft → Share → GName → Leases → Columns → (Load 𝓛 at_mem run).Ghost
+    to_load α p δ ls c = (
       (
         (
           α,
           (
-            lft-of ls.next,
+            lft_of ls.next,
             (
-              lft-of ls.prev,
-              (lft-of ls.bucket, (lft-of ls.entry, (lft-of ls.generation, (lft-of ls.serial, tt)))),
+              lft_of ls.prev,
+              (lft_of ls.bucket, (lft_of ls.entry, (lft_of ls.generation, (lft_of ls.serial, tt)))),
             ),
           ),
         ),
@@ -273,12 +273,12 @@ module _ {M : Type 1} {𝓤 : Ura M} (𝓛 : Logic 𝓤) (at_mem : Memory → SP
         (
           ref δ,
           (
-            ref-to a₁ ls.next.name c.next,
+            ref_to a₁ ls.next.name c.next,
             (
-              ref-to a₂ ls.prev.name c.prev,
+              ref_to a₂ ls.prev.name c.prev,
               (
-                ref-to a₃ ls.bucket.name c.bucket,
-                (ref-to a₄ ls.entry.name c.entry, (ref-to a₅ ls.generation.name c.generation, (ref-to a₆ ls.serial.name c.serial, tt))),
+                ref_to a₃ ls.bucket.name c.bucket,
+                (ref_to a₄ ls.entry.name c.entry, (ref_to a₅ ls.generation.name c.generation, (ref_to a₆ ls.serial.name c.serial, tt))),
               ),
             ),
           ),
@@ -300,22 +300,22 @@ module _ {M : Type 1} {𝓤 : Ura M} (𝓛 : Logic 𝓤) (at_mem : Memory → SP
     goes_load : (α : Lft) (p : Share) (δ : GName) (ls : Leases) (c : Columns) → Full 4168 c
         → ent 𝓤 (mean 𝓛 ((‵ (flft α p) ⊛ With 𝓛 ls (‵ ftrue)) ⊛ ‵
         (fsep ((ShrSlice (named 0) α T.the_row).own_val (ref δ) (s ∷ [])) (Owned 4168 a₁ a₂ a₃ a₄ a₅ a₆ ls c ftrue))))
-        ((Load 𝓛 at_mem run).pre (to-load α p δ ls c))
+        ((Load 𝓛 at_mem run).pre (to_load α p δ ls c))
     goes_load α p δ ls c full =
         qed 𝓛 ((‵ (flft α p) ⊛ With 𝓛 ls (‵ ftrue)) ∷ ‵
-        (fsep ((ShrSlice (named 0) α T.the_row).own_val (ref δ) (s ∷ [])) (Owned 4168 a₁ a₂ a₃ a₄ a₅ a₆ ls c ftrue)) ∷ []) ∵ says ! (full-holds c full) $ done !
+        (fsep ((ShrSlice (named 0) α T.the_row).own_val (ref δ) (s ∷ [])) (Owned 4168 a₁ a₂ a₃ a₄ a₅ a₆ ls c ftrue)) ∷ []) ∵ says ! (full_holds c full) $ done !
 
     load_of : (α : Lft) (p : Share) (δ : GName) (ls : Leases) (c₀ : Columns) (none : Unit {0})
         → ent 𝓤 (ensured 𝓛 loads.ended (loads.clauses 𝓛 at_mem run)
-        (α, (lft-of ls.next, (lft-of ls.prev, (lft-of ls.bucket, (lft-of ls.entry, (lft-of ls.generation, (lft-of ls.serial, tt))))))) (
+        (α, (lft_of ls.next, (lft_of ls.prev, (lft_of ls.bucket, (lft_of ls.entry, (lft_of ls.generation, (lft_of ls.serial, tt))))))) (
           ref δ,
           (
-            ref-to a₁ ls.next.name c₀.next,
+            ref_to a₁ ls.next.name c₀.next,
             (
-              ref-to a₂ ls.prev.name c₀.prev,
+              ref_to a₂ ls.prev.name c₀.prev,
               (
-                ref-to a₃ ls.bucket.name c₀.bucket,
-                (ref-to a₄ ls.entry.name c₀.entry, (ref-to a₅ ls.generation.name c₀.generation, (ref-to a₆ ls.serial.name c₀.serial, tt))),
+                ref_to a₃ ls.bucket.name c₀.bucket,
+                (ref_to a₄ ls.entry.name c₀.entry, (ref_to a₅ ls.generation.name c₀.generation, (ref_to a₆ ls.serial.name c₀.serial, tt))),
               ),
             ),
           ),
@@ -328,14 +328,14 @@ module _ {M : Type 1} {𝓤 : Ura M} (𝓛 : Logic 𝓤) (at_mem : Memory → SP
         (fact 𝓤 (Loads ys (columns c.next c.prev c.bucket c.entry c.generation c.serial)))))
         (columns zs.1.0 zs.1.1.0 zs.1.1.1.0 zs.1.1.1.1.0 zs.1.1.1.1.1.0 zs.1.1.1.1.1.1.0))
 
-    abbrev to-work : Leases → Columns → (Work 𝓛 at_mem run).Ghost
-    to-work ls c = (
+    abbrev to_work : Leases → Columns → (Work 𝓛 at_mem run).Ghost
+    to_work ls c = (
       (
         (
-          lft-of ls.next,
+          lft_of ls.next,
           (
-            lft-of ls.prev,
-            (lft-of ls.bucket, (lft-of ls.entry, (lft-of ls.generation, (lft-of ls.serial, (κ₁, (κ₂, (κ₃, (κ₄, (κ₅, tt))))))))),
+            lft_of ls.prev,
+            (lft_of ls.bucket, (lft_of ls.entry, (lft_of ls.generation, (lft_of ls.serial, (κ₁, (κ₂, (κ₃, (κ₄, (κ₅, tt))))))))),
           ),
         ),
         (full_share, (full_share, (full_share, (full_share, (full_share, (full_share, (q₁, (q₂, (q₃, (q₄, (q₅, tt))))))))))),
@@ -385,9 +385,9 @@ module _ {M : Type 1} {𝓤 : Ura M} (𝓛 : Logic 𝓤) (at_mem : Memory → SP
       tt,
     )
 
-    goes-work : (ls : Leases) (c : Columns) → Full 4168 c → ent 𝓤 (mean 𝓛 (With 𝓛 ls Tokens ⊛ ‵ (Viewed 4168 a₁ a₂ a₃ a₄ a₅ a₆ ls c Others)))
-        ((Work 𝓛 at_mem run).pre (to-work ls c))
-    goes-work ls c full = qed 𝓛 (With 𝓛 ls Tokens ∷ ‵ (Viewed 4168 a₁ a₂ a₃ a₄ a₅ a₆ ls c Others) ∷ []) ∵ says ! (full-holds c full) $ done !
+    goes_work : (ls : Leases) (c : Columns) → Full 4168 c → ent 𝓤 (mean 𝓛 (With 𝓛 ls Tokens ⊛ ‵ (Viewed 4168 a₁ a₂ a₃ a₄ a₅ a₆ ls c Others)))
+        ((Work 𝓛 at_mem run).pre (to_work ls c))
+    goes_work ls c full = qed 𝓛 (With 𝓛 ls Tokens ∷ ‵ (Viewed 4168 a₁ a₂ a₃ a₄ a₅ a₆ ls c Others) ∷ []) ∵ says ! (full_holds c full) $ done !
 
   module _ (C : Calls 𝓤 H) (Λ : Loops 𝓤 H) (fm : FmC 𝓤 H 𝓛.laws C) (known-load : Triple 𝓤 (C #load) (Load 𝓛 at_mem run))
       (known-work : Triple 𝓤 (C #work) (Work 𝓛 at_mem run)) where
@@ -417,7 +417,7 @@ module _ {M : Type 1} {𝓤 : Ura M} (𝓛 : Logic 𝓤) (at_mem : Memory → SP
         (λ l₃₉. alloc1 ! (λ l₄₀. alloc1 ! (λ l₄₁. alloc1 !
         (λ l₄₂. alloc1 ! (λ l₄₃. alloc1 ! (λ l₄₄. alloc1 !
         (λ l₄₅. alloc1 ! (λ l₄₆. alloc1 ! (λ l₄₇. alloc1 ! (λ l₄₈. alloc1 ! (λ l₄₉. alloc0 ! $ params1 ! $
-        pass1 ! (init ! 96 refl (tt, (tt, (record { fits = room.0 }, tt)))) $ pass1 ! (init ! 94 refl typed-h) $ pass1 !
+        pass1 ! (init ! 96 refl (tt, (tt, (record { fits = room.0 }, tt)))) $ pass1 ! (init ! 94 refl typed_h) $ pass1 !
         (init ! 92 refl (tt, (tt, (record { fits = room₃.0 }, tt)))) $ pass1 ! (init ! 90 refl (tt, (tt, (record { fits = room₄.0 }, tt)))) $ pass1 !
         (init ! 88 refl (tt, (tt, (record { fits = room₅.0 }, tt)))) $ pass1 ! (init ! 86 refl (tt, (tt, (record { fits = room₆.0 }, tt)))) $ pass1 !
         (init ! 84 refl (tt, (tt, (record { fits = room₇.0 }, tt)))) $ pass1 ! (init ! 82 refl (tt, record { fits = fits₈ })) $ pass1 !
@@ -428,44 +428,44 @@ module _ {M : Type 1} {𝓤 : Ura M} (𝓛 : Logic 𝓤) (at_mem : Memory → SP
         move ! (101 ∷ []) $ fsplit ! $ move ! (1 ∷ []) $ fsplit ! $ drop ! $
         move ! (102 ∷ []) $ split ! $
         -- the columns
-        assigns ! (rep ! 4168 (lit ! tt)) (from ! (stop !)) (init ! 78 refl (zeros-typed 𝓛 w64 some-8 4168)) $
-        assigns ! (rep ! 4168 (lit ! tt)) (from ! (stop !)) (init ! 76 refl (zeros-typed 𝓛 w64 some-8 4168)) $
-        assigns ! (rep ! 4168 (lit ! tt)) (from ! (stop !)) (init ! 74 refl (zeros-typed 𝓛 w64 some-8 4168)) $
-        assigns ! (rep ! 4168 (lit ! tt)) (from ! (stop !)) (init ! 72 refl (zeros-typed 𝓛 w64 some-8 4168)) $
-        assigns ! (rep ! 4168 (lit ! tt)) (from ! (stop !)) (init ! 70 refl (zeros-typed 𝓛 w32 some-4 4168)) $
-        assigns ! (rep ! 4168 (lit ! tt)) (from ! (stop !)) (init ! 68 refl (zeros-typed 𝓛 w64 some-8 4168)) $
+        assigns ! (rep ! 4168 (lit ! tt)) (from ! (stop !)) (init ! 78 refl (zeros_typed 𝓛 w64 some_8 4168)) $
+        assigns ! (rep ! 4168 (lit ! tt)) (from ! (stop !)) (init ! 76 refl (zeros_typed 𝓛 w64 some_8 4168)) $
+        assigns ! (rep ! 4168 (lit ! tt)) (from ! (stop !)) (init ! 74 refl (zeros_typed 𝓛 w64 some_8 4168)) $
+        assigns ! (rep ! 4168 (lit ! tt)) (from ! (stop !)) (init ! 72 refl (zeros_typed 𝓛 w64 some_8 4168)) $
+        assigns ! (rep ! 4168 (lit ! tt)) (from ! (stop !)) (init ! 70 refl (zeros_typed 𝓛 w32 some_4 4168)) $
+        assigns ! (rep ! 4168 (lit ! tt)) (from ! (stop !)) (init ! 68 refl (zeros_typed 𝓛 w64 some_8 4168)) $
         move ! (70 ∷ 68 ∷ []) $ join ! $ move ! (71 ∷ 0 ∷ []) $ join ! $ move ! (72 ∷ 0 ∷ []) $ join ! $ move ! (73 ∷ 0 ∷ []) $ join ! $ move ! (74 ∷ 0 ∷ []) $
         join ! $
         use1 𝓛 (some (λ (c : Columns). given (Full 4168 c) (‵ (Rows 4168 l₁₂ l₁₃ l₁₄ l₁₅ l₁₆ l₁₇ c))))
-        (makes-six 𝓛 4168 l₁₂ l₁₃ l₁₄ l₁₅ l₁₆ l₁₇ some-8 some-4) $ pick ! (λ c₀. learn ! (λ full₀.
+        (makes_six 𝓛 4168 l₁₂ l₁₃ l₁₄ l₁₅ l₁₆ l₁₇ some_8 some_4) $ pick ! (λ c₀. learn ! (λ full₀.
         -- `load`: the columns are lent, each for a lifetime of its own
         assigns ! (addr ! (from ! (stop !))) (from ! (stop !)) (init ! 65 refl (tt, tt)) $
-        assigns ! (agg ! (and_then ! (load ! (from ! (stop !)) (look ! 65 refl)) (and_then ! (length-lit ! (record { fits = lit< tt })) (no_more !))))
+        assigns ! (agg ! (and_then ! (load ! (from ! (stop !)) (look ! 65 refl)) (and_then ! (length_lit ! (record { fits = lit< tt })) (no_more !))))
         (from ! (stop !)) (init ! 63 refl (tt, (tt, (record { fits = lit< tt }, tt)))) $
         assigns ! (addr ! (from ! (stop !))) (from ! (stop !)) (init ! 61 refl (tt, tt)) $
-        assigns ! (agg ! (and_then ! (load ! (from ! (stop !)) (look ! 61 refl)) (and_then ! (length-lit ! (record { fits = lit< tt })) (no_more !))))
+        assigns ! (agg ! (and_then ! (load ! (from ! (stop !)) (look ! 61 refl)) (and_then ! (length_lit ! (record { fits = lit< tt })) (no_more !))))
         (from ! (stop !)) (init ! 59 refl (tt, (tt, (record { fits = lit< tt }, tt)))) $
         assigns ! (addr ! (from ! (stop !))) (from ! (stop !)) (init ! 57 refl (tt, tt)) $
-        assigns ! (agg ! (and_then ! (load ! (from ! (stop !)) (look ! 57 refl)) (and_then ! (length-lit ! (record { fits = lit< tt })) (no_more !))))
+        assigns ! (agg ! (and_then ! (load ! (from ! (stop !)) (look ! 57 refl)) (and_then ! (length_lit ! (record { fits = lit< tt })) (no_more !))))
         (from ! (stop !)) (init ! 55 refl (tt, (tt, (record { fits = lit< tt }, tt)))) $
         assigns ! (addr ! (from ! (stop !))) (from ! (stop !)) (init ! 53 refl (tt, tt)) $
-        assigns ! (agg ! (and_then ! (load ! (from ! (stop !)) (look ! 53 refl)) (and_then ! (length-lit ! (record { fits = lit< tt })) (no_more !))))
+        assigns ! (agg ! (and_then ! (load ! (from ! (stop !)) (look ! 53 refl)) (and_then ! (length_lit ! (record { fits = lit< tt })) (no_more !))))
         (from ! (stop !)) (init ! 51 refl (tt, (tt, (record { fits = lit< tt }, tt)))) $
         assigns ! (addr ! (from ! (stop !))) (from ! (stop !)) (init ! 49 refl (tt, tt)) $
-        assigns ! (agg ! (and_then ! (load ! (from ! (stop !)) (look ! 49 refl)) (and_then ! (length-lit ! (record { fits = lit< tt })) (no_more !))))
+        assigns ! (agg ! (and_then ! (load ! (from ! (stop !)) (look ! 49 refl)) (and_then ! (length_lit ! (record { fits = lit< tt })) (no_more !))))
         (from ! (stop !)) (init ! 47 refl (tt, (tt, (record { fits = lit< tt }, tt)))) $
         assigns ! (addr ! (from ! (stop !))) (from ! (stop !)) (init ! 45 refl (tt, tt)) $
-        assigns ! (agg ! (and_then ! (load ! (from ! (stop !)) (look ! 45 refl)) (and_then ! (length-lit ! (record { fits = lit< tt })) (no_more !))))
+        assigns ! (agg ! (and_then ! (load ! (from ! (stop !)) (look ! 45 refl)) (and_then ! (length_lit ! (record { fits = lit< tt })) (no_more !))))
         (from ! (stop !)) (init ! 43 refl (tt, (tt, (record { fits = lit< tt }, tt)))) $
         nothing ! $ nothing ! $
         move ! (2 ∷ 0 ∷ 1 ∷ []) $ use3 𝓛 (later (some (λ (ls : Leases). With 𝓛 ls (‵ ftrue) ⊛ ‵ (Owned 4168 l₁₂ l₁₃ l₁₄ l₁₅ l₁₆ l₁₇ ls c₀ ftrue) ⊛ ‵
-        (Lenders 4168 l₁₂ l₁₃ l₁₄ l₁₅ l₁₆ l₁₇ ls)))) (lends-six 𝓛 4168 l₁₂ l₁₃ l₁₄ l₁₅ l₁₆ l₁₇ fits_8 fits-4 c₀ full₀ (‵ ftrue) ftrue) $
+        (Lenders 4168 l₁₂ l₁₃ l₁₄ l₁₅ l₁₆ l₁₇ ls)))) (lends_six 𝓛 4168 l₁₂ l₁₃ l₁₄ l₁₅ l₁₆ l₁₇ fits_8 fits_4 c₀ full₀ (‵ ftrue) ftrue) $
         await ! tt $ pick ! (λ ls. split ! $ move ! (1 ∷ []) $ split ! $
         move ! (3 ∷ 2 ∷ []) $ join ! $
         move ! (5 ∷ 1 ∷ []) $ fjoin ! $
-        move ! (1 ∷ 0 ∷ []) $ use2 𝓛 (raw ((Load 𝓛 at_mem run).pre (to-load l₁₂ l₁₃ l₁₄ l₁₅ l₁₆ l₁₇ κ₀ q₀ γ ls c₀)))
+        move ! (1 ∷ 0 ∷ []) $ use2 𝓛 (raw ((Load 𝓛 at_mem run).pre (to_load l₁₂ l₁₃ l₁₄ l₁₅ l₁₆ l₁₇ κ₀ q₀ γ ls c₀)))
         (goes_load l₁₂ l₁₃ l₁₄ l₁₅ l₁₆ l₁₇ κ₀ q₀ γ ls c₀ full₀) $
-        calls_at ! fm (Load 𝓛 at_mem run) known-load (to-load l₁₂ l₁₃ l₁₄ l₁₅ l₁₆ l₁₇ κ₀ q₀ γ ls c₀)
+        calls_at ! fm (Load 𝓛 at_mem run) known-load (to_load l₁₂ l₁₃ l₁₄ l₁₅ l₁₆ l₁₇ κ₀ q₀ γ ls c₀)
         (and_then ! (load ! (from ! (stop !)) (look ! 94 refl))
         (and_then ! (load ! (from ! (stop !)) (look ! 62 refl))
         (and_then ! (load ! (from ! (stop !)) (look ! 58 refl))
@@ -474,17 +474,17 @@ module _ {M : Type 1} {𝓤 : Ura M} (𝓛 : Logic 𝓤) (at_mem : Memory → SP
         (and_then ! (load ! (from ! (stop !)) (look ! 46 refl)) (and_then ! (load ! (from ! (stop !)) (look ! 42 refl)) (no_more !)))))))) (λ v.
         use1 𝓛 (later (some (λ (none : Unit {0}). ((‵ (flft κ₀ q₀) ⊛ With 𝓛 ls (‵ ftrue)) ⊛ ‵ (Nothing.own none (v ∷ []))) ⊛ raw
         (ensured 𝓛 loads.ended (loads.clauses 𝓛 at_mem run)
-        (κ₀, (lft-of ls.next, (lft-of ls.prev, (lft-of ls.bucket, (lft-of ls.entry, (lft-of ls.generation, (lft-of ls.serial, tt))))))) (
+        (κ₀, (lft_of ls.next, (lft_of ls.prev, (lft_of ls.bucket, (lft_of ls.entry, (lft_of ls.generation, (lft_of ls.serial, tt))))))) (
           ref γ,
           (
-            ref-to l₁₂ ls.next.name c₀.next,
+            ref_to l₁₂ ls.next.name c₀.next,
             (
-              ref-to l₁₃ ls.prev.name c₀.prev,
+              ref_to l₁₃ ls.prev.name c₀.prev,
               (
-                ref-to l₁₄ ls.bucket.name c₀.bucket,
+                ref_to l₁₄ ls.bucket.name c₀.bucket,
                 (
-                  ref-to l₁₅ ls.entry.name c₀.entry,
-                  (ref-to l₁₆ ls.generation.name c₀.generation, (ref-to l₁₇ ls.serial.name c₀.serial, tt)),
+                  ref_to l₁₅ ls.entry.name c₀.entry,
+                  (ref_to l₁₆ ls.generation.name c₀.generation, (ref_to l₁₇ ls.serial.name c₀.serial, tt)),
                 ),
               ),
             ),
@@ -497,28 +497,28 @@ module _ {M : Type 1} {𝓤 : Ura M} (𝓛 : Logic 𝓤) (at_mem : Memory → SP
         move ! (1 ∷ []) $ heard ! (Loads ys (columns c.next c.prev c.bucket c.entry c.generation c.serial)) (λ loaded. fsplit ! $ drop ! $
         move ! (1 ∷ []) $ split ! $ move ! (1 ∷ []) $ peeks ! Nothing (Is Nothing) (shows 𝓛 Nothing) none (v ∷ []) (λ isv. drop ! $ split ! $
         move ! (1 ∷ 3 ∷ 2 ∷ []) $ use3 𝓛 (later (given (Full 4168 c) (‵ (Rows 4168 l₁₂ l₁₃ l₁₄ l₁₅ l₁₆ l₁₇ c) ⊛ (‵ ftrue) ⊛ ‵ ftrue)))
-        (six-back 𝓛 4168 l₁₂ l₁₃ l₁₄ l₁₅ l₁₆ l₁₇ fits_8 fits-4 c₀ full₀ (‵ ftrue) ftrue ls c) $ await ! tt $ learn !
+        (six_back 𝓛 4168 l₁₂ l₁₃ l₁₄ l₁₅ l₁₆ l₁₇ fits_8 fits_4 c₀ full₀ (‵ ftrue) ftrue ls c) $ await ! tt $ learn !
         (λ full. split ! $ move ! (1 ∷ []) $ split ! $
         drop ! $ drop ! $
         land ! (from ! (stop !)) (init ! 66 refl ((Nothing-Lawful 𝓛).typed none _ isv).0) $
         -- `set_entry_work`
         assigns ! (addr ! (from ! (stop !))) (from ! (stop !)) (init ! 40 refl (tt, tt)) $
-        assigns ! (agg ! (and_then ! (load ! (from ! (stop !)) (look ! 40 refl)) (and_then ! (length-lit ! (record { fits = lit< tt })) (no_more !))))
+        assigns ! (agg ! (and_then ! (load ! (from ! (stop !)) (look ! 40 refl)) (and_then ! (length_lit ! (record { fits = lit< tt })) (no_more !))))
         (from ! (stop !)) (init ! 38 refl (tt, (tt, (record { fits = lit< tt }, tt)))) $
         assigns ! (addr ! (from ! (stop !))) (from ! (stop !)) (init ! 36 refl (tt, tt)) $
-        assigns ! (agg ! (and_then ! (load ! (from ! (stop !)) (look ! 36 refl)) (and_then ! (length-lit ! (record { fits = lit< tt })) (no_more !))))
+        assigns ! (agg ! (and_then ! (load ! (from ! (stop !)) (look ! 36 refl)) (and_then ! (length_lit ! (record { fits = lit< tt })) (no_more !))))
         (from ! (stop !)) (init ! 34 refl (tt, (tt, (record { fits = lit< tt }, tt)))) $
         assigns ! (addr ! (from ! (stop !))) (from ! (stop !)) (init ! 32 refl (tt, tt)) $
-        assigns ! (agg ! (and_then ! (load ! (from ! (stop !)) (look ! 32 refl)) (and_then ! (length-lit ! (record { fits = lit< tt })) (no_more !))))
+        assigns ! (agg ! (and_then ! (load ! (from ! (stop !)) (look ! 32 refl)) (and_then ! (length_lit ! (record { fits = lit< tt })) (no_more !))))
         (from ! (stop !)) (init ! 30 refl (tt, (tt, (record { fits = lit< tt }, tt)))) $
         assigns ! (addr ! (from ! (stop !))) (from ! (stop !)) (init ! 28 refl (tt, tt)) $
-        assigns ! (agg ! (and_then ! (load ! (from ! (stop !)) (look ! 28 refl)) (and_then ! (length-lit ! (record { fits = lit< tt })) (no_more !))))
+        assigns ! (agg ! (and_then ! (load ! (from ! (stop !)) (look ! 28 refl)) (and_then ! (length_lit ! (record { fits = lit< tt })) (no_more !))))
         (from ! (stop !)) (init ! 26 refl (tt, (tt, (record { fits = lit< tt }, tt)))) $
         assigns ! (addr ! (from ! (stop !))) (from ! (stop !)) (init ! 24 refl (tt, tt)) $
-        assigns ! (agg ! (and_then ! (load ! (from ! (stop !)) (look ! 24 refl)) (and_then ! (length-lit ! (record { fits = lit< tt })) (no_more !))))
+        assigns ! (agg ! (and_then ! (load ! (from ! (stop !)) (look ! 24 refl)) (and_then ! (length_lit ! (record { fits = lit< tt })) (no_more !))))
         (from ! (stop !)) (init ! 22 refl (tt, (tt, (record { fits = lit< tt }, tt)))) $
         assigns ! (addr ! (from ! (stop !))) (from ! (stop !)) (init ! 20 refl (tt, tt)) $
-        assigns ! (agg ! (and_then ! (load ! (from ! (stop !)) (look ! 20 refl)) (and_then ! (length-lit ! (record { fits = lit< tt })) (no_more !))))
+        assigns ! (agg ! (and_then ! (load ! (from ! (stop !)) (look ! 20 refl)) (and_then ! (length_lit ! (record { fits = lit< tt })) (no_more !))))
         (from ! (stop !)) (init ! 18 refl (tt, (tt, (record { fits = lit< tt }, tt)))) $
         assigns ! (of_opd ! (load ! (from ! (fld ! refl (stop !))) (look_in ! 94 (sub ! 1 refl (whole !))))) (from ! (stop !))
         (init ! 16 refl (tt, record { fits = room.0 })) $
@@ -537,10 +537,10 @@ module _ {M : Type 1} {𝓤 : Ura M} (𝓛 : Logic 𝓤) (at_mem : Memory → SP
         move ! (3 ∷ []) $ owned ! K.the_row (Is K.the_row) (LL.makes K.the_type K'.the_plain 𝓛) h _ was $ fjoin ! $ owned ! usize (Is usize)
         (uint_Makes 𝓛 w64) n _ (refl, room.0) $ fjoin ! $
         move ! (1 ∷ 3 ∷ 0 ∷ []) $ use3 𝓛 (later (some (λ (ls : Leases). With 𝓛 ls Tokens ⊛ ‵ (Viewed 4168 l₁₂ l₁₃ l₁₄ l₁₅ l₁₆ l₁₇ ls c Others) ⊛ ‵
-        (Sharers 4168 l₁₂ l₁₃ l₁₄ l₁₅ l₁₆ l₁₇ ls c)))) (shares-six 𝓛 4168 l₁₂ l₁₃ l₁₄ l₁₅ l₁₆ l₁₇ fits_8 fits-4 c full Tokens Others) $
+        (Sharers 4168 l₁₂ l₁₃ l₁₄ l₁₅ l₁₆ l₁₇ ls c)))) (shares_six 𝓛 4168 l₁₂ l₁₃ l₁₄ l₁₅ l₁₆ l₁₇ fits_8 fits_4 c full Tokens Others) $
         await ! tt $ pick ! (λ ks. split ! $ move ! (1 ∷ []) $ split ! $
-        move ! (2 ∷ 0 ∷ []) $ use2 𝓛 (raw ((Work 𝓛 at_mem run).pre (to-work l₁₂ l₁₃ l₁₄ l₁₅ l₁₆ l₁₇ ks c))) (goes-work l₁₂ l₁₃ l₁₄ l₁₅ l₁₆ l₁₇ ks c full) $
-        calls_at ! fm (Work 𝓛 at_mem run) known-work (to-work l₁₂ l₁₃ l₁₄ l₁₅ l₁₆ l₁₇ ks c)
+        move ! (2 ∷ 0 ∷ []) $ use2 𝓛 (raw ((Work 𝓛 at_mem run).pre (to_work l₁₂ l₁₃ l₁₄ l₁₅ l₁₆ l₁₇ ks c))) (goes_work l₁₂ l₁₃ l₁₄ l₁₅ l₁₆ l₁₇ ks c full) $
+        calls_at ! fm (Work 𝓛 at_mem run) known-work (to_work l₁₂ l₁₃ l₁₄ l₁₅ l₁₆ l₁₇ ks c)
         (and_then ! (load ! (from ! (stop !)) (look ! 37 refl))
         (and_then ! (load ! (from ! (stop !)) (look ! 33 refl))
         (and_then ! (load ! (from ! (stop !)) (look ! 29 refl))
@@ -559,22 +559,22 @@ module _ {M : Type 1} {𝓤 : Ura M} (𝓛 : Logic 𝓤) (at_mem : Memory → SP
         (and_then ! (load ! (from ! (stop !)) (look ! 75 refl)) (and_then ! (load ! (from ! (stop !)) (look ! 73 refl)) (no_more !)))))))))))))))))) (λ z.
         use1 𝓛 (later (some (λ (u : Noted). (With 𝓛 ks Tokens ⊛ ‵ ((E.the_row).own_val u (z ∷ []))) ⊛ raw
         (ensured 𝓛 works.ended (works.clauses 𝓛 at_mem run) (
-          lft-of ks.next,
+          lft_of ks.next,
           (
-            lft-of ks.prev,
+            lft_of ks.prev,
             (
-              lft-of ks.bucket,
-              (lft-of ks.entry, (lft-of ks.generation, (lft-of ks.serial, (κ₁, (κ₂, (κ₃, (κ₄, (κ₅, tt)))))))),
+              lft_of ks.bucket,
+              (lft_of ks.entry, (lft_of ks.generation, (lft_of ks.serial, (κ₁, (κ₂, (κ₃, (κ₄, (κ₅, tt)))))))),
             ),
           ),
         ) (passed l₁₂ l₁₃ l₁₄ l₁₅ l₁₆ l₁₇ ks c)
         tt u)))) (id⊢ 𝓤 _) $ await ! tt $ pick ! (λ u.
         split ! $ move ! (1 ∷ []) $ use1 𝓛 (some (λ (ws : Last l₁₂ l₁₃ l₁₄ l₁₅ l₁₆ l₁₇ ks c). ‵
         (lasts works.ended (
-          lft-of ks.next,
+          lft_of ks.next,
           (
-            lft-of ks.prev,
-            (lft-of ks.bucket, (lft-of ks.entry, (lft-of ks.generation, (lft-of ks.serial, (κ₁, (κ₂, (κ₃, (κ₄, (κ₅, tt))))))))),
+            lft_of ks.prev,
+            (lft_of ks.bucket, (lft_of ks.entry, (lft_of ks.generation, (lft_of ks.serial, (κ₁, (κ₂, (κ₃, (κ₄, (κ₅, tt))))))))),
           ),
         )
         (passed l₁₂ l₁₃ l₁₄ l₁₅ l₁₆ l₁₇ ks c) ws) ⊛ raw (fact 𝓤 (For l₁₂ l₁₃ l₁₄ l₁₅ l₁₆ l₁₇ ks c ws u)))) (id⊢ 𝓤 _) $ pick ! (λ ws. split ! $
@@ -583,12 +583,12 @@ module _ {M : Type 1} {𝓤 : Ura M} (𝓛 : Logic 𝓤) (at_mem : Memory → SP
         drop ! $ fsplit ! $ drop ! $
         move ! (1 ∷ []) $ split ! $ move ! (1 ∷ []) $ peeks ! E.the_row (Is E.the_row) (shows 𝓛 E.the_row) u (z ∷ []) (λ is. drop ! $
         move ! (0 ∷ 2 ∷ []) $ use2 𝓛 (later (‵ (Rows 4168 l₁₂ l₁₃ l₁₄ l₁₅ l₁₆ l₁₇ c) ⊛ Tokens))
-        (six-unshared 𝓛 4168 l₁₂ l₁₃ l₁₄ l₁₅ l₁₆ l₁₇ fits_8 fits-4 c full Tokens ftrue ks) $ await ! tt $ split ! $
+        (six_unshared 𝓛 4168 l₁₂ l₁₃ l₁₄ l₁₅ l₁₆ l₁₇ fits_8 fits_4 c full Tokens ftrue ks) $ await ! tt $ split ! $
         land ! (from ! (stop !)) (init ! 96 refl ((EL.lawful E.the_type E'.the_laws 𝓛 tt).typed u _ is).0) $
         returns ! (look ! 96 refl) $
         use1 𝓛 (‵ (froom (ty_array (ty_int w64) 4168) l₁₂ 0) ⊛ ‵ (froom (ty_array (ty_int w64) 4168) l₁₃ 0) ⊛ ‵ (froom (ty_array (ty_int w64) 4168) l₁₄ 0) ⊛ ‵
         (froom (ty_array (ty_int w64) 4168) l₁₅ 0) ⊛ ‵ (froom (ty_array (ty_int w32) 4168) l₁₆ 0) ⊛ ‵ (froom (ty_array (ty_int w64) 4168) l₁₇ 0))
-        (six-rooms 𝓛 4168 l₁₂ l₁₃ l₁₄ l₁₅ l₁₆ l₁₇ c full) $ split ! $ move ! (1 ∷ []) $ split ! $ move ! (1 ∷ []) $ split ! $ move ! (1 ∷ []) $ split
+        (six_rooms 𝓛 4168 l₁₂ l₁₃ l₁₄ l₁₅ l₁₆ l₁₇ c full) $ split ! $ move ! (1 ∷ []) $ split ! $ move ! (1 ∷ []) $ split ! $ move ! (1 ∷ []) $ split
         ! $ move ! (1 ∷ []) $ split ! $
         forget ! 101 refl $ forget ! 99 refl $ forget ! 97 refl $ forget ! 95 refl $ forget ! 93 refl $ forget ! 91 refl $ forget ! 89 refl $ forget ! 87 refl
         $ forget ! 85 refl $ forget ! 83 refl $ forget ! 81 refl $ forget ! 79 refl $ forget ! 71 refl $ forget ! 69 refl $ forget ! 67 refl $ forget ! 65
@@ -615,9 +615,9 @@ module _ {M : Type 1} {𝓤 : Ura M} (𝓛 : Logic 𝓤) (at_mem : Memory → SP
 module _ {M : Type 1} {𝓤 : Ura M} (𝓛 : Logic 𝓤) (at_mem : Memory → SProp 𝓤) (run : Routine → Fun 𝓤) where
   open 𝓛 use {H}
 
-  thin-walks : (C : Calls 𝓤 H) (Λ : Loops 𝓤 H) → FmC 𝓤 H 𝓛.laws C → Triple 𝓤 (C #load) (Load 𝓛 at_mem run) → Triple 𝓤 (C #work) (Work 𝓛 at_mem run)
+  thin_walks : (C : Calls 𝓤 H) (Λ : Loops 𝓤 H) → FmC 𝓤 H 𝓛.laws C → Triple 𝓤 (C #load) (Load 𝓛 at_mem run) → Triple 𝓤 (C #work) (Work 𝓛 at_mem run)
       → Walks 𝓛 thin.ended stayed (WpFn 𝓤 H C Λ code.function) (thin.clauses 𝓛 at_mem run)
-  thin-walks C Λ fm known-load known-work = walked 𝓛 thin.ended stayed (thin.clauses 𝓛 at_mem run) (WpFn 𝓤 H C Λ code.function)
+  thin_walks C Λ fm known-load known-work = walked 𝓛 thin.ended stayed (thin.clauses 𝓛 at_mem run) (WpFn 𝓤 H C Λ code.function)
       (λ κs. (
         shr_slice_vals,
         (
@@ -660,10 +660,10 @@ module _ {M : Type 1} {𝓤 : Ura M} (𝓛 : Logic 𝓤) (at_mem : Memory → SP
       are.1.1.1.1.1.1.0.0.1 are.1.1.1.1.1.1.1.0.1 are.1.1.1.1.1.1.1.1.1.0.1 are.1.1.1.1.1.1.1.1.1.1.0.1 C
       Λ fm known-load known-work))
 
-thin-meets : {M : Type 1} {𝓤 : Ura M} (𝓛 : Logic 𝓤) → (at_mem : Memory → SProp 𝓤) (run : Routine → Fun 𝓤) (𝓣 : Tables 𝓤 𝓛.H) → Triple
+thin_meets : {M : Type 1} {𝓤 : Ura M} (𝓛 : Logic 𝓤) → (at_mem : Memory → SProp 𝓤) (run : Routine → Fun 𝓤) (𝓣 : Tables 𝓤 𝓛.H) → Triple
     𝓤 (𝓣.C #load) (Load 𝓛 at_mem run) → Triple 𝓤 (𝓣.C #work) (Work 𝓛 at_mem run)
     → Meets 𝓛 thin.signature (WpFn 𝓤 𝓛.H 𝓣.C 𝓣.Λ code.function) (thin.spec 𝓛 at_mem run)
-thin-meets {𝓤 = 𝓤} 𝓛 at_mem run 𝓣 known-load known-work =
+thin_meets {𝓤 = 𝓤} 𝓛 at_mem run 𝓣 known-load known-work =
     walk_Meets 𝓛 thin.ended stayed (
       λ κs y f vs fits. 𝓛.laws.⇛_intro _,
       (
@@ -693,13 +693,13 @@ thin-meets {𝓤 = 𝓤} 𝓛 at_mem run 𝓣 known-load known-work =
       ),
     ) (thin.clauses 𝓛 at_mem run)
     (WpFn 𝓤 𝓛.H 𝓣.C 𝓣.Λ code.function) (WpFn-mono 𝓤 𝓛.H 𝓛.laws 𝓣 code.function)
-    (thin-walks 𝓛 at_mem run 𝓣.C 𝓣.Λ (fm_of 𝓤 𝓛.H 𝓛.laws 𝓣) known-load known-work)
+    (thin_walks 𝓛 at_mem run 𝓣.C 𝓣.Λ (fm_of 𝓤 𝓛.H 𝓛.laws 𝓣) known-load known-work)
 
-pub set-entry-spec : {M : Type 1} → stated.statement M
+pub set_entry_spec : {M : Type 1} → stated.statement M
 unfolding code.routine tables_of
-set-entry-spec 𝓤 𝓛 𝓜 𝓡 =
+set_entry_spec 𝓤 𝓛 𝓜 𝓡 =
     entered 𝓤 𝓛.H (triple_of 𝓛 thin.signature (thin.spec 𝓛 𝓜.mem 𝓡.run))
     (tables 𝓤 𝓛.H 𝓜 𝓡 code.env).C (tables 𝓤 𝓛.H 𝓜 𝓡 code.env).Λ #thin code.function (code.unfolded 𝓤 𝓛.H 𝓜 𝓡)
-    (thin-meets 𝓛 𝓜.mem 𝓡.run (tables_of 𝓤 𝓛.H 𝓜 (tables 𝓤 𝓛.H 𝓜 𝓡 code.env))
+    (thin_meets 𝓛 𝓜.mem 𝓡.run (tables_of 𝓤 𝓛.H 𝓜 (tables 𝓤 𝓛.H 𝓜 𝓡 code.env))
     (cited 𝓤 𝓛.H (Load 𝓛 𝓜.mem 𝓡.run) 𝓜 𝓡 code.env #load load-def.routine code.calls-nodes::load (load-thm.met 𝓤 𝓛 𝓜 𝓡))
     (cited 𝓤 𝓛.H (Work 𝓛 𝓜.mem 𝓡.run) 𝓜 𝓡 code.env #work work-def.routine code.calls-face-works::settings::set-entry-work (work-thm.met 𝓤 𝓛 𝓜 𝓡)))

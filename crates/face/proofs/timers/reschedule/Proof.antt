@@ -52,13 +52,13 @@ use denote.Triple.Spec.{Meets, triple_of}
 use denote.Triple.Statement.{Contract, Triple}
 use denote.Triple.Table.{entered, cited}
 use denote.Triple.Walked.{says, Stays, stay_ref, walk_of, Goes-ref, Walks, ends_at, walked, walk_Meets}
-use Rattle.nodes.proofs.Lending.{ref-to, lft-of, zeros-typed, length-lit}
-use Rattle.nodes.proofs.Six.{Full, Leases, Rows, Lenders, Sharers, Owned, Viewed, Lasting, full-holds, Tokens as With, makes-six, lends-six, six-back}
-use Rattle.nodes.proofs.Six.{shares-six, six-unshared, six-rooms}
+use Rattle.nodes.proofs.Lending.{ref_to, lft_of, zeros_typed, length_lit}
+use Rattle.nodes.proofs.Six.{Full, Leases, Rows, Lenders, Sharers, Owned, Viewed, Lasting, full_holds, Tokens as With, makes_six, lends_six, six_back}
+use Rattle.nodes.proofs.Six.{shares_six, six_unshared, six_rooms}
 use Rattle.face_rules.specs.declared.Node.{Node}
 use Rattle.wheel_rules.specs.declared.calls.Clock.{Clock}
 use Rattle.face_rules.specs.declared.RescheduledTurn.{RescheduledTurn}
-use Rattle.face_rules.specs.Face.{rescheduledSays}
+use Rattle.face_rules.specs.Face.{rescheduled_says}
 use Rattle.face_rules.specs.Works.{Stored}
 use Rattle.face_rules.specs.nodes.Columns.{Columns, Loads, Stores, columns}
 use Rattle.rules.specs.Wheel.{reschedule}
@@ -101,17 +101,17 @@ abbrev vals : Clock → List Val
 vals = LL.vals K.the_type K'.the_laws
 
 -- ---- 4168 numbers fit
-some-8 : 0 < 2 ^ bits w64
-some-8 = lit< tt
+some_8 : 0 < 2 ^ bits w64
+some_8 = lit< tt
 
-some-4 : 0 < 2 ^ bits w32
-some-4 = lit< tt
+some_4 : 0 < 2 ^ bits w32
+some_4 = lit< tt
 
 fits_8 : Room u64 4168
 fits_8 = (lit< tt, lit< tt)
 
-fits-4 : Room u32 4168
-fits-4 = (lit< tt, lit< tt)
+fits_4 : Room u32 4168
+fits_4 = (lit< tt, lit< tt)
 
 module _ {M : Type 1} {𝓤 : Ura M} (𝓛 : Logic 𝓤) (at_mem : Memory → SProp 𝓤) (run : Routine → Fun 𝓤) where
   abbrev Load : Contract 𝓤
@@ -176,14 +176,14 @@ module _ {M : Type 1} {𝓤 : Ura M} (𝓛 : Logic 𝓤) (at_mem : Memory → SP
       (((κ₀, (κ₁, (κ₂, (κ₃, (κ₄, (κ₅, (κ₆, tt))))))), (q₀, (q₁, (q₂, (q₃, (q₄, (q₅, (q₆, tt))))))), tt, x, at), tt)
 
   -- what whoever holds what the work returns knows of its fields
-  is-clock : (u : RescheduledTurn) {v : Val} → Is U.the_row u (v ∷ []) → Is K.the_row u.clock (vals u.clock)
-  is-clock u is = (LL.owed U.the_type U'.the_laws u _ is).0
+  is_clock : (u : RescheduledTurn) {v : Val} → Is U.the_row u (v ∷ []) → Is K.the_row u.clock (vals u.clock)
+  is_clock u is = (LL.owed U.the_type U'.the_laws u _ is).0
 
   abbrev ans : RescheduledTurn → Val
   ans u = EL.val E.the_type E'.the_laws u.answer
 
-  is-answer : (u : RescheduledTurn) {v : Val} → Is U.the_row u (v ∷ []) → Is E.the_row u.answer (ans u ∷ [])
-  is-answer u is = (LL.owed U.the_type U'.the_laws u _ is).1.0
+  is_answer : (u : RescheduledTurn) {v : Val} → Is U.the_row u (v ∷ []) → Is E.the_row u.answer (ans u ∷ [])
+  is_answer u is = (LL.owed U.the_type U'.the_laws u _ is).1.0
 
   -- what the work takes after the columns
   abbrev Tokens : Item 𝓤
@@ -214,9 +214,9 @@ module _ {M : Type 1} {𝓤 : Ura M} (𝓛 : Logic 𝓤) (at_mem : Memory → SP
         ),
       )
 
-  nodes-own : ent 𝓤 (sep 𝓤 (A.obs γ ((coded_holeys T.the_row).code (heres T.the_row ys))) (A.bor κ₀ (Held T.the_row n b o γ)))
+  nodes_own : ent 𝓤 (sep 𝓤 (A.obs γ ((coded_holeys T.the_row).code (heres T.the_row ys))) (A.bor κ₀ (Held T.the_row n b o γ)))
       (sem 𝓛 ((MutSlice (named 0) κ₀ T.the_row).own_val (ref γ) (s ∷ [])))
-  nodes-own = qed 𝓛 (‵ (fobs γ ((coded_holeys T.the_row).code (heres T.the_row ys))) ∷ ‵ (fbor κ₀ (Held T.the_row n b o γ)) ∷ []) ∵ fjoin ! $ pure_i !
+  nodes_own = qed 𝓛 (‵ (fobs γ ((coded_holeys T.the_row).code (heres T.the_row ys))) ∷ ‵ (fbor κ₀ (Held T.the_row n b o γ)) ∷ []) ∵ fjoin ! $ pure_i !
       (mut_slice_at T.the_row (ref γ) (s ∷ [])) (tt, (tt, tt)) (refl, room) $ fjoin ! $ done !
 
   -- the columns lie at a₁ to a₆
@@ -227,16 +227,16 @@ module _ {M : Type 1} {𝓤 : Ura M} (𝓛 : Logic 𝓤) (at_mem : Memory → SP
         (MutBor (List ℕ) × (MutBor (List ℕ) × (ℕ × (Clock ×
         (MutBor (List ℕ) × (MutBor (List ℕ) × (MutBor (List Bool) × (MutBor (List ℕ) × (MutBor (List ℕ) × (ℕ × (ℕ × (ℕ × Unit {0}))))))))))))))))
     passed ls c = (
-      ref-to a₁ ls.next.name c.next,
+      ref_to a₁ ls.next.name c.next,
       (
-        ref-to a₂ ls.prev.name c.prev,
+        ref_to a₂ ls.prev.name c.prev,
         (
-          ref-to a₃ ls.bucket.name c.bucket,
+          ref_to a₃ ls.bucket.name c.bucket,
           (
-            ref-to a₄ ls.entry.name c.entry,
+            ref_to a₄ ls.entry.name c.entry,
             (
-              ref-to a₅ ls.generation.name c.generation,
-              (ref-to a₆ ls.serial.name c.serial, (n, (h, (x₃, (x₄, (x₅, (x₆, (x₇, (m₈, (m₉, (m₁₀, tt))))))))))),
+              ref_to a₅ ls.generation.name c.generation,
+              (ref_to a₆ ls.serial.name c.serial, (n, (h, (x₃, (x₄, (x₅, (x₆, (x₇, (m₈, (m₉, (m₁₀, tt))))))))))),
             ),
           ),
         ),
@@ -245,17 +245,17 @@ module _ {M : Type 1} {𝓤 : Ura M} (𝓛 : Logic 𝓤) (at_mem : Memory → SP
 
     abbrev Last : Leases → Columns → Type 0
     Last ls c = Lasts works.ended (
-      lft-of ls.next,
+      lft_of ls.next,
       (
-        lft-of ls.prev,
-        (lft-of ls.bucket, (lft-of ls.entry, (lft-of ls.generation, (lft-of ls.serial, (κ₂, (κ₃, (κ₄, (κ₅, (κ₆, tt))))))))),
+        lft_of ls.prev,
+        (lft_of ls.bucket, (lft_of ls.entry, (lft_of ls.generation, (lft_of ls.serial, (κ₂, (κ₃, (κ₄, (κ₅, (κ₆, tt))))))))),
       ),
     ) (passed ls c)
 
     abbrev For : (ls : Leases) (c : Columns) → Last ls c → RescheduledTurn → Type 0
     For ls c ws u = Stored (reschedule m₈ m₉ m₁₀) (columns c.next c.prev c.bucket c.entry c.generation c.serial)
         (columns ws.0 ws.1.0 ws.1.1.0 ws.1.1.1.0 ws.1.1.1.1.0 ws.1.1.1.1.1.0) n h u.clock x₃.now x₄.now
-        ws.1.1.1.1.1.1.1.1.0 ws.1.1.1.1.1.1.1.1.1.0 x₅.now x₆.now x₇.now (rescheduledSays u.answer)
+        ws.1.1.1.1.1.1.1.1.0 ws.1.1.1.1.1.1.1.1.1.0 x₅.now x₆.now x₇.now (rescheduled_says u.answer)
 
     -- the columns that it leaves
     abbrev after : (ls : Leases) (c : Columns) → Last ls c → Columns
@@ -283,16 +283,16 @@ module _ {M : Type 1} {𝓤 : Ura M} (𝓛 : Logic 𝓤) (at_mem : Memory → SP
         owned ! E.the_row (Is E.the_row) (EL.makes E.the_type E'.the_plain 𝓛) u.answer _ g $ move ! (1 ∷ 0 ∷ []) $ done !
 
     -- ---- what each callee's triple binds outside, and that the caller has what it asks
-    abbrev to-load : Lft → Share → GName → Leases → Columns → (Load 𝓛 at_mem run).Ghost
-    to-load α p δ ls c = (
+    abbrev to_load : Lft → Share → GName → Leases → Columns → (Load 𝓛 at_mem run).Ghost
+    to_load α p δ ls c = (
       (
         (
           α,
           (
-            lft-of ls.next,
+            lft_of ls.next,
             (
-              lft-of ls.prev,
-              (lft-of ls.bucket, (lft-of ls.entry, (lft-of ls.generation, (lft-of ls.serial, tt)))),
+              lft_of ls.prev,
+              (lft_of ls.bucket, (lft_of ls.entry, (lft_of ls.generation, (lft_of ls.serial, tt)))),
             ),
           ),
         ),
@@ -301,12 +301,12 @@ module _ {M : Type 1} {𝓤 : Ura M} (𝓛 : Logic 𝓤) (at_mem : Memory → SP
         (
           ref δ,
           (
-            ref-to a₁ ls.next.name c.next,
+            ref_to a₁ ls.next.name c.next,
             (
-              ref-to a₂ ls.prev.name c.prev,
+              ref_to a₂ ls.prev.name c.prev,
               (
-                ref-to a₃ ls.bucket.name c.bucket,
-                (ref-to a₄ ls.entry.name c.entry, (ref-to a₅ ls.generation.name c.generation, (ref-to a₆ ls.serial.name c.serial, tt))),
+                ref_to a₃ ls.bucket.name c.bucket,
+                (ref_to a₄ ls.entry.name c.entry, (ref_to a₅ ls.generation.name c.generation, (ref_to a₆ ls.serial.name c.serial, tt))),
               ),
             ),
           ),
@@ -328,22 +328,22 @@ module _ {M : Type 1} {𝓤 : Ura M} (𝓛 : Logic 𝓤) (at_mem : Memory → SP
     goes_load : (α : Lft) (p : Share) (δ : GName) (ls : Leases) (c : Columns) → Full 4168 c
         → ent 𝓤 (mean 𝓛 ((‵ (flft α p) ⊛ With 𝓛 ls (‵ ftrue)) ⊛ ‵
         (fsep ((ShrSlice (named 0) α T.the_row).own_val (ref δ) (s ∷ [])) (Owned 4168 a₁ a₂ a₃ a₄ a₅ a₆ ls c ftrue))))
-        ((Load 𝓛 at_mem run).pre (to-load α p δ ls c))
+        ((Load 𝓛 at_mem run).pre (to_load α p δ ls c))
     goes_load α p δ ls c full =
         qed 𝓛 ((‵ (flft α p) ⊛ With 𝓛 ls (‵ ftrue)) ∷ ‵
-        (fsep ((ShrSlice (named 0) α T.the_row).own_val (ref δ) (s ∷ [])) (Owned 4168 a₁ a₂ a₃ a₄ a₅ a₆ ls c ftrue)) ∷ []) ∵ says ! (full-holds c full) $ done !
+        (fsep ((ShrSlice (named 0) α T.the_row).own_val (ref δ) (s ∷ [])) (Owned 4168 a₁ a₂ a₃ a₄ a₅ a₆ ls c ftrue)) ∷ []) ∵ says ! (full_holds c full) $ done !
 
     load_of : (α : Lft) (p : Share) (δ : GName) (ls : Leases) (c₀ : Columns) (none : Unit {0})
         → ent 𝓤 (ensured 𝓛 loads.ended (loads.clauses 𝓛 at_mem run)
-        (α, (lft-of ls.next, (lft-of ls.prev, (lft-of ls.bucket, (lft-of ls.entry, (lft-of ls.generation, (lft-of ls.serial, tt))))))) (
+        (α, (lft_of ls.next, (lft_of ls.prev, (lft_of ls.bucket, (lft_of ls.entry, (lft_of ls.generation, (lft_of ls.serial, tt))))))) (
           ref δ,
           (
-            ref-to a₁ ls.next.name c₀.next,
+            ref_to a₁ ls.next.name c₀.next,
             (
-              ref-to a₂ ls.prev.name c₀.prev,
+              ref_to a₂ ls.prev.name c₀.prev,
               (
-                ref-to a₃ ls.bucket.name c₀.bucket,
-                (ref-to a₄ ls.entry.name c₀.entry, (ref-to a₅ ls.generation.name c₀.generation, (ref-to a₆ ls.serial.name c₀.serial, tt))),
+                ref_to a₃ ls.bucket.name c₀.bucket,
+                (ref_to a₄ ls.entry.name c₀.entry, (ref_to a₅ ls.generation.name c₀.generation, (ref_to a₆ ls.serial.name c₀.serial, tt))),
               ),
             ),
           ),
@@ -356,14 +356,14 @@ module _ {M : Type 1} {𝓤 : Ura M} (𝓛 : Logic 𝓤) (at_mem : Memory → SP
         (fact 𝓤 (Loads ys (columns c.next c.prev c.bucket c.entry c.generation c.serial)))))
         (columns zs.1.0 zs.1.1.0 zs.1.1.1.0 zs.1.1.1.1.0 zs.1.1.1.1.1.0 zs.1.1.1.1.1.1.0))
 
-    abbrev to-work : Leases → Columns → (Work 𝓛 at_mem run).Ghost
-    to-work ls c = (
+    abbrev to_work : Leases → Columns → (Work 𝓛 at_mem run).Ghost
+    to_work ls c = (
       (
         (
-          lft-of ls.next,
+          lft_of ls.next,
           (
-            lft-of ls.prev,
-            (lft-of ls.bucket, (lft-of ls.entry, (lft-of ls.generation, (lft-of ls.serial, (κ₂, (κ₃, (κ₄, (κ₅, (κ₆, tt))))))))),
+            lft_of ls.prev,
+            (lft_of ls.bucket, (lft_of ls.entry, (lft_of ls.generation, (lft_of ls.serial, (κ₂, (κ₃, (κ₄, (κ₅, (κ₆, tt))))))))),
           ),
         ),
         (full_share, (full_share, (full_share, (full_share, (full_share, (full_share, (q₂, (q₃, (q₄, (q₅, (q₆, tt))))))))))),
@@ -413,20 +413,20 @@ module _ {M : Type 1} {𝓤 : Ura M} (𝓛 : Logic 𝓤) (at_mem : Memory → SP
       tt,
     )
 
-    goes-work : (ls : Leases) (c : Columns) → Full 4168 c → ent 𝓤 (mean 𝓛 (With 𝓛 ls Tokens ⊛ ‵ (Owned 4168 a₁ a₂ a₃ a₄ a₅ a₆ ls c Others)))
-        ((Work 𝓛 at_mem run).pre (to-work ls c))
-    goes-work ls c full = qed 𝓛 (With 𝓛 ls Tokens ∷ ‵ (Owned 4168 a₁ a₂ a₃ a₄ a₅ a₆ ls c Others) ∷ []) ∵ says ! (full-holds c full) $ done !
+    goes_work : (ls : Leases) (c : Columns) → Full 4168 c → ent 𝓤 (mean 𝓛 (With 𝓛 ls Tokens ⊛ ‵ (Owned 4168 a₁ a₂ a₃ a₄ a₅ a₆ ls c Others)))
+        ((Work 𝓛 at_mem run).pre (to_work ls c))
+    goes_work ls c full = qed 𝓛 (With 𝓛 ls Tokens ∷ ‵ (Owned 4168 a₁ a₂ a₃ a₄ a₅ a₆ ls c Others) ∷ []) ∵ says ! (full_holds c full) $ done !
 
-    abbrev to-store : Leases → Columns → (Store 𝓛 at_mem run).Ghost
-    to-store ls c = (
+    abbrev to_store : Leases → Columns → (Store 𝓛 at_mem run).Ghost
+    to_store ls c = (
       (
         (
           κ₀,
           (
-            lft-of ls.next,
+            lft_of ls.next,
             (
-              lft-of ls.prev,
-              (lft-of ls.bucket, (lft-of ls.entry, (lft-of ls.generation, (lft-of ls.serial, tt)))),
+              lft_of ls.prev,
+              (lft_of ls.bucket, (lft_of ls.entry, (lft_of ls.generation, (lft_of ls.serial, tt)))),
             ),
           ),
         ),
@@ -435,12 +435,12 @@ module _ {M : Type 1} {𝓤 : Ura M} (𝓛 : Logic 𝓤) (at_mem : Memory → SP
         (
           ref γ,
           (
-            ref-to a₁ ls.next.name c.next,
+            ref_to a₁ ls.next.name c.next,
             (
-              ref-to a₂ ls.prev.name c.prev,
+              ref_to a₂ ls.prev.name c.prev,
               (
-                ref-to a₃ ls.bucket.name c.bucket,
-                (ref-to a₄ ls.entry.name c.entry, (ref-to a₅ ls.generation.name c.generation, (ref-to a₆ ls.serial.name c.serial, tt))),
+                ref_to a₃ ls.bucket.name c.bucket,
+                (ref_to a₄ ls.entry.name c.entry, (ref_to a₅ ls.generation.name c.generation, (ref_to a₆ ls.serial.name c.serial, tt))),
               ),
             ),
           ),
@@ -459,13 +459,13 @@ module _ {M : Type 1} {𝓤 : Ura M} (𝓛 : Logic 𝓤) (at_mem : Memory → SP
       tt,
     )
 
-    goes-store : (ls : Leases) (c : Columns) → Full 4168 c
+    goes_store : (ls : Leases) (c : Columns) → Full 4168 c
         → ent 𝓤 (mean 𝓛 ((‵ (flft κ₀ q₀) ⊛ With 𝓛 ls (‵ ftrue)) ⊛ ‵
         (fsep ((MutSlice (named 0) κ₀ T.the_row).own_val (ref γ) (s ∷ [])) (Viewed 4168 a₁ a₂ a₃ a₄ a₅ a₆ ls c ftrue))))
-        ((Store 𝓛 at_mem run).pre (to-store ls c))
-    goes-store ls c full =
+        ((Store 𝓛 at_mem run).pre (to_store ls c))
+    goes_store ls c full =
         qed 𝓛 ((‵ (flft κ₀ q₀) ⊛ With 𝓛 ls (‵ ftrue)) ∷ ‵
-        (fsep ((MutSlice (named 0) κ₀ T.the_row).own_val (ref γ) (s ∷ [])) (Viewed 4168 a₁ a₂ a₃ a₄ a₅ a₆ ls c ftrue)) ∷ []) ∵ says ! (full-holds c full) $ done
+        (fsep ((MutSlice (named 0) κ₀ T.the_row).own_val (ref γ) (s ∷ [])) (Viewed 4168 a₁ a₂ a₃ a₄ a₅ a₆ ls c ftrue)) ∷ []) ∵ says ! (full_holds c full) $ done
         !
 
   module _ (C : Calls 𝓤 H) (Λ : Loops 𝓤 H) (fm : FmC 𝓤 H 𝓛.laws C) (known-load : Triple 𝓤 (C #load) (Load 𝓛 at_mem run))
@@ -515,16 +515,16 @@ module _ {M : Type 1} {𝓤 : Ura M} (𝓛 : Logic 𝓤) (at_mem : Memory → SP
         (λ vs. spelt ! K.the_row (Is K.the_row) (shows 𝓛 K.the_row) vals (LL.tells K.the_type K'.the_laws) full_share h vs b₁ o₁ $
         move ! (1 ∷ []) $ peeks ! K.the_row (Is K.the_row) (shows 𝓛 K.the_row) h (vals h) (λ was. drop ! $
         -- the columns
-        assigns ! (rep ! 4168 (lit ! tt)) (from ! (stop !)) (init ! 115 refl (zeros-typed 𝓛 w64 some-8 4168)) $
-        assigns ! (rep ! 4168 (lit ! tt)) (from ! (stop !)) (init ! 113 refl (zeros-typed 𝓛 w64 some-8 4168)) $
-        assigns ! (rep ! 4168 (lit ! tt)) (from ! (stop !)) (init ! 111 refl (zeros-typed 𝓛 w64 some-8 4168)) $
-        assigns ! (rep ! 4168 (lit ! tt)) (from ! (stop !)) (init ! 109 refl (zeros-typed 𝓛 w64 some-8 4168)) $
-        assigns ! (rep ! 4168 (lit ! tt)) (from ! (stop !)) (init ! 107 refl (zeros-typed 𝓛 w32 some-4 4168)) $
-        assigns ! (rep ! 4168 (lit ! tt)) (from ! (stop !)) (init ! 105 refl (zeros-typed 𝓛 w64 some-8 4168)) $
+        assigns ! (rep ! 4168 (lit ! tt)) (from ! (stop !)) (init ! 115 refl (zeros_typed 𝓛 w64 some_8 4168)) $
+        assigns ! (rep ! 4168 (lit ! tt)) (from ! (stop !)) (init ! 113 refl (zeros_typed 𝓛 w64 some_8 4168)) $
+        assigns ! (rep ! 4168 (lit ! tt)) (from ! (stop !)) (init ! 111 refl (zeros_typed 𝓛 w64 some_8 4168)) $
+        assigns ! (rep ! 4168 (lit ! tt)) (from ! (stop !)) (init ! 109 refl (zeros_typed 𝓛 w64 some_8 4168)) $
+        assigns ! (rep ! 4168 (lit ! tt)) (from ! (stop !)) (init ! 107 refl (zeros_typed 𝓛 w32 some_4 4168)) $
+        assigns ! (rep ! 4168 (lit ! tt)) (from ! (stop !)) (init ! 105 refl (zeros_typed 𝓛 w64 some_8 4168)) $
         move ! (107 ∷ 105 ∷ []) $ join ! $ move ! (108 ∷ 0 ∷ []) $ join ! $ move ! (109 ∷ 0 ∷ []) $ join ! $ move ! (110 ∷ 0 ∷ []) $ join ! $ move !
         (111 ∷ 0 ∷ []) $ join ! $
         use1 𝓛 (some (λ (c : Columns). given (Full 4168 c) (‵ (Rows 4168 l₁₁ l₁₂ l₁₃ l₁₄ l₁₅ l₁₆ c))))
-        (makes-six 𝓛 4168 l₁₁ l₁₂ l₁₃ l₁₄ l₁₅ l₁₆ some-8 some-4) $ pick ! (λ c₀. learn ! (λ full₀.
+        (makes_six 𝓛 4168 l₁₁ l₁₂ l₁₃ l₁₄ l₁₅ l₁₆ some_8 some_4) $ pick ! (λ c₀. learn ! (λ full₀.
         -- `load`: the columns are lent, each for a lifetime of its own; so are the nodes, whose borrow is opened
         assigns ! (addr ! (from ! (fld ! refl (hop ! (look_in ! 130 (sub ! 0 refl (whole !))) (stop !))))) (from ! (stop !)) (init ! 100 refl (tt, tt)) $
         assigns ! (agg ! (and_then ! (load ! (from ! (stop !)) (look ! 100 refl))
@@ -535,32 +535,32 @@ module _ {M : Type 1} {𝓤 : Ura M} (𝓛 : Logic 𝓤) (at_mem : Memory → SP
         (flent (α ∷ []) ((arr_parts (shares T.the_row) n).part full_share ys b o)))))
         (lends_shr_slice 𝓛 T.the_row (named 0) (α ∷ []) full_share ys b o room) $ await ! tt $ pick ! (λ δ. split ! $
         assigns ! (addr ! (from ! (stop !))) (from ! (stop !)) (init ! 99 refl (tt, tt)) $
-        assigns ! (agg ! (and_then ! (load ! (from ! (stop !)) (look ! 99 refl)) (and_then ! (length-lit ! (record { fits = lit< tt })) (no_more !))))
+        assigns ! (agg ! (and_then ! (load ! (from ! (stop !)) (look ! 99 refl)) (and_then ! (length_lit ! (record { fits = lit< tt })) (no_more !))))
         (from ! (stop !)) (init ! 97 refl (tt, (tt, (record { fits = lit< tt }, tt)))) $
         assigns ! (addr ! (from ! (stop !))) (from ! (stop !)) (init ! 95 refl (tt, tt)) $
-        assigns ! (agg ! (and_then ! (load ! (from ! (stop !)) (look ! 95 refl)) (and_then ! (length-lit ! (record { fits = lit< tt })) (no_more !))))
+        assigns ! (agg ! (and_then ! (load ! (from ! (stop !)) (look ! 95 refl)) (and_then ! (length_lit ! (record { fits = lit< tt })) (no_more !))))
         (from ! (stop !)) (init ! 93 refl (tt, (tt, (record { fits = lit< tt }, tt)))) $
         assigns ! (addr ! (from ! (stop !))) (from ! (stop !)) (init ! 91 refl (tt, tt)) $
-        assigns ! (agg ! (and_then ! (load ! (from ! (stop !)) (look ! 91 refl)) (and_then ! (length-lit ! (record { fits = lit< tt })) (no_more !))))
+        assigns ! (agg ! (and_then ! (load ! (from ! (stop !)) (look ! 91 refl)) (and_then ! (length_lit ! (record { fits = lit< tt })) (no_more !))))
         (from ! (stop !)) (init ! 89 refl (tt, (tt, (record { fits = lit< tt }, tt)))) $
         assigns ! (addr ! (from ! (stop !))) (from ! (stop !)) (init ! 87 refl (tt, tt)) $
-        assigns ! (agg ! (and_then ! (load ! (from ! (stop !)) (look ! 87 refl)) (and_then ! (length-lit ! (record { fits = lit< tt })) (no_more !))))
+        assigns ! (agg ! (and_then ! (load ! (from ! (stop !)) (look ! 87 refl)) (and_then ! (length_lit ! (record { fits = lit< tt })) (no_more !))))
         (from ! (stop !)) (init ! 85 refl (tt, (tt, (record { fits = lit< tt }, tt)))) $
         assigns ! (addr ! (from ! (stop !))) (from ! (stop !)) (init ! 83 refl (tt, tt)) $
-        assigns ! (agg ! (and_then ! (load ! (from ! (stop !)) (look ! 83 refl)) (and_then ! (length-lit ! (record { fits = lit< tt })) (no_more !))))
+        assigns ! (agg ! (and_then ! (load ! (from ! (stop !)) (look ! 83 refl)) (and_then ! (length_lit ! (record { fits = lit< tt })) (no_more !))))
         (from ! (stop !)) (init ! 81 refl (tt, (tt, (record { fits = lit< tt }, tt)))) $
         assigns ! (addr ! (from ! (stop !))) (from ! (stop !)) (init ! 79 refl (tt, tt)) $
-        assigns ! (agg ! (and_then ! (load ! (from ! (stop !)) (look ! 79 refl)) (and_then ! (length-lit ! (record { fits = lit< tt })) (no_more !))))
+        assigns ! (agg ! (and_then ! (load ! (from ! (stop !)) (look ! 79 refl)) (and_then ! (length_lit ! (record { fits = lit< tt })) (no_more !))))
         (from ! (stop !)) (init ! 77 refl (tt, (tt, (record { fits = lit< tt }, tt)))) $
         nothing ! $ nothing ! $
         move ! (8 ∷ 0 ∷ 1 ∷ []) $ use3 𝓛 (later (some (λ (ls : Leases). With 𝓛 ls (‵ ftrue) ⊛ ‵ (Owned 4168 l₁₁ l₁₂ l₁₃ l₁₄ l₁₅ l₁₆ ls c₀ ftrue) ⊛ ‵
-        (Lenders 4168 l₁₁ l₁₂ l₁₃ l₁₄ l₁₅ l₁₆ ls)))) (lends-six 𝓛 4168 l₁₁ l₁₂ l₁₃ l₁₄ l₁₅ l₁₆ fits_8 fits-4 c₀ full₀ (‵ ftrue) ftrue) $
+        (Lenders 4168 l₁₁ l₁₂ l₁₃ l₁₄ l₁₅ l₁₆ ls)))) (lends_six 𝓛 4168 l₁₁ l₁₂ l₁₃ l₁₄ l₁₅ l₁₆ fits_8 fits_4 c₀ full₀ (‵ ftrue) ftrue) $
         await ! tt $ pick ! (λ ls. split ! $ move ! (1 ∷ []) $ split ! $
         move ! (5 ∷ 2 ∷ []) $ join ! $
         move ! (3 ∷ 1 ∷ []) $ fjoin ! $
-        move ! (1 ∷ 0 ∷ []) $ use2 𝓛 (raw ((Load 𝓛 at_mem run).pre (to-load l₁₁ l₁₂ l₁₃ l₁₄ l₁₅ l₁₆ (α ∷ []) full_share δ ls c₀)))
+        move ! (1 ∷ 0 ∷ []) $ use2 𝓛 (raw ((Load 𝓛 at_mem run).pre (to_load l₁₁ l₁₂ l₁₃ l₁₄ l₁₅ l₁₆ (α ∷ []) full_share δ ls c₀)))
         (goes_load l₁₁ l₁₂ l₁₃ l₁₄ l₁₅ l₁₆ (α ∷ []) full_share δ ls c₀ full₀) $
-        calls_at ! fm (Load 𝓛 at_mem run) known-load (to-load l₁₁ l₁₂ l₁₃ l₁₄ l₁₅ l₁₆ (α ∷ []) full_share δ ls c₀)
+        calls_at ! fm (Load 𝓛 at_mem run) known-load (to_load l₁₁ l₁₂ l₁₃ l₁₄ l₁₅ l₁₆ (α ∷ []) full_share δ ls c₀)
         (and_then ! (load ! (from ! (stop !)) (look ! 100 refl))
         (and_then ! (load ! (from ! (stop !)) (look ! 96 refl))
         (and_then ! (load ! (from ! (stop !)) (look ! 92 refl))
@@ -571,23 +571,23 @@ module _ {M : Type 1} {𝓤 : Ura M} (𝓛 : Logic 𝓤) (at_mem : Memory → SP
         (ensured 𝓛 loads.ended (loads.clauses 𝓛 at_mem run) (
           (α ∷ []),
           (
-            lft-of ls.next,
+            lft_of ls.next,
             (
-              lft-of ls.prev,
-              (lft-of ls.bucket, (lft-of ls.entry, (lft-of ls.generation, (lft-of ls.serial, tt)))),
+              lft_of ls.prev,
+              (lft_of ls.bucket, (lft_of ls.entry, (lft_of ls.generation, (lft_of ls.serial, tt)))),
             ),
           ),
         ) (
           ref δ,
           (
-            ref-to l₁₁ ls.next.name c₀.next,
+            ref_to l₁₁ ls.next.name c₀.next,
             (
-              ref-to l₁₂ ls.prev.name c₀.prev,
+              ref_to l₁₂ ls.prev.name c₀.prev,
               (
-                ref-to l₁₃ ls.bucket.name c₀.bucket,
+                ref_to l₁₃ ls.bucket.name c₀.bucket,
                 (
-                  ref-to l₁₄ ls.entry.name c₀.entry,
-                  (ref-to l₁₅ ls.generation.name c₀.generation, (ref-to l₁₆ ls.serial.name c₀.serial, tt)),
+                  ref_to l₁₄ ls.entry.name c₀.entry,
+                  (ref_to l₁₅ ls.generation.name c₀.generation, (ref_to l₁₆ ls.serial.name c₀.serial, tt)),
                 ),
               ),
             ),
@@ -600,7 +600,7 @@ module _ {M : Type 1} {𝓤 : Ura M} (𝓛 : Logic 𝓤) (at_mem : Memory → SP
         move ! (1 ∷ []) $ heard ! (Loads ys (columns c.next c.prev c.bucket c.entry c.generation c.serial)) (λ loaded. fsplit ! $ drop ! $
         move ! (1 ∷ []) $ split ! $ move ! (1 ∷ []) $ peeks ! Nothing (Is Nothing) (shows 𝓛 Nothing) none (v ∷ []) (λ isv. drop ! $ split ! $
         move ! (1 ∷ 3 ∷ 2 ∷ []) $ use3 𝓛 (later (given (Full 4168 c) (‵ (Rows 4168 l₁₁ l₁₂ l₁₃ l₁₄ l₁₅ l₁₆ c) ⊛ (‵ ftrue) ⊛ ‵ ftrue)))
-        (six-back 𝓛 4168 l₁₁ l₁₂ l₁₃ l₁₄ l₁₅ l₁₆ fits_8 fits-4 c₀ full₀ (‵ ftrue) ftrue ls c) $ await ! tt $ learn !
+        (six_back 𝓛 4168 l₁₁ l₁₂ l₁₃ l₁₄ l₁₅ l₁₆ fits_8 fits_4 c₀ full₀ (‵ ftrue) ftrue ls c) $ await ! tt $ learn !
         (λ full. split ! $ move ! (1 ∷ []) $ split ! $
         drop ! $ drop ! $
         -- the lifetime ends, the nodes are back, and their borrow is closed
@@ -609,22 +609,22 @@ module _ {M : Type 1} {𝓤 : Ura M} (𝓛 : Logic 𝓤) (at_mem : Memory → SP
         land ! (from ! (stop !)) (init ! 102 refl ((Nothing-Lawful 𝓛).typed none _ isv).0) $
         -- `reschedule_work`
         assigns ! (addr ! (from ! (stop !))) (from ! (stop !)) (init ! 72 refl (tt, tt)) $
-        assigns ! (agg ! (and_then ! (load ! (from ! (stop !)) (look ! 72 refl)) (and_then ! (length-lit ! (record { fits = lit< tt })) (no_more !))))
+        assigns ! (agg ! (and_then ! (load ! (from ! (stop !)) (look ! 72 refl)) (and_then ! (length_lit ! (record { fits = lit< tt })) (no_more !))))
         (from ! (stop !)) (init ! 70 refl (tt, (tt, (record { fits = lit< tt }, tt)))) $
         assigns ! (addr ! (from ! (stop !))) (from ! (stop !)) (init ! 68 refl (tt, tt)) $
-        assigns ! (agg ! (and_then ! (load ! (from ! (stop !)) (look ! 68 refl)) (and_then ! (length-lit ! (record { fits = lit< tt })) (no_more !))))
+        assigns ! (agg ! (and_then ! (load ! (from ! (stop !)) (look ! 68 refl)) (and_then ! (length_lit ! (record { fits = lit< tt })) (no_more !))))
         (from ! (stop !)) (init ! 66 refl (tt, (tt, (record { fits = lit< tt }, tt)))) $
         assigns ! (addr ! (from ! (stop !))) (from ! (stop !)) (init ! 64 refl (tt, tt)) $
-        assigns ! (agg ! (and_then ! (load ! (from ! (stop !)) (look ! 64 refl)) (and_then ! (length-lit ! (record { fits = lit< tt })) (no_more !))))
+        assigns ! (agg ! (and_then ! (load ! (from ! (stop !)) (look ! 64 refl)) (and_then ! (length_lit ! (record { fits = lit< tt })) (no_more !))))
         (from ! (stop !)) (init ! 62 refl (tt, (tt, (record { fits = lit< tt }, tt)))) $
         assigns ! (addr ! (from ! (stop !))) (from ! (stop !)) (init ! 60 refl (tt, tt)) $
-        assigns ! (agg ! (and_then ! (load ! (from ! (stop !)) (look ! 60 refl)) (and_then ! (length-lit ! (record { fits = lit< tt })) (no_more !))))
+        assigns ! (agg ! (and_then ! (load ! (from ! (stop !)) (look ! 60 refl)) (and_then ! (length_lit ! (record { fits = lit< tt })) (no_more !))))
         (from ! (stop !)) (init ! 58 refl (tt, (tt, (record { fits = lit< tt }, tt)))) $
         assigns ! (addr ! (from ! (stop !))) (from ! (stop !)) (init ! 56 refl (tt, tt)) $
-        assigns ! (agg ! (and_then ! (load ! (from ! (stop !)) (look ! 56 refl)) (and_then ! (length-lit ! (record { fits = lit< tt })) (no_more !))))
+        assigns ! (agg ! (and_then ! (load ! (from ! (stop !)) (look ! 56 refl)) (and_then ! (length_lit ! (record { fits = lit< tt })) (no_more !))))
         (from ! (stop !)) (init ! 54 refl (tt, (tt, (record { fits = lit< tt }, tt)))) $
         assigns ! (addr ! (from ! (stop !))) (from ! (stop !)) (init ! 52 refl (tt, tt)) $
-        assigns ! (agg ! (and_then ! (load ! (from ! (stop !)) (look ! 52 refl)) (and_then ! (length-lit ! (record { fits = lit< tt })) (no_more !))))
+        assigns ! (agg ! (and_then ! (load ! (from ! (stop !)) (look ! 52 refl)) (and_then ! (length_lit ! (record { fits = lit< tt })) (no_more !))))
         (from ! (stop !)) (init ! 50 refl (tt, (tt, (record { fits = lit< tt }, tt)))) $
         assigns ! (of_opd ! (load ! (from ! (fld ! refl (stop !))) (look_in ! 130 (sub ! 1 refl (whole !))))) (from ! (stop !))
         (init ! 48 refl (tt, record { fits = room.0 })) $
@@ -641,10 +641,10 @@ module _ {M : Type 1} {𝓤 : Ura M} (𝓛 : Logic 𝓤) (at_mem : Memory → SP
         move ! (9 ∷ []) $ owned ! K.the_row (Is K.the_row) (LL.makes K.the_type K'.the_plain 𝓛) h _ was $ fjoin ! $ owned ! usize (Is usize)
         (uint_Makes 𝓛 w64) n _ (refl, room.0) $ fjoin ! $
         move ! (4 ∷ 9 ∷ 0 ∷ []) $ use3 𝓛 (later (some (λ (ls : Leases). With 𝓛 ls Tokens ⊛ ‵ (Owned 4168 l₁₁ l₁₂ l₁₃ l₁₄ l₁₅ l₁₆ ls c Others) ⊛ ‵
-        (Lenders 4168 l₁₁ l₁₂ l₁₃ l₁₄ l₁₅ l₁₆ ls)))) (lends-six 𝓛 4168 l₁₁ l₁₂ l₁₃ l₁₄ l₁₅ l₁₆ fits_8 fits-4 c full Tokens Others) $
+        (Lenders 4168 l₁₁ l₁₂ l₁₃ l₁₄ l₁₅ l₁₆ ls)))) (lends_six 𝓛 4168 l₁₁ l₁₂ l₁₃ l₁₄ l₁₅ l₁₆ fits_8 fits_4 c full Tokens Others) $
         await ! tt $ pick ! (λ ks. split ! $ move ! (1 ∷ []) $ split ! $
-        move ! (2 ∷ 0 ∷ []) $ use2 𝓛 (raw ((Work 𝓛 at_mem run).pre (to-work l₁₁ l₁₂ l₁₃ l₁₄ l₁₅ l₁₆ ks c))) (goes-work l₁₁ l₁₂ l₁₃ l₁₄ l₁₅ l₁₆ ks c full) $
-        calls_at ! fm (Work 𝓛 at_mem run) known-work (to-work l₁₁ l₁₂ l₁₃ l₁₄ l₁₅ l₁₆ ks c)
+        move ! (2 ∷ 0 ∷ []) $ use2 𝓛 (raw ((Work 𝓛 at_mem run).pre (to_work l₁₁ l₁₂ l₁₃ l₁₄ l₁₅ l₁₆ ks c))) (goes_work l₁₁ l₁₂ l₁₃ l₁₄ l₁₅ l₁₆ ks c full) $
+        calls_at ! fm (Work 𝓛 at_mem run) known-work (to_work l₁₁ l₁₂ l₁₃ l₁₄ l₁₅ l₁₆ ks c)
         (and_then ! (load ! (from ! (stop !)) (look ! 69 refl))
         (and_then ! (load ! (from ! (stop !)) (look ! 65 refl))
         (and_then ! (load ! (from ! (stop !)) (look ! 61 refl))
@@ -662,22 +662,22 @@ module _ {M : Type 1} {𝓤 : Ura M} (𝓛 : Logic 𝓤) (at_mem : Memory → SP
         (and_then ! (load ! (from ! (stop !)) (look ! 113 refl)) (and_then ! (load ! (from ! (stop !)) (look ! 111 refl)) (no_more !))))))))))))))))) (λ z.
         use1 𝓛 (later (some (λ (u : RescheduledTurn). (With 𝓛 ks Tokens ⊛ ‵ ((U.the_row).own_val u (z ∷ []))) ⊛ raw
         (ensured 𝓛 works.ended (works.clauses 𝓛 at_mem run) (
-          lft-of ks.next,
+          lft_of ks.next,
           (
-            lft-of ks.prev,
+            lft_of ks.prev,
             (
-              lft-of ks.bucket,
-              (lft-of ks.entry, (lft-of ks.generation, (lft-of ks.serial, (κ₂, (κ₃, (κ₄, (κ₅, (κ₆, tt)))))))),
+              lft_of ks.bucket,
+              (lft_of ks.entry, (lft_of ks.generation, (lft_of ks.serial, (κ₂, (κ₃, (κ₄, (κ₅, (κ₆, tt)))))))),
             ),
           ),
         ) (passed l₁₁ l₁₂ l₁₃ l₁₄ l₁₅ l₁₆ ks c)
         tt u)))) (id⊢ 𝓤 _) $ await ! tt $ pick ! (λ u.
         split ! $ move ! (1 ∷ []) $ use1 𝓛 (some (λ (ws : Last l₁₁ l₁₂ l₁₃ l₁₄ l₁₅ l₁₆ ks c). ‵
         (lasts works.ended (
-          lft-of ks.next,
+          lft_of ks.next,
           (
-            lft-of ks.prev,
-            (lft-of ks.bucket, (lft-of ks.entry, (lft-of ks.generation, (lft-of ks.serial, (κ₂, (κ₃, (κ₄, (κ₅, (κ₆, tt))))))))),
+            lft_of ks.prev,
+            (lft_of ks.bucket, (lft_of ks.entry, (lft_of ks.generation, (lft_of ks.serial, (κ₂, (κ₃, (κ₄, (κ₅, (κ₆, tt))))))))),
           ),
         )
         (passed l₁₁ l₁₂ l₁₃ l₁₄ l₁₅ l₁₆ ks c) ws) ⊛ raw (fact 𝓤 (For l₁₁ l₁₂ l₁₃ l₁₄ l₁₅ l₁₆ ks c ws u)))) (id⊢ 𝓤 _) $ pick ! (λ ws. split ! $
@@ -686,15 +686,15 @@ module _ {M : Type 1} {𝓤 : Ura M} (𝓛 : Logic 𝓤) (at_mem : Memory → SP
         move ! (0 ∷ 2 ∷ 1 ∷ []) $ use3 𝓛 (later (given (Full 4168 (after l₁₁ l₁₂ l₁₃ l₁₄ l₁₅ l₁₆ ks c ws))
         (‵ (Rows 4168 l₁₁ l₁₂ l₁₃ l₁₄ l₁₅ l₁₆ (after l₁₁ l₁₂ l₁₃ l₁₄ l₁₅ l₁₆ ks c ws)) ⊛ Tokens ⊛ ‵
         (fsep ftrue (fsep ftrue (Rest-last l₁₁ l₁₂ l₁₃ l₁₄ l₁₅ l₁₆ ks c ws))))))
-        (six-back 𝓛 4168 l₁₁ l₁₂ l₁₃ l₁₄ l₁₅ l₁₆ fits_8 fits-4 c full Tokens (fsep ftrue (fsep ftrue (Rest-last l₁₁ l₁₂ l₁₃ l₁₄ l₁₅ l₁₆ ks c ws))) ks
+        (six_back 𝓛 4168 l₁₁ l₁₂ l₁₃ l₁₄ l₁₅ l₁₆ fits_8 fits_4 c full Tokens (fsep ftrue (fsep ftrue (Rest-last l₁₁ l₁₂ l₁₃ l₁₄ l₁₅ l₁₆ ks c ws))) ks
         (after l₁₁ l₁₂ l₁₃ l₁₄ l₁₅ l₁₆ ks c ws)) $ await ! tt $ learn ! (λ full'. split ! $ move ! (1 ∷ []) $ split ! $
         move ! (1 ∷ []) $ fsplit ! $ drop ! $ fsplit ! $ drop ! $
         land ! (from ! (stop !)) (init ! 104 refl ((LL.lawful U.the_type U'.the_laws 𝓛).typed u _ is).0) $
         rewrite ! 104 (λ (y : Val). ‵ (fat full_share U'.mir l₁₇ 0 y)) (ap only (LL.tells U.the_type U'.the_laws u _ is)) refl $
         -- the clock is stored back, and its borrow closed
         assigns ! (of_opd ! (load ! (from ! (fld ! refl (stop !))) (look_in ! 104 (sub ! 0 refl (whole !))))) (from ! (hop ! (look ! 128 refl) (stop !)))
-        (store_raw ! 6 refl ((LL.lawful K.the_type K'.the_laws 𝓛).typed u.clock _ (is-clock u is)).0) $
-        owned ! K.the_row (Is K.the_row) (LL.makes K.the_type K'.the_plain 𝓛) u.clock _ (is-clock u is) $ move ! (7 ∷ 0 ∷ 8 ∷ 9 ∷ 10 ∷ []) $ closes ! tt
+        (store_raw ! 6 refl ((LL.lawful K.the_type K'.the_laws 𝓛).typed u.clock _ (is_clock u is)).0) $
+        owned ! K.the_row (Is K.the_row) (LL.makes K.the_type K'.the_plain 𝓛) u.clock _ (is_clock u is) $ move ! (7 ∷ 0 ∷ 8 ∷ 9 ∷ 10 ∷ []) $ closes ! tt
         K.the_row u.clock (vals u.clock) b₁ o₁ $
         -- `store`, which the nodes' borrow is passed on to
         assigns ! (addr ! (from ! (fld ! refl (hop ! (look_in ! 129 (sub ! 0 refl (whole !))) (stop !))))) (from ! (stop !)) (init ! 35 refl (tt, tt)) $
@@ -702,35 +702,35 @@ module _ {M : Type 1} {𝓤 : Ura M} (𝓛 : Logic 𝓤) (at_mem : Memory → SP
         (and_then ! (load ! (from ! (fld ! refl (stop !))) (look_in ! 129 (sub ! 1 refl (whole !)))) (no_more !)))) (from ! (stop !))
         (init ! 33 refl (tt, (tt, (record { fits = room.0 }, tt)))) $
         assigns ! (addr ! (from ! (stop !))) (from ! (stop !)) (init ! 31 refl (tt, tt)) $
-        assigns ! (agg ! (and_then ! (load ! (from ! (stop !)) (look ! 31 refl)) (and_then ! (length-lit ! (record { fits = lit< tt })) (no_more !))))
+        assigns ! (agg ! (and_then ! (load ! (from ! (stop !)) (look ! 31 refl)) (and_then ! (length_lit ! (record { fits = lit< tt })) (no_more !))))
         (from ! (stop !)) (init ! 29 refl (tt, (tt, (record { fits = lit< tt }, tt)))) $
         assigns ! (addr ! (from ! (stop !))) (from ! (stop !)) (init ! 27 refl (tt, tt)) $
-        assigns ! (agg ! (and_then ! (load ! (from ! (stop !)) (look ! 27 refl)) (and_then ! (length-lit ! (record { fits = lit< tt })) (no_more !))))
+        assigns ! (agg ! (and_then ! (load ! (from ! (stop !)) (look ! 27 refl)) (and_then ! (length_lit ! (record { fits = lit< tt })) (no_more !))))
         (from ! (stop !)) (init ! 25 refl (tt, (tt, (record { fits = lit< tt }, tt)))) $
         assigns ! (addr ! (from ! (stop !))) (from ! (stop !)) (init ! 23 refl (tt, tt)) $
-        assigns ! (agg ! (and_then ! (load ! (from ! (stop !)) (look ! 23 refl)) (and_then ! (length-lit ! (record { fits = lit< tt })) (no_more !))))
+        assigns ! (agg ! (and_then ! (load ! (from ! (stop !)) (look ! 23 refl)) (and_then ! (length_lit ! (record { fits = lit< tt })) (no_more !))))
         (from ! (stop !)) (init ! 21 refl (tt, (tt, (record { fits = lit< tt }, tt)))) $
         assigns ! (addr ! (from ! (stop !))) (from ! (stop !)) (init ! 19 refl (tt, tt)) $
-        assigns ! (agg ! (and_then ! (load ! (from ! (stop !)) (look ! 19 refl)) (and_then ! (length-lit ! (record { fits = lit< tt })) (no_more !))))
+        assigns ! (agg ! (and_then ! (load ! (from ! (stop !)) (look ! 19 refl)) (and_then ! (length_lit ! (record { fits = lit< tt })) (no_more !))))
         (from ! (stop !)) (init ! 17 refl (tt, (tt, (record { fits = lit< tt }, tt)))) $
         assigns ! (addr ! (from ! (stop !))) (from ! (stop !)) (init ! 15 refl (tt, tt)) $
-        assigns ! (agg ! (and_then ! (load ! (from ! (stop !)) (look ! 15 refl)) (and_then ! (length-lit ! (record { fits = lit< tt })) (no_more !))))
+        assigns ! (agg ! (and_then ! (load ! (from ! (stop !)) (look ! 15 refl)) (and_then ! (length_lit ! (record { fits = lit< tt })) (no_more !))))
         (from ! (stop !)) (init ! 13 refl (tt, (tt, (record { fits = lit< tt }, tt)))) $
         assigns ! (addr ! (from ! (stop !))) (from ! (stop !)) (init ! 11 refl (tt, tt)) $
-        assigns ! (agg ! (and_then ! (load ! (from ! (stop !)) (look ! 11 refl)) (and_then ! (length-lit ! (record { fits = lit< tt })) (no_more !))))
+        assigns ! (agg ! (and_then ! (load ! (from ! (stop !)) (look ! 11 refl)) (and_then ! (length_lit ! (record { fits = lit< tt })) (no_more !))))
         (from ! (stop !)) (init ! 9 refl (tt, (tt, (record { fits = lit< tt }, tt)))) $
         nothing ! $ nothing ! $
         move ! (7 ∷ 0 ∷ 1 ∷ []) $ use3 𝓛 (later (some (λ (ls : Leases). With 𝓛 ls (‵ ftrue) ⊛ ‵
         (Viewed 4168 l₁₁ l₁₂ l₁₃ l₁₄ l₁₅ l₁₆ ls (after l₁₁ l₁₂ l₁₃ l₁₄ l₁₅ l₁₆ ks c ws) ftrue) ⊛ ‵
         (Sharers 4168 l₁₁ l₁₂ l₁₃ l₁₄ l₁₅ l₁₆ ls (after l₁₁ l₁₂ l₁₃ l₁₄ l₁₅ l₁₆ ks c ws)))))
-        (shares-six 𝓛 4168 l₁₁ l₁₂ l₁₃ l₁₄ l₁₅ l₁₆ fits_8 fits-4 (after l₁₁ l₁₂ l₁₃ l₁₄ l₁₅ l₁₆ ks c ws) full' (‵ ftrue) ftrue) $
+        (shares_six 𝓛 4168 l₁₁ l₁₂ l₁₃ l₁₄ l₁₅ l₁₆ fits_8 fits_4 (after l₁₁ l₁₂ l₁₃ l₁₄ l₁₅ l₁₆ ks c ws) full' (‵ ftrue) ftrue) $
         await ! tt $ pick ! (λ ms. split ! $ move ! (1 ∷ []) $ split ! $
-        move ! (8 ∷ 9 ∷ []) $ use2 𝓛 (‵ ((MutSlice (named 0) κ₀ T.the_row).own_val (ref γ) (s ∷ []))) nodes-own $
+        move ! (8 ∷ 9 ∷ []) $ use2 𝓛 (‵ ((MutSlice (named 0) κ₀ T.the_row).own_val (ref γ) (s ∷ []))) nodes_own $
         move ! (9 ∷ 3 ∷ []) $ join ! $
         move ! (1 ∷ 2 ∷ []) $ fjoin ! $
-        move ! (1 ∷ 0 ∷ []) $ use2 𝓛 (raw ((Store 𝓛 at_mem run).pre (to-store l₁₁ l₁₂ l₁₃ l₁₄ l₁₅ l₁₆ ms (after l₁₁ l₁₂ l₁₃ l₁₄ l₁₅ l₁₆ ks c ws))))
-        (goes-store l₁₁ l₁₂ l₁₃ l₁₄ l₁₅ l₁₆ ms (after l₁₁ l₁₂ l₁₃ l₁₄ l₁₅ l₁₆ ks c ws) full') $
-        calls_at ! fm (Store 𝓛 at_mem run) known_store (to-store l₁₁ l₁₂ l₁₃ l₁₄ l₁₅ l₁₆ ms (after l₁₁ l₁₂ l₁₃ l₁₄ l₁₅ l₁₆ ks c ws))
+        move ! (1 ∷ 0 ∷ []) $ use2 𝓛 (raw ((Store 𝓛 at_mem run).pre (to_store l₁₁ l₁₂ l₁₃ l₁₄ l₁₅ l₁₆ ms (after l₁₁ l₁₂ l₁₃ l₁₄ l₁₅ l₁₆ ks c ws))))
+        (goes_store l₁₁ l₁₂ l₁₃ l₁₄ l₁₅ l₁₆ ms (after l₁₁ l₁₂ l₁₃ l₁₄ l₁₅ l₁₆ ks c ws) full') $
+        calls_at ! fm (Store 𝓛 at_mem run) known_store (to_store l₁₁ l₁₂ l₁₃ l₁₄ l₁₅ l₁₆ ms (after l₁₁ l₁₂ l₁₃ l₁₄ l₁₅ l₁₆ ks c ws))
         (and_then ! (load ! (from ! (stop !)) (look ! 31 refl))
         (and_then ! (load ! (from ! (stop !)) (look ! 27 refl))
         (and_then ! (load ! (from ! (stop !)) (look ! 23 refl))
@@ -739,19 +739,19 @@ module _ {M : Type 1} {𝓤 : Ura M} (𝓛 : Logic 𝓤) (at_mem : Memory → SP
         (and_then ! (load ! (from ! (stop !)) (look ! 11 refl)) (and_then ! (load ! (from ! (stop !)) (look ! 7 refl)) (no_more !)))))))) (λ y.
         use1 𝓛 (later (some (λ (none : Unit {0}). ((‵ (flft κ₀ q₀) ⊛ With 𝓛 ms (‵ ftrue)) ⊛ ‵ (Nothing.own none (y ∷ []))) ⊛ raw
         (ensured 𝓛 stores.ended (stores.clauses 𝓛 at_mem run)
-        (κ₀, (lft-of ms.next, (lft-of ms.prev, (lft-of ms.bucket, (lft-of ms.entry, (lft-of ms.generation, (lft-of ms.serial, tt))))))) (
+        (κ₀, (lft_of ms.next, (lft_of ms.prev, (lft_of ms.bucket, (lft_of ms.entry, (lft_of ms.generation, (lft_of ms.serial, tt))))))) (
           ref γ,
           (
-            ref-to l₁₁ ms.next.name (after l₁₁ l₁₂ l₁₃ l₁₄ l₁₅ l₁₆ ks c ws).next,
+            ref_to l₁₁ ms.next.name (after l₁₁ l₁₂ l₁₃ l₁₄ l₁₅ l₁₆ ks c ws).next,
             (
-              ref-to l₁₂ ms.prev.name (after l₁₁ l₁₂ l₁₃ l₁₄ l₁₅ l₁₆ ks c ws).prev,
+              ref_to l₁₂ ms.prev.name (after l₁₁ l₁₂ l₁₃ l₁₄ l₁₅ l₁₆ ks c ws).prev,
               (
-                ref-to l₁₃ ms.bucket.name (after l₁₁ l₁₂ l₁₃ l₁₄ l₁₅ l₁₆ ks c ws).bucket,
+                ref_to l₁₃ ms.bucket.name (after l₁₁ l₁₂ l₁₃ l₁₄ l₁₅ l₁₆ ks c ws).bucket,
                 (
-                  ref-to l₁₄ ms.entry.name (after l₁₁ l₁₂ l₁₃ l₁₄ l₁₅ l₁₆ ks c ws).entry,
+                  ref_to l₁₄ ms.entry.name (after l₁₁ l₁₂ l₁₃ l₁₄ l₁₅ l₁₆ ks c ws).entry,
                   (
-                    ref-to l₁₅ ms.generation.name (after l₁₁ l₁₂ l₁₃ l₁₄ l₁₅ l₁₆ ks c ws).generation,
-                    (ref-to l₁₆ ms.serial.name (after l₁₁ l₁₂ l₁₃ l₁₄ l₁₅ l₁₆ ks c ws).serial, tt),
+                    ref_to l₁₅ ms.generation.name (after l₁₁ l₁₂ l₁₃ l₁₄ l₁₅ l₁₆ ks c ws).generation,
+                    (ref_to l₁₆ ms.serial.name (after l₁₁ l₁₂ l₁₃ l₁₄ l₁₅ l₁₆ ks c ws).serial, tt),
                   ),
                 ),
               ),
@@ -759,19 +759,19 @@ module _ {M : Type 1} {𝓤 : Ura M} (𝓛 : Logic 𝓤) (at_mem : Memory → SP
           ),
         ) tt none)))) (id⊢ 𝓤 _) $ await ! tt $ pick ! (λ none'.
         split ! $ move ! (1 ∷ []) $ use1 𝓛 (some (λ (zs : Lasts stores.ended
-        (κ₀, (lft-of ms.next, (lft-of ms.prev, (lft-of ms.bucket, (lft-of ms.entry, (lft-of ms.generation, (lft-of ms.serial, tt))))))) (
+        (κ₀, (lft_of ms.next, (lft_of ms.prev, (lft_of ms.bucket, (lft_of ms.entry, (lft_of ms.generation, (lft_of ms.serial, tt))))))) (
           ref γ,
           (
-            ref-to l₁₁ ms.next.name (after l₁₁ l₁₂ l₁₃ l₁₄ l₁₅ l₁₆ ks c ws).next,
+            ref_to l₁₁ ms.next.name (after l₁₁ l₁₂ l₁₃ l₁₄ l₁₅ l₁₆ ks c ws).next,
             (
-              ref-to l₁₂ ms.prev.name (after l₁₁ l₁₂ l₁₃ l₁₄ l₁₅ l₁₆ ks c ws).prev,
+              ref_to l₁₂ ms.prev.name (after l₁₁ l₁₂ l₁₃ l₁₄ l₁₅ l₁₆ ks c ws).prev,
               (
-                ref-to l₁₃ ms.bucket.name (after l₁₁ l₁₂ l₁₃ l₁₄ l₁₅ l₁₆ ks c ws).bucket,
+                ref_to l₁₃ ms.bucket.name (after l₁₁ l₁₂ l₁₃ l₁₄ l₁₅ l₁₆ ks c ws).bucket,
                 (
-                  ref-to l₁₄ ms.entry.name (after l₁₁ l₁₂ l₁₃ l₁₄ l₁₅ l₁₆ ks c ws).entry,
+                  ref_to l₁₄ ms.entry.name (after l₁₁ l₁₂ l₁₃ l₁₄ l₁₅ l₁₆ ks c ws).entry,
                   (
-                    ref-to l₁₅ ms.generation.name (after l₁₁ l₁₂ l₁₃ l₁₄ l₁₅ l₁₆ ks c ws).generation,
-                    (ref-to l₁₆ ms.serial.name (after l₁₁ l₁₂ l₁₃ l₁₄ l₁₅ l₁₆ ks c ws).serial, tt),
+                    ref_to l₁₅ ms.generation.name (after l₁₁ l₁₂ l₁₃ l₁₄ l₁₅ l₁₆ ks c ws).generation,
+                    (ref_to l₁₆ ms.serial.name (after l₁₁ l₁₂ l₁₃ l₁₄ l₁₅ l₁₆ ks c ws).serial, tt),
                   ),
                 ),
               ),
@@ -781,22 +781,22 @@ module _ {M : Type 1} {𝓤 : Ura M} (𝓛 : Logic 𝓤) (at_mem : Memory → SP
         (lasts stores.ended (
           κ₀,
           (
-            lft-of ms.next,
-            (lft-of ms.prev, (lft-of ms.bucket, (lft-of ms.entry, (lft-of ms.generation, (lft-of ms.serial, tt))))),
+            lft_of ms.next,
+            (lft_of ms.prev, (lft_of ms.bucket, (lft_of ms.entry, (lft_of ms.generation, (lft_of ms.serial, tt))))),
           ),
         ) (
           ref γ,
           (
-            ref-to l₁₁ ms.next.name (after l₁₁ l₁₂ l₁₃ l₁₄ l₁₅ l₁₆ ks c ws).next,
+            ref_to l₁₁ ms.next.name (after l₁₁ l₁₂ l₁₃ l₁₄ l₁₅ l₁₆ ks c ws).next,
             (
-              ref-to l₁₂ ms.prev.name (after l₁₁ l₁₂ l₁₃ l₁₄ l₁₅ l₁₆ ks c ws).prev,
+              ref_to l₁₂ ms.prev.name (after l₁₁ l₁₂ l₁₃ l₁₄ l₁₅ l₁₆ ks c ws).prev,
               (
-                ref-to l₁₃ ms.bucket.name (after l₁₁ l₁₂ l₁₃ l₁₄ l₁₅ l₁₆ ks c ws).bucket,
+                ref_to l₁₃ ms.bucket.name (after l₁₁ l₁₂ l₁₃ l₁₄ l₁₅ l₁₆ ks c ws).bucket,
                 (
-                  ref-to l₁₄ ms.entry.name (after l₁₁ l₁₂ l₁₃ l₁₄ l₁₅ l₁₆ ks c ws).entry,
+                  ref_to l₁₄ ms.entry.name (after l₁₁ l₁₂ l₁₃ l₁₄ l₁₅ l₁₆ ks c ws).entry,
                   (
-                    ref-to l₁₅ ms.generation.name (after l₁₁ l₁₂ l₁₃ l₁₄ l₁₅ l₁₆ ks c ws).generation,
-                    (ref-to l₁₆ ms.serial.name (after l₁₁ l₁₂ l₁₃ l₁₄ l₁₅ l₁₆ ks c ws).serial, tt),
+                    ref_to l₁₅ ms.generation.name (after l₁₁ l₁₂ l₁₃ l₁₄ l₁₅ l₁₆ ks c ws).generation,
+                    (ref_to l₁₆ ms.serial.name (after l₁₁ l₁₂ l₁₃ l₁₄ l₁₅ l₁₆ ks c ws).serial, tt),
                   ),
                 ),
               ),
@@ -807,16 +807,16 @@ module _ {M : Type 1} {𝓤 : Ura M} (𝓛 : Logic 𝓤) (at_mem : Memory → SP
         move ! (1 ∷ []) $ heard ! (Stores ys (after l₁₁ l₁₂ l₁₃ l₁₄ l₁₅ l₁₆ ks c ws) zs.0) (λ stored. fsplit ! $ move ! (1 ∷ []) $ drop ! $
         move ! (1 ∷ []) $ split ! $ move ! (1 ∷ []) $ peeks ! Nothing (Is Nothing) (shows 𝓛 Nothing) none' (y ∷ []) (λ isy. drop ! $ split ! $
         move ! (1 ∷ 3 ∷ []) $ use2 𝓛 (later (‵ (Rows 4168 l₁₁ l₁₂ l₁₃ l₁₄ l₁₅ l₁₆ (after l₁₁ l₁₂ l₁₃ l₁₄ l₁₅ l₁₆ ks c ws)) ⊛ (‵ ftrue)))
-        (six-unshared 𝓛 4168 l₁₁ l₁₂ l₁₃ l₁₄ l₁₅ l₁₆ fits_8 fits-4 (after l₁₁ l₁₂ l₁₃ l₁₄ l₁₅ l₁₆ ks c ws) full' (‵ ftrue) ftrue ms) $ await ! tt $
+        (six_unshared 𝓛 4168 l₁₁ l₁₂ l₁₃ l₁₄ l₁₅ l₁₆ fits_8 fits_4 (after l₁₁ l₁₂ l₁₃ l₁₄ l₁₅ l₁₆ ks c ws) full' (‵ ftrue) ftrue ms) $ await ! tt $
         split ! $
         forget ! 101 refl $
         land ! (from ! (stop !)) (init ! 101 refl ((Nothing-Lawful 𝓛).typed none' _ isy).0) $
         assigns ! (of_opd ! (load ! (from ! (fld ! refl (stop !))) (look_in ! 103 (sub ! 1 refl (whole !))))) (from ! (stop !))
-        (init ! 131 refl ((EL.lawful E.the_type E'.the_laws 𝓛 tt).typed u.answer _ (is-answer u is)).0) $
+        (init ! 131 refl ((EL.lawful E.the_type E'.the_laws 𝓛 tt).typed u.answer _ (is_answer u is)).0) $
         returns ! (look ! 131 refl) $
         use1 𝓛 (‵ (froom (ty_array (ty_int w64) 4168) l₁₁ 0) ⊛ ‵ (froom (ty_array (ty_int w64) 4168) l₁₂ 0) ⊛ ‵ (froom (ty_array (ty_int w64) 4168) l₁₃ 0) ⊛ ‵
         (froom (ty_array (ty_int w64) 4168) l₁₄ 0) ⊛ ‵ (froom (ty_array (ty_int w32) 4168) l₁₅ 0) ⊛ ‵ (froom (ty_array (ty_int w64) 4168) l₁₆ 0))
-        (six-rooms 𝓛 4168 l₁₁ l₁₂ l₁₃ l₁₄ l₁₅ l₁₆ (after l₁₁ l₁₂ l₁₃ l₁₄ l₁₅ l₁₆ ks c ws) full') $ split ! $ move ! (1 ∷ []) $ split ! $ move !
+        (six_rooms 𝓛 4168 l₁₁ l₁₂ l₁₃ l₁₄ l₁₅ l₁₆ (after l₁₁ l₁₂ l₁₃ l₁₄ l₁₅ l₁₆ ks c ws) full') $ split ! $ move ! (1 ∷ []) $ split ! $ move !
         (1 ∷ []) $ split ! $ move ! (1 ∷ []) $ split ! $ move ! (1 ∷ []) $ split ! $
         forget ! 136 refl $ forget ! 134 refl $ forget ! 132 refl $ forget ! 130 refl $ forget ! 128 refl $ forget ! 126 refl $ forget ! 124 refl $ forget !
         122 refl $ forget ! 120 refl $ forget ! 118 refl $ forget ! 116 refl $ forget ! 108 refl $ forget ! 106 refl $ forget ! 104 refl $ forget ! 102
@@ -845,15 +845,15 @@ module _ {M : Type 1} {𝓤 : Ura M} (𝓛 : Logic 𝓤) (at_mem : Memory → SP
         (8 ∷ 9 ∷ []) $ free1 ! $ free0 ! $
         keep ! (2 ∷ 3 ∷ 4 ∷ 6 ∷ 1 ∷ 5 ∷ 7 ∷ []) $
         by ! (exits l₁₁ l₁₂ l₁₃ l₁₄ l₁₅ l₁₆ ks c loaded ws u works-for zs.0 stored
-        (is-answer u is)))))))))))))))))))))))))))))))))))))))))))))))))))))))))))))))))))))))))))))))))))))))))))))
+        (is_answer u is)))))))))))))))))))))))))))))))))))))))))))))))))))))))))))))))))))))))))))))))))))))))))))))
 
 module _ {M : Type 1} {𝓤 : Ura M} (𝓛 : Logic 𝓤) (at_mem : Memory → SProp 𝓤) (run : Routine → Fun 𝓤) where
   open 𝓛 use {H}
 
-  thin-walks : (C : Calls 𝓤 H) (Λ : Loops 𝓤 H) → FmC 𝓤 H 𝓛.laws C → Triple 𝓤 (C #load) (Load 𝓛 at_mem run) → Triple 𝓤 (C #work) (Work 𝓛 at_mem run)
+  thin_walks : (C : Calls 𝓤 H) (Λ : Loops 𝓤 H) → FmC 𝓤 H 𝓛.laws C → Triple 𝓤 (C #load) (Load 𝓛 at_mem run) → Triple 𝓤 (C #work) (Work 𝓛 at_mem run)
       → Triple 𝓤 (C #store) (Store 𝓛 at_mem run)
       → Walks 𝓛 thin.ended stayed (WpFn 𝓤 H C Λ code.function) (thin.clauses 𝓛 at_mem run)
-  thin-walks C Λ fm known-load known-work known_store = walked 𝓛 thin.ended stayed (thin.clauses 𝓛 at_mem run) (WpFn 𝓤 H C Λ code.function)
+  thin_walks C Λ fm known-load known-work known_store = walked 𝓛 thin.ended stayed (thin.clauses 𝓛 at_mem run) (WpFn 𝓤 H C Λ code.function)
       (λ κs. (
         shr_slice_vals,
         (
@@ -895,10 +895,10 @@ module _ {M : Type 1} {𝓤 : Ura M} (𝓛 : Logic 𝓤) (at_mem : Memory → SP
       are.0.0.1 are.1.1.0.0.1 are.1.1.1.0.0.1 are.1.1.1.1.0.0.1 are.1.1.1.1.1.0.0.1 are.1.1.1.1.1.1.0.0.1
       are.1.1.1.1.1.1.1.0.1 are.1.1.1.1.1.1.1.1.0.1 are.1.1.1.1.1.1.1.1.1.0.1 C Λ fm known-load known-work known_store))
 
-thin-meets : {M : Type 1} {𝓤 : Ura M} (𝓛 : Logic 𝓤) → (at_mem : Memory → SProp 𝓤) (run : Routine → Fun 𝓤) (𝓣 : Tables 𝓤 𝓛.H) → Triple
+thin_meets : {M : Type 1} {𝓤 : Ura M} (𝓛 : Logic 𝓤) → (at_mem : Memory → SProp 𝓤) (run : Routine → Fun 𝓤) (𝓣 : Tables 𝓤 𝓛.H) → Triple
     𝓤 (𝓣.C #load) (Load 𝓛 at_mem run) → Triple 𝓤 (𝓣.C #work) (Work 𝓛 at_mem run) → Triple 𝓤 (𝓣.C #store) (Store 𝓛 at_mem run)
     → Meets 𝓛 thin.signature (WpFn 𝓤 𝓛.H 𝓣.C 𝓣.Λ code.function) (thin.spec 𝓛 at_mem run)
-thin-meets {𝓤 = 𝓤} 𝓛 at_mem run 𝓣 known-load known-work known_store =
+thin_meets {𝓤 = 𝓤} 𝓛 at_mem run 𝓣 known-load known-work known_store =
     walk_Meets 𝓛 thin.ended stayed (
       λ κs y f vs fits. 𝓛.laws.⇛_intro _,
       (
@@ -925,14 +925,14 @@ thin-meets {𝓤 = 𝓤} 𝓛 at_mem run 𝓣 known-load known-work known_store 
       ),
     ) (thin.clauses 𝓛 at_mem run)
     (WpFn 𝓤 𝓛.H 𝓣.C 𝓣.Λ code.function) (WpFn-mono 𝓤 𝓛.H 𝓛.laws 𝓣 code.function)
-    (thin-walks 𝓛 at_mem run 𝓣.C 𝓣.Λ (fm_of 𝓤 𝓛.H 𝓛.laws 𝓣) known-load known-work known_store)
+    (thin_walks 𝓛 at_mem run 𝓣.C 𝓣.Λ (fm_of 𝓤 𝓛.H 𝓛.laws 𝓣) known-load known-work known_store)
 
-pub reschedule-spec : {M : Type 1} → stated.statement M
+pub reschedule_spec : {M : Type 1} → stated.statement M
 unfolding code.routine tables_of
-reschedule-spec 𝓤 𝓛 𝓜 𝓡 =
+reschedule_spec 𝓤 𝓛 𝓜 𝓡 =
     entered 𝓤 𝓛.H (triple_of 𝓛 thin.signature (thin.spec 𝓛 𝓜.mem 𝓡.run))
     (tables 𝓤 𝓛.H 𝓜 𝓡 code.env).C (tables 𝓤 𝓛.H 𝓜 𝓡 code.env).Λ #thin code.function (code.unfolded 𝓤 𝓛.H 𝓜 𝓡)
-    (thin-meets 𝓛 𝓜.mem 𝓡.run (tables_of 𝓤 𝓛.H 𝓜 (tables 𝓤 𝓛.H 𝓜 𝓡 code.env))
+    (thin_meets 𝓛 𝓜.mem 𝓡.run (tables_of 𝓤 𝓛.H 𝓜 (tables 𝓤 𝓛.H 𝓜 𝓡 code.env))
     (cited 𝓤 𝓛.H (Load 𝓛 𝓜.mem 𝓡.run) 𝓜 𝓡 code.env #load load-def.routine code.calls-nodes::load (load-thm.met 𝓤 𝓛 𝓜 𝓡))
     (cited 𝓤 𝓛.H (Work 𝓛 𝓜.mem 𝓡.run) 𝓜 𝓡 code.env #work work-def.routine code.calls-face-works::timers::reschedule-work (work-thm.met 𝓤 𝓛 𝓜 𝓡))
     (cited 𝓤 𝓛.H (Store 𝓛 𝓜.mem 𝓡.run) 𝓜 𝓡 code.env #store store-def.routine code.calls-nodes::store (store-thm.met 𝓤 𝓛 𝓜 𝓡)))

@@ -4,11 +4,11 @@ use borrow.Author.Rules.{rules}
 use Rattle.face_works.proofs.answers.scheduled.Statement.{statement}
 use Rattle.face_works.proofs.answers.scheduled.Tie as tie
 
-enum-known-r : tie.Need-enum-known-r
-enum-known-r c = search rules
+enum_known_r : tie.Need-enum-known-r
+enum_known_r c = search rules
 
-enum-known-r-2 : tie.Need-enum-known-r-2
-enum-known-r-2 c = search rules
+enum_known_r_2 : tie.Need-enum-known-r-2
+enum_known_r_2 c = search rules
 
 returns : tie.Need-returns
 returns c = search turns-scheduled
@@ -16,5 +16,5 @@ returns c = search turns-scheduled
 returns-2 : tie.Need-returns-2
 returns-2 c = search turns-scheduled
 
-pub scheduled-spec : {M : Type 1} → statement M
-scheduled-spec = tie.close (tie.spec enum-known-r enum-known-r-2 returns returns-2)
+pub scheduled_spec : {M : Type 1} → statement M
+scheduled_spec = tie.close (tie.spec enum_known_r enum_known_r_2 returns returns-2)

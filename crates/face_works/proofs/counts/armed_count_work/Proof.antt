@@ -1,64 +1,64 @@
 -- `armed_count_work` meets its promise.
 use mathlib.Core.Path.{refl}
 use Rattle.face_rules.proofs.Loading.{front_length}
-use Rattle.face_rules.proofs.Facing.{loaded-crowded, loaded-done}
+use Rattle.face_rules.proofs.Facing.{loaded_crowded, loaded_done}
 use borrow.Author.Rules.{rules}
 use Rattle.face_works.proofs.counts.armed_count_work.Statement.{statement}
 use Rattle.face_works.proofs.counts.armed_count_work.Tie as tie
 
-crowded-requires : tie.Need-crowded-requires
-crowded-requires c κs = search rules
+crowded_requires : tie.Need-crowded-requires
+crowded_requires c κs = search rules
 
 returns : tie.Need-returns
-returns c = loaded-crowded tt c.before.if1.true c.crowded.ensures
+returns c = loaded_crowded tt c.before.if1.true c.crowded.ensures
 
-slice-aggregate-armed-count : tie.Need-slice-aggregate-armed-count
-slice-aggregate-armed-count c =
+slice_aggregate_armed_count : tie.Need-slice-aggregate-armed-count
+slice_aggregate_armed_count c =
     let x = c.before in
-    front_length _ x.if1.false _ x.before.before.before.before.before.before.before.before.before.before.before.before.requires.next-has
+    front_length _ x.if1.false _ x.before.before.before.before.before.before.before.before.before.before.before.before.requires.next_has
 
-slice-aggregate-armed-count-2 : tie.Need-slice-aggregate-armed-count-2
-slice-aggregate-armed-count-2 c =
+slice_aggregate_armed_count_2 : tie.Need-slice-aggregate-armed-count-2
+slice_aggregate_armed_count_2 c =
     let x = c.before.before in
-    front_length _ x.if1.false _ x.before.before.before.before.before.before.before.before.before.before.before.before.requires.prev-has
+    front_length _ x.if1.false _ x.before.before.before.before.before.before.before.before.before.before.before.before.requires.prev_has
 
-slice-aggregate-armed-count-3 : tie.Need-slice-aggregate-armed-count-3
-slice-aggregate-armed-count-3 c =
+slice_aggregate_armed_count_3 : tie.Need-slice-aggregate-armed-count-3
+slice_aggregate_armed_count_3 c =
     let x = c.before.before.before in
-    front_length _ x.if1.false _ x.before.before.before.before.before.before.before.before.before.before.before.before.requires.bucket-has
+    front_length _ x.if1.false _ x.before.before.before.before.before.before.before.before.before.before.before.before.requires.bucket_has
 
-slice-aggregate-armed-count-4 : tie.Need-slice-aggregate-armed-count-4
-slice-aggregate-armed-count-4 c =
+slice_aggregate_armed_count_4 : tie.Need-slice-aggregate-armed-count-4
+slice_aggregate_armed_count_4 c =
     let x = c.before.before.before.before in
     front_length _ x.if1.false _ x.before.before.before.before.before.before.before.before.before.before.before.before.requires.entry_has
 
-slice-aggregate-armed-count-5 : tie.Need-slice-aggregate-armed-count-5
-slice-aggregate-armed-count-5 c =
+slice_aggregate_armed_count_5 : tie.Need-slice-aggregate-armed-count-5
+slice_aggregate_armed_count_5 c =
     let x = c.before.before.before.before.before in
-    front_length _ x.if1.false _ x.before.before.before.before.before.before.before.before.before.before.before.before.requires.generation-has
+    front_length _ x.if1.false _ x.before.before.before.before.before.before.before.before.before.before.before.before.requires.generation_has
 
-slice-aggregate-armed-count-6 : tie.Need-slice-aggregate-armed-count-6
-slice-aggregate-armed-count-6 c =
+slice_aggregate_armed_count_6 : tie.Need-slice-aggregate-armed-count-6
+slice_aggregate_armed_count_6 c =
     let x = c.before.before.before.before.before.before in
-    front_length _ x.if1.false _ x.before.before.before.before.before.before.before.before.before.before.before.before.requires.serial-has
+    front_length _ x.if1.false _ x.before.before.before.before.before.before.before.before.before.before.before.before.requires.serial_has
 
-armed-count-requires : tie.Need-armed-count-requires
-armed-count-requires c κs = search rules
+armed_count_requires : tie.Need-armed-count-requires
+armed_count_requires c κs = search rules
 
 returns-2 : tie.Need-returns-2
-returns-2 c = loaded-done c.before.before.before.before.before.before.before.if1.false c.armed-count.ensures refl refl
+returns-2 c = loaded_done c.before.before.before.before.before.before.before.if1.false c.armed_count_lem.ensures refl refl
 
-pub armed-count-work-spec : {M : Type 1} → statement M
-armed-count-work-spec =
+pub armed_count_work_spec : {M : Type 1} → statement M
+armed_count_work_spec =
     tie.close
     (tie.spec
-    crowded-requires
+    crowded_requires
     returns
-    slice-aggregate-armed-count
-    slice-aggregate-armed-count-2
-    slice-aggregate-armed-count-3
-    slice-aggregate-armed-count-4
-    slice-aggregate-armed-count-5
-    slice-aggregate-armed-count-6
-    armed-count-requires
+    slice_aggregate_armed_count
+    slice_aggregate_armed_count_2
+    slice_aggregate_armed_count_3
+    slice_aggregate_armed_count_4
+    slice_aggregate_armed_count_5
+    slice_aggregate_armed_count_6
+    armed_count_requires
     returns-2)

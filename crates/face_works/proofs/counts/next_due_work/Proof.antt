@@ -1,64 +1,64 @@
 -- `next_due_work` meets its promise.
 use mathlib.Core.Path.{refl}
 use Rattle.face_rules.proofs.Loading.{front_length}
-use Rattle.face_rules.proofs.Facing.{loaded-crowded, loaded-done}
+use Rattle.face_rules.proofs.Facing.{loaded_crowded, loaded_done}
 use borrow.Author.Rules.{rules}
 use Rattle.face_works.proofs.counts.next_due_work.Statement.{statement}
 use Rattle.face_works.proofs.counts.next_due_work.Tie as tie
 
-crowded-requires : tie.Need-crowded-requires
-crowded-requires c κs = search rules
+crowded_requires : tie.Need-crowded-requires
+crowded_requires c κs = search rules
 
 returns : tie.Need-returns
-returns c = loaded-crowded tt c.before.if1.true c.crowded.ensures
+returns c = loaded_crowded tt c.before.if1.true c.crowded.ensures
 
-slice-aggregate-next-due : tie.Need-slice-aggregate-next-due
-slice-aggregate-next-due c =
+slice_aggregate_next_due : tie.Need-slice-aggregate-next-due
+slice_aggregate_next_due c =
     let x = c.before in
-    front_length _ x.if1.false _ x.before.before.before.before.before.before.before.before.before.before.before.before.requires.next-has
+    front_length _ x.if1.false _ x.before.before.before.before.before.before.before.before.before.before.before.before.requires.next_has
 
-slice-aggregate-next-due-2 : tie.Need-slice-aggregate-next-due-2
-slice-aggregate-next-due-2 c =
+slice_aggregate_next_due_2 : tie.Need-slice-aggregate-next-due-2
+slice_aggregate_next_due_2 c =
     let x = c.before.before in
-    front_length _ x.if1.false _ x.before.before.before.before.before.before.before.before.before.before.before.before.requires.prev-has
+    front_length _ x.if1.false _ x.before.before.before.before.before.before.before.before.before.before.before.before.requires.prev_has
 
-slice-aggregate-next-due-3 : tie.Need-slice-aggregate-next-due-3
-slice-aggregate-next-due-3 c =
+slice_aggregate_next_due_3 : tie.Need-slice-aggregate-next-due-3
+slice_aggregate_next_due_3 c =
     let x = c.before.before.before in
-    front_length _ x.if1.false _ x.before.before.before.before.before.before.before.before.before.before.before.before.requires.bucket-has
+    front_length _ x.if1.false _ x.before.before.before.before.before.before.before.before.before.before.before.before.requires.bucket_has
 
-slice-aggregate-next-due-4 : tie.Need-slice-aggregate-next-due-4
-slice-aggregate-next-due-4 c =
+slice_aggregate_next_due_4 : tie.Need-slice-aggregate-next-due-4
+slice_aggregate_next_due_4 c =
     let x = c.before.before.before.before in
     front_length _ x.if1.false _ x.before.before.before.before.before.before.before.before.before.before.before.before.requires.entry_has
 
-slice-aggregate-next-due-5 : tie.Need-slice-aggregate-next-due-5
-slice-aggregate-next-due-5 c =
+slice_aggregate_next_due_5 : tie.Need-slice-aggregate-next-due-5
+slice_aggregate_next_due_5 c =
     let x = c.before.before.before.before.before in
-    front_length _ x.if1.false _ x.before.before.before.before.before.before.before.before.before.before.before.before.requires.generation-has
+    front_length _ x.if1.false _ x.before.before.before.before.before.before.before.before.before.before.before.before.requires.generation_has
 
-slice-aggregate-next-due-6 : tie.Need-slice-aggregate-next-due-6
-slice-aggregate-next-due-6 c =
+slice_aggregate_next_due_6 : tie.Need-slice-aggregate-next-due-6
+slice_aggregate_next_due_6 c =
     let x = c.before.before.before.before.before.before in
-    front_length _ x.if1.false _ x.before.before.before.before.before.before.before.before.before.before.before.before.requires.serial-has
+    front_length _ x.if1.false _ x.before.before.before.before.before.before.before.before.before.before.before.before.requires.serial_has
 
-next-due-requires : tie.Need-next-due-requires
-next-due-requires c κs = search rules
+next_due_requires : tie.Need-next-due-requires
+next_due_requires c κs = search rules
 
 returns-2 : tie.Need-returns-2
-returns-2 c = loaded-done c.before.before.before.before.before.before.before.if1.false c.next-due.ensures refl refl
+returns-2 c = loaded_done c.before.before.before.before.before.before.before.if1.false c.next_due_lem.ensures refl refl
 
-pub next-due-work-spec : {M : Type 1} → statement M
-next-due-work-spec =
+pub next_due_work_spec : {M : Type 1} → statement M
+next_due_work_spec =
     tie.close
     (tie.spec
-    crowded-requires
+    crowded_requires
     returns
-    slice-aggregate-next-due
-    slice-aggregate-next-due-2
-    slice-aggregate-next-due-3
-    slice-aggregate-next-due-4
-    slice-aggregate-next-due-5
-    slice-aggregate-next-due-6
-    next-due-requires
+    slice_aggregate_next_due
+    slice_aggregate_next_due_2
+    slice_aggregate_next_due_3
+    slice_aggregate_next_due_4
+    slice_aggregate_next_due_5
+    slice_aggregate_next_due_6
+    next_due_requires
     returns-2)

@@ -1,139 +1,139 @@
 -- `pull_work` meets its promise.
 use Rattle.face_rules.specs.nodes.Columns.{columns}
-use Rattle.face_rules.proofs.Loading.{front_length, over-front}
-use Rattle.face_rules.proofs.Facing.{stored-crowded, stored-done}
+use Rattle.face_rules.proofs.Loading.{front_length, over_front}
+use Rattle.face_rules.proofs.Facing.{stored_crowded, stored_done}
 use borrow.Author.Rules.{rules}
 use Rattle.face_works.proofs.pulling.pull_work.Statement.{statement}
 use Rattle.face_works.proofs.pulling.pull_work.Tie as tie
 
-crowded-requires : tie.Need-crowded-requires
-crowded-requires c κs = search rules
+crowded_requires : tie.Need-crowded-requires
+crowded_requires c κs = search rules
 
 returns : tie.Need-returns
-returns c = stored-crowded tt c.before.if1.true c.crowded.ensures
+returns c = stored_crowded tt c.before.if1.true c.crowded.ensures
 
-slice-relend-prefix-pull : tie.Need-slice-relend-prefix-pull
-slice-relend-prefix-pull c = search rules
+slice_relend_prefix_pull : tie.Need-slice-relend-prefix-pull
+slice_relend_prefix_pull c = search rules
 
-slice-aggregate-pull : tie.Need-slice-aggregate-pull
-slice-aggregate-pull c =
+slice_aggregate_pull : tie.Need-slice-aggregate-pull
+slice_aggregate_pull c =
     let x = c.before.before.before in
-    front_length _ x.if1.false _ x.before.before.before.before.before.before.before.before.before.before.before.before.requires.next-has
+    front_length _ x.if1.false _ x.before.before.before.before.before.before.before.before.before.before.before.before.requires.next_has
 
-slice-relend-prefix-pull-2 : tie.Need-slice-relend-prefix-pull-2
-slice-relend-prefix-pull-2 c = search rules
+slice_relend_prefix_pull_2 : tie.Need-slice-relend-prefix-pull-2
+slice_relend_prefix_pull_2 c = search rules
 
-slice-aggregate-pull-2 : tie.Need-slice-aggregate-pull-2
-slice-aggregate-pull-2 c =
+slice_aggregate_pull_2 : tie.Need-slice-aggregate-pull-2
+slice_aggregate_pull_2 c =
     let x = c.before.before.before.before in
-    front_length _ x.if1.false _ x.before.before.before.before.before.before.before.before.before.before.before.before.requires.prev-has
+    front_length _ x.if1.false _ x.before.before.before.before.before.before.before.before.before.before.before.before.requires.prev_has
 
-slice-relend-prefix-pull-3 : tie.Need-slice-relend-prefix-pull-3
-slice-relend-prefix-pull-3 c = search rules
+slice_relend_prefix_pull_3 : tie.Need-slice-relend-prefix-pull-3
+slice_relend_prefix_pull_3 c = search rules
 
-slice-aggregate-pull-3 : tie.Need-slice-aggregate-pull-3
-slice-aggregate-pull-3 c =
+slice_aggregate_pull_3 : tie.Need-slice-aggregate-pull-3
+slice_aggregate_pull_3 c =
     let x = c.before.before.before.before.before in
-    front_length _ x.if1.false _ x.before.before.before.before.before.before.before.before.before.before.before.before.requires.bucket-has
+    front_length _ x.if1.false _ x.before.before.before.before.before.before.before.before.before.before.before.before.requires.bucket_has
 
-slice-relend-prefix-pull-4 : tie.Need-slice-relend-prefix-pull-4
-slice-relend-prefix-pull-4 c = search rules
+slice_relend_prefix_pull_4 : tie.Need-slice-relend-prefix-pull-4
+slice_relend_prefix_pull_4 c = search rules
 
-slice-aggregate-pull-4 : tie.Need-slice-aggregate-pull-4
-slice-aggregate-pull-4 c =
+slice_aggregate_pull_4 : tie.Need-slice-aggregate-pull-4
+slice_aggregate_pull_4 c =
     let x = c.before.before.before.before.before.before in
     front_length _ x.if1.false _ x.before.before.before.before.before.before.before.before.before.before.before.before.requires.entry_has
 
-slice-relend-prefix-pull-5 : tie.Need-slice-relend-prefix-pull-5
-slice-relend-prefix-pull-5 c = search rules
+slice_relend_prefix_pull_5 : tie.Need-slice-relend-prefix-pull-5
+slice_relend_prefix_pull_5 c = search rules
 
-slice-aggregate-pull-5 : tie.Need-slice-aggregate-pull-5
-slice-aggregate-pull-5 c =
+slice_aggregate_pull_5 : tie.Need-slice-aggregate-pull-5
+slice_aggregate_pull_5 c =
     let x = c.before.before.before.before.before.before.before in
-    front_length _ x.if1.false _ x.before.before.before.before.before.before.before.before.before.before.before.before.requires.generation-has
+    front_length _ x.if1.false _ x.before.before.before.before.before.before.before.before.before.before.before.before.requires.generation_has
 
-slice-relend-prefix-pull-6 : tie.Need-slice-relend-prefix-pull-6
-slice-relend-prefix-pull-6 c = search rules
+slice_relend_prefix_pull_6 : tie.Need-slice-relend-prefix-pull-6
+slice_relend_prefix_pull_6 c = search rules
 
-slice-aggregate-pull-6 : tie.Need-slice-aggregate-pull-6
-slice-aggregate-pull-6 c =
+slice_aggregate_pull_6 : tie.Need-slice-aggregate-pull-6
+slice_aggregate_pull_6 c =
     let x = c.before.before.before.before.before.before.before.before in
-    front_length _ x.if1.false _ x.before.before.before.before.before.before.before.before.before.before.before.before.requires.serial-has
+    front_length _ x.if1.false _ x.before.before.before.before.before.before.before.before.before.before.before.before.requires.serial_has
 
-pull-requires : tie.Need-pull-requires
-pull-requires c κs = search rules
+pull_requires : tie.Need-pull-requires
+pull_requires c κs = search rules
 
-pulled-requires : tie.Need-pulled-requires
-pulled-requires c κs = search rules
+pulled_requires : tie.Need-pulled-requires
+pulled_requires c κs = search rules
 
 same_length : tie.Need-same-length
 same_length c = search rules
 
-same-length-2 : tie.Need-same-length-2
-same-length-2 c = search rules
+same_length_2 : tie.Need-same-length-2
+same_length_2 c = search rules
 
-same-length-3 : tie.Need-same-length-3
-same-length-3 c = search rules
+same_length_3 : tie.Need-same-length-3
+same_length_3 c = search rules
 
-same-length-4 : tie.Need-same-length-4
-same-length-4 c = search rules
+same_length_4 : tie.Need-same-length-4
+same_length_4 c = search rules
 
-same-length-5 : tie.Need-same-length-5
-same-length-5 c = search rules
+same_length_5 : tie.Need-same-length-5
+same_length_5 c = search rules
 
-same-length-6 : tie.Need-same-length-6
-same-length-6 c = search rules
+same_length_6 : tie.Need-same-length-6
+same_length_6 c = search rules
 
-same-length-7 : tie.Need-same-length-7
-same-length-7 c = search rules
+same_length_7 : tie.Need-same-length-7
+same_length_7 c = search rules
 
-same-length-8 : tie.Need-same-length-8
-same-length-8 c = search rules
+same_length_8 : tie.Need-same-length-8
+same_length_8 c = search rules
 
 returns-2 : tie.Need-returns-2
 returns-2 c =
     let y = c.before.before.before.before.before.before.before.before.before.before.before.before.before.before.before.before.before in
     let x = y.before.before.before.before.before.before.before.before.before in
     let l = y.pull.new.1.1 in
-    stored-done x.if1.false
-    (over-front _ x.if1.false (columns l.0 l.1.0 l.1.1.0 l.1.1.1.0 l.1.1.1.1.0 l.1.1.1.1.1.0) _
+    stored_done x.if1.false
+    (over_front _ x.if1.false (columns l.0 l.1.0 l.1.1.0 l.1.1.1.0 l.1.1.1.1.0 l.1.1.1.1.1.0) _
     x.before.before.before.before.before.before.before.before.before.before.before.before.requires
     (record {
-      next-same = c.before.before.before.before.before.before.before.before.before.before.before.before.next.given.0;
-      prev-same = c.before.before.before.before.before.before.before.before.before.before.prev.given.0;
-      bucket-same = c.before.before.before.before.before.before.before.before.bucket.given.0;
-      entry-same = c.before.before.before.before.before.before.entry.given.0;
-      generation-same = c.before.before.before.before.generation.given.0;
-      serial-same = c.before.before.serial.given.0;
+      next_same = c.before.before.before.before.before.before.before.before.before.before.before.before.next.given.0;
+      prev_same = c.before.before.before.before.before.before.before.before.before.before.prev.given.0;
+      bucket_same = c.before.before.before.before.before.before.before.before.bucket.given.0;
+      entry_same = c.before.before.before.before.before.before.entry.given.0;
+      generation_same = c.before.before.before.before.generation.given.0;
+      serial_same = c.before.before.serial.given.0;
     }))
-    y.pull.ensures c.pulled.ensures.says c.pulled.ensures.clock-is
+    y.pull.ensures c.pulled.ensures.says c.pulled.ensures.clock_is
 
-pub pull-work-spec : {M : Type 1} → statement M
-pull-work-spec =
+pub pull_work_spec : {M : Type 1} → statement M
+pull_work_spec =
     tie.close
     (tie.spec
-    crowded-requires
+    crowded_requires
     returns
-    slice-relend-prefix-pull
-    slice-aggregate-pull
-    slice-relend-prefix-pull-2
-    slice-aggregate-pull-2
-    slice-relend-prefix-pull-3
-    slice-aggregate-pull-3
-    slice-relend-prefix-pull-4
-    slice-aggregate-pull-4
-    slice-relend-prefix-pull-5
-    slice-aggregate-pull-5
-    slice-relend-prefix-pull-6
-    slice-aggregate-pull-6
-    pull-requires
-    pulled-requires
+    slice_relend_prefix_pull
+    slice_aggregate_pull
+    slice_relend_prefix_pull_2
+    slice_aggregate_pull_2
+    slice_relend_prefix_pull_3
+    slice_aggregate_pull_3
+    slice_relend_prefix_pull_4
+    slice_aggregate_pull_4
+    slice_relend_prefix_pull_5
+    slice_aggregate_pull_5
+    slice_relend_prefix_pull_6
+    slice_aggregate_pull_6
+    pull_requires
+    pulled_requires
     same_length
-    same-length-2
-    same-length-3
-    same-length-4
-    same-length-5
-    same-length-6
-    same-length-7
-    same-length-8
+    same_length_2
+    same_length_3
+    same_length_4
+    same_length_5
+    same_length_6
+    same_length_7
+    same_length_8
     returns-2)

@@ -7,17 +7,17 @@ use borrow.Author.Rules.{rules}
 use Rattle.lines.proofs.answers.append_decimal.Statement.{statement}
 use Rattle.lines.proofs.answers.append_decimal.Tie as tie
 
-decimal-requires : tie.Need-decimal-requires
-decimal-requires c κs = search rules
+decimal_requires : tie.Need-decimal-requires
+decimal_requires c κs = search rules
 
-array-share-prefix-text : tie.Need-array-share-prefix-text
-array-share-prefix-text c = search rules
+array_share_prefix_text : tie.Need-array-share-prefix-text
+array_share_prefix_text c = search rules
 
-slice-aggregate-append : tie.Need-slice-aggregate-append
-slice-aggregate-append c = search rules
+slice_aggregate_append : tie.Need-slice-aggregate-append
+slice_aggregate_append c = search rules
 
-append-requires : tie.Need-append-requires
-append-requires c κs = search rules
+append_requires : tie.Need-append-requires
+append_requires c κs = search rules
 
 returns : tie.Need-returns
 returns c =
@@ -31,12 +31,12 @@ returns c =
       within = p.ensures.within;
     }
 
-pub append-decimal-spec : {M : Type 1} → statement M
-append-decimal-spec =
+pub append_decimal_spec : {M : Type 1} → statement M
+append_decimal_spec =
     tie.close
     (tie.spec
-    decimal-requires
-    array-share-prefix-text
-    slice-aggregate-append
-    append-requires
+    decimal_requires
+    array_share_prefix_text
+    slice_aggregate_append
+    append_requires
     returns)

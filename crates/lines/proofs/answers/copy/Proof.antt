@@ -19,17 +19,17 @@ decreases-loop out₀ start text i₀ out i = length text - i
 loop-holds : tie.Need-loop-init invariant-loop decreases-loop
 loop-holds c = (omega arith, paste-zero c.args.out.now c.args.start c.args.text.now, refl)
 
-shared-slice-read-out : tie.Need-shared-slice-read-out invariant-loop decreases-loop
-shared-slice-read-out c = search rules
+shared_slice_read_out : tie.Need-shared-slice-read-out invariant-loop decreases-loop
+shared_slice_read_out c = search rules
 
-add-out : tie.Need-overflow-add-out invariant-loop decreases-loop
-add-out c = search rules
+add_out : tie.Need-overflow-add-out invariant-loop decreases-loop
+add_out c = search rules
 
-slice-write-out : tie.Need-slice-write-out invariant-loop decreases-loop
-slice-write-out c = search rules
+slice_write_out : tie.Need-slice-write-out invariant-loop decreases-loop
+slice_write_out c = search rules
 
-add-i : tie.Need-overflow-add-i invariant-loop decreases-loop
-add-i c = search rules
+add_i : tie.Need-overflow-add-i invariant-loop decreases-loop
+add_i c = search rules
 
 loop-less : tie.Need-loop-smaller invariant-loop decreases-loop
 loop-less c = search rules
@@ -60,10 +60,10 @@ copy_spec =
     invariant-loop
     decreases-loop
     loop-holds
-    shared-slice-read-out
-    add-out
-    slice-write-out
-    add-i
+    shared_slice_read_out
+    add_out
+    slice_write_out
+    add_i
     loop-less
     loop-again
     same_length

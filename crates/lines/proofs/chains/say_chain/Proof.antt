@@ -9,23 +9,23 @@ invariant-loop out₀ at word head next waiting₀ x₀ left₀ t9 out waiting x
 abbrev decreases-loop : tie.decreases-loop
 decreases-loop out₀ at word head next waiting₀ x₀ left₀ t9 out waiting x left = left
 
-append-requires : tie.Need-append-requires invariant-loop decreases-loop
-append-requires c κs = search rules
+append_requires : tie.Need-append-requires invariant-loop decreases-loop
+append_requires c κs = search rules
 
 loop-holds : tie.Need-loop-init invariant-loop decreases-loop
 loop-holds c = search rules
 
-sub-left : tie.Need-overflow-sub-left invariant-loop decreases-loop
-sub-left c = search rules
+sub_left : tie.Need-overflow-sub-left invariant-loop decreases-loop
+sub_left c = search rules
 
-append-field-requires : tie.Need-append-field-requires invariant-loop decreases-loop
-append-field-requires c κs = search rules
+append_field_requires : tie.Need-append-field-requires invariant-loop decreases-loop
+append_field_requires c κs = search rules
 
-mul-x : tie.Need-overflow-mul-x invariant-loop decreases-loop
-mul-x c = search rules
+mul_x : tie.Need-overflow-mul-x invariant-loop decreases-loop
+mul_x c = search rules
 
-shared-slice-read-x : tie.Need-shared-slice-read-x invariant-loop decreases-loop
-shared-slice-read-x c = search rules
+shared_slice_read_x : tie.Need-shared-slice-read-x invariant-loop decreases-loop
+shared_slice_read_x c = search rules
 
 loop-less : tie.Need-loop-smaller invariant-loop decreases-loop
 loop-less c = search rules
@@ -39,31 +39,31 @@ loop-less-2 c = search rules
 loop-again-2 : tie.Need-loop-preserved-2 invariant-loop decreases-loop
 loop-again-2 c = search rules
 
-slice-aggregate-append : tie.Need-slice-aggregate-append invariant-loop decreases-loop
-slice-aggregate-append c = search rules
+slice_aggregate_append : tie.Need-slice-aggregate-append invariant-loop decreases-loop
+slice_aggregate_append c = search rules
 
-append-requires-2 : tie.Need-append-requires-2 invariant-loop decreases-loop
-append-requires-2 c κs = search rules
+append_requires_2 : tie.Need-append-requires-2 invariant-loop decreases-loop
+append_requires_2 c κs = search rules
 
 returns : tie.Need-returns invariant-loop decreases-loop
 returns c = search rules
 
-pub say-chain-spec : {M : Type 1} → statement M
-say-chain-spec =
+pub say_chain_spec : {M : Type 1} → statement M
+say_chain_spec =
     tie.close
     (tie.spec
     invariant-loop
     decreases-loop
-    append-requires
+    append_requires
     loop-holds
-    sub-left
-    append-field-requires
-    mul-x
-    shared-slice-read-x
+    sub_left
+    append_field_requires
+    mul_x
+    shared_slice_read_x
     loop-less
     loop-again
     loop-less-2
     loop-again-2
-    slice-aggregate-append
-    append-requires-2
+    slice_aggregate_append
+    append_requires_2
     returns)

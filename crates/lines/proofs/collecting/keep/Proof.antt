@@ -8,11 +8,11 @@ use borrow.Author.Rules.{rules}
 use Rattle.lines.proofs.collecting.keep.Statement.{statement}
 use Rattle.lines.proofs.collecting.keep.Tie as tie
 
-slice-write-line : tie.Need-slice-write-line
-slice-write-line c = search rules
+slice_write_line : tie.Need-slice-write-line
+slice_write_line c = search rules
 
-add-result : tie.Need-overflow-add-result
-add-result c = search rules
+add_result : tie.Need-overflow-add-result
+add_result c = search rules
 
 same_length : tie.Need-same-length
 same_length c = search rules
@@ -36,4 +36,4 @@ returns-2 c =
     }
 
 pub keep_spec : {M : Type 1} → statement M
-keep_spec = tie.close (tie.spec slice-write-line add-result same_length returns returns-2)
+keep_spec = tie.close (tie.spec slice_write_line add_result same_length returns returns-2)

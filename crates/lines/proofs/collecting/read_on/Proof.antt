@@ -17,11 +17,11 @@ decreases-loop block₀ line₀ held s₀ turns₀ block line s turns = turns
 loop-holds : tie.Need-loop-init invariant-loop decreases-loop
 loop-holds c = search rules
 
-read-more-requires : tie.Need-read-more-requires invariant-loop decreases-loop
-read-more-requires c κs = search rules
+read_more_requires : tie.Need-read-more-requires invariant-loop decreases-loop
+read_more_requires c κs = search rules
 
-turns-left-requires : tie.Need-turns-left-requires invariant-loop decreases-loop
-turns-left-requires c κs = search rules
+turns_left_requires : tie.Need-turns-left-requires invariant-loop decreases-loop
+turns_left_requires c κs = search rules
 
 loop-less : tie.Need-loop-smaller invariant-loop decreases-loop
 loop-less c = c.turns-left.ensures.less (omega arith)
@@ -32,23 +32,23 @@ loop-again c = search rules
 same_length : tie.Need-same-length invariant-loop decreases-loop
 same_length c = search rules
 
-same-length-2 : tie.Need-same-length-2 invariant-loop decreases-loop
-same-length-2 c = search rules
+same_length_2 : tie.Need-same-length-2 invariant-loop decreases-loop
+same_length_2 c = search rules
 
 returns : tie.Need-returns invariant-loop decreases-loop
 returns c = search rules
 
-pub read-on-spec : {M : Type 1} → statement M
-read-on-spec =
+pub read_on_spec : {M : Type 1} → statement M
+read_on_spec =
     tie.close
     (tie.spec
     invariant-loop
     decreases-loop
     loop-holds
-    read-more-requires
-    turns-left-requires
+    read_more_requires
+    turns_left_requires
     loop-less
     loop-again
     same_length
-    same-length-2
+    same_length_2
     returns)

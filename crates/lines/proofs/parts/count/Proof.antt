@@ -5,7 +5,7 @@ use native.Mathlib.Omega.{arith}
 use Prim.Native.Nat.{◌+◌, ◌-◌, ◌≤◌}
 use mathlib.Core.Path.{◌≡◌}
 use lib.ListN.{length, drop}
-use Rattle.lines.proofs.Scans.{count-space, count-other, count-end}
+use Rattle.lines.proofs.Scans.{count_space, count_other, count_end}
 use Rattle.lines.specs.Parts.{count_of}
 use Rattle.lines.proofs.parts.count.Statement.{statement}
 use Rattle.lines.proofs.parts.count.Tie as tie
@@ -19,14 +19,14 @@ decreases-loop line n₀ i₀ n i = length line - i
 loop-holds : tie.Need-loop-init invariant-loop decreases-loop
 loop-holds c = search rules
 
-shared-slice-read-b : tie.Need-shared-slice-read-b invariant-loop decreases-loop
-shared-slice-read-b c = search rules
+shared_slice_read_b : tie.Need-shared-slice-read-b invariant-loop decreases-loop
+shared_slice_read_b c = search rules
 
-add-i : tie.Need-overflow-add-i invariant-loop decreases-loop
-add-i c = search rules
+add_i : tie.Need-overflow-add-i invariant-loop decreases-loop
+add_i c = search rules
 
-add-n : tie.Need-overflow-add-n invariant-loop decreases-loop
-add-n c = search rules
+add_n : tie.Need-overflow-add-n invariant-loop decreases-loop
+add_n c = search rules
 
 loop-less : tie.Need-loop-smaller invariant-loop decreases-loop
 loop-less c = search rules
@@ -34,7 +34,7 @@ loop-less c = search rules
 loop-again : tie.Need-loop-preserved invariant-loop decreases-loop
 loop-again c =
     let s = c.before.before.before in
-    omega (arith, count-space s.before.args.line.now s.loop.i (omega arith) c.if1.true)
+    omega (arith, count_space s.before.args.line.now s.loop.i (omega arith) c.if1.true)
 
 loop-less-2 : tie.Need-loop-smaller-2 invariant-loop decreases-loop
 loop-less-2 c = search rules
@@ -42,12 +42,12 @@ loop-less-2 c = search rules
 loop-again-2 : tie.Need-loop-preserved-2 invariant-loop decreases-loop
 loop-again-2 c =
     let s = c.before.before.before in
-    omega (arith, count-other s.before.args.line.now s.loop.i (omega arith) c.if1.false)
+    omega (arith, count_other s.before.args.line.now s.loop.i (omega arith) c.if1.false)
 
 returns : tie.Need-returns invariant-loop decreases-loop
 returns c =
     let s = c.before in
-    omega (arith, count-end s.before.args.line.now s.loop.i (omega arith))
+    omega (arith, count_end s.before.args.line.now s.loop.i (omega arith))
 
 pub count_spec : {M : Type 1} → statement M
 count_spec =
@@ -56,9 +56,9 @@ count_spec =
     invariant-loop
     decreases-loop
     loop-holds
-    shared-slice-read-b
-    add-i
-    add-n
+    shared_slice_read_b
+    add_i
+    add_n
     loop-less
     loop-again
     loop-less-2

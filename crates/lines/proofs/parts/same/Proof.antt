@@ -4,7 +4,7 @@ use native.Mathlib.Omega.{arith}
 use Prim.Native.Nat.{◌-◌, ◌≤◌}
 use mathlib.Core.Path.{◌≡◌, refl, sym, ◌∙◌}
 use lib.ListN.{length, drop}
-use Rattle.lines.proofs.Scans.{alike-on, alike-not, alike_end, alike-lengths}
+use Rattle.lines.proofs.Scans.{alike_on, alike_not, alike_end, alike_lengths}
 use Rattle.lines.specs.Parts.{alike}
 use Rattle.lines.proofs.parts.same.Statement.{statement}
 use Rattle.lines.proofs.parts.same.Tie as tie
@@ -17,26 +17,26 @@ abbrev decreases-loop : tie.decreases-loop
 decreases-loop text word i₀ i = length text - i
 
 returns : tie.Need-returns invariant-loop decreases-loop
-returns c = sym (alike-lengths _ _ c.if1.true)
+returns c = sym (alike_lengths _ _ c.if1.true)
 
 loop-holds : tie.Need-loop-init invariant-loop decreases-loop
 loop-holds c = (omega arith, omega arith, refl)
 
-shared-slice-read-a : tie.Need-shared-slice-read-a invariant-loop decreases-loop
-shared-slice-read-a c = search rules
+shared_slice_read_a : tie.Need-shared-slice-read-a invariant-loop decreases-loop
+shared_slice_read_a c = search rules
 
-shared-slice-read-b : tie.Need-shared-slice-read-b invariant-loop decreases-loop
-shared-slice-read-b c = search rules
+shared_slice_read_b : tie.Need-shared-slice-read-b invariant-loop decreases-loop
+shared_slice_read_b c = search rules
 
 returns-2 : tie.Need-returns-2 invariant-loop decreases-loop
 returns-2 c =
     let s = c.before.before.before.before in
     let a = s.before.before.args in
-    sym (alike-not a.text.now a.word.now s.loop.i (omega arith) (omega arith) c.if2.true)
+    sym (alike_not a.text.now a.word.now s.loop.i (omega arith) (omega arith) c.if2.true)
     ∙ s.loop.invariant.2
 
-add-i : tie.Need-overflow-add-i invariant-loop decreases-loop
-add-i c = search rules
+add_i : tie.Need-overflow-add-i invariant-loop decreases-loop
+add_i c = search rules
 
 loop-less : tie.Need-loop-smaller invariant-loop decreases-loop
 loop-less c = search rules
@@ -47,7 +47,7 @@ loop-again c =
     let a = s.before.before.args in (
       omega arith,
       omega arith,
-      sym (alike-on a.text.now a.word.now s.loop.i (omega arith) (omega arith) c.if2.false) ∙ s.loop.invariant.2,
+      sym (alike_on a.text.now a.word.now s.loop.i (omega arith) (omega arith) c.if2.false) ∙ s.loop.invariant.2,
     )
 
 returns-3 : tie.Need-returns-3 invariant-loop decreases-loop
@@ -64,10 +64,10 @@ same_spec =
     decreases-loop
     returns
     loop-holds
-    shared-slice-read-a
-    shared-slice-read-b
+    shared_slice_read_a
+    shared_slice_read_b
     returns-2
-    add-i
+    add_i
     loop-less
     loop-again
     returns-3)

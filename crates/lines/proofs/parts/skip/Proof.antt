@@ -5,7 +5,7 @@ use native.Mathlib.Omega.{arith}
 use Prim.Native.Nat.{ℕ, ◌-◌, ◌≤◌}
 use mathlib.Core.Path.{◌≡◌, sym, ap, ◌∙◌}
 use lib.ListN.{length, drop}
-use Rattle.lines.proofs.Scans.{skipped-space, skipped-other, skipped-end}
+use Rattle.lines.proofs.Scans.{skipped_space, skipped_other, skipped_end}
 use Rattle.lines.specs.Parts.{skipped}
 use lib.ListN.{drop_of_length-le}
 use Rattle.lines.proofs.parts.skip.Statement.{statement}
@@ -28,14 +28,14 @@ returns c =
       sym (ap (λ (j : ℕ). skipped j (drop s.loop.i s.before.args.line.now)) c.if1.true) ∙ s.loop.invariant.1,
     )
 
-shared-slice-read-b : tie.Need-shared-slice-read-b invariant-loop decreases-loop
-shared-slice-read-b c = search rules
+shared_slice_read_b : tie.Need-shared-slice-read-b invariant-loop decreases-loop
+shared_slice_read_b c = search rules
 
-add-i : tie.Need-overflow-add-i invariant-loop decreases-loop
-add-i c = search rules
+add_i : tie.Need-overflow-add-i invariant-loop decreases-loop
+add_i c = search rules
 
-sub-left : tie.Need-overflow-sub-left invariant-loop decreases-loop
-sub-left c = search rules
+sub_left : tie.Need-overflow-sub-left invariant-loop decreases-loop
+sub_left c = search rules
 
 loop-less : tie.Need-loop-smaller invariant-loop decreases-loop
 loop-less c = search rules
@@ -44,7 +44,7 @@ loop-again : tie.Need-loop-preserved invariant-loop decreases-loop
 loop-again c =
     let s = c.before.before.before.before in (
       omega arith,
-      sym (skipped-space s.loop.left s.before.args.line.now s.loop.i (omega arith) c.if2.true (omega arith)) ∙ s.loop.invariant.1,
+      sym (skipped_space s.loop.left s.before.args.line.now s.loop.i (omega arith) c.if2.true (omega arith)) ∙ s.loop.invariant.1,
     )
 
 loop-less-2 : tie.Need-loop-smaller-2 invariant-loop decreases-loop
@@ -54,7 +54,7 @@ loop-again-2 : tie.Need-loop-preserved-2 invariant-loop decreases-loop
 loop-again-2 c =
     let s = c.before.before.before.before in (
       omega arith,
-      sym (skipped-other s.loop.left s.before.args.line.now s.loop.i (omega arith) c.if2.false (omega arith)) ∙ s.loop.invariant.1,
+      sym (skipped_other s.loop.left s.before.args.line.now s.loop.i (omega arith) c.if2.false (omega arith)) ∙ s.loop.invariant.1,
     )
 
 returns-2 : tie.Need-returns-2 invariant-loop decreases-loop
@@ -62,20 +62,20 @@ returns-2 c =
     let s = c.before in
     let h : length s.before.args.line.now ≤ s.loop.i = omega arith in (
       omega arith,
-      drop_of_length-le s.before.args.line.now h ∙ sym (skipped-end s.loop.left s.before.args.line.now s.loop.i h) ∙ s.loop.invariant.1,
+      drop_of_length-le s.before.args.line.now h ∙ sym (skipped_end s.loop.left s.before.args.line.now s.loop.i h) ∙ s.loop.invariant.1,
     )
 
-pub skip-spec : {M : Type 1} → statement M
-skip-spec =
+pub skip_spec : {M : Type 1} → statement M
+skip_spec =
     tie.close
     (tie.spec
     invariant-loop
     decreases-loop
     loop-holds
     returns
-    shared-slice-read-b
-    add-i
-    sub-left
+    shared_slice_read_b
+    add_i
+    sub_left
     loop-less
     loop-again
     loop-less-2

@@ -5,7 +5,7 @@ use native.Mathlib.Omega.{arith}
 use Prim.Native.Nat.{◌+◌, ◌-◌, ◌≤◌}
 use mathlib.Core.Path.{◌≡◌, ap}
 use lib.ListN.{length, drop}
-use Rattle.lines.proofs.Scans.{before-stop, before_on, before-end}
+use Rattle.lines.proofs.Scans.{before_stop, before_on, before_end}
 use Rattle.lines.specs.Parts.{before, space}
 use Rattle.lines.proofs.parts.stop.Statement.{statement}
 use Rattle.lines.proofs.parts.stop.Tie as tie
@@ -20,16 +20,16 @@ decreases-loop line a i₀ i = length line - i
 loop-holds : tie.Need-loop-init invariant-loop decreases-loop
 loop-holds c = search rules
 
-shared-slice-read-b : tie.Need-shared-slice-read-b invariant-loop decreases-loop
-shared-slice-read-b c = search rules
+shared_slice_read_b : tie.Need-shared-slice-read-b invariant-loop decreases-loop
+shared_slice_read_b c = search rules
 
 returns : tie.Need-returns invariant-loop decreases-loop
 returns c =
     let s = c.before.before.before in
-    omega (arith, ap length (before-stop space s.before.args.line.now s.loop.i (omega arith) c.if1.true))
+    omega (arith, ap length (before_stop space s.before.args.line.now s.loop.i (omega arith) c.if1.true))
 
-add-i : tie.Need-overflow-add-i invariant-loop decreases-loop
-add-i c = search rules
+add_i : tie.Need-overflow-add-i invariant-loop decreases-loop
+add_i c = search rules
 
 loop-less : tie.Need-loop-smaller invariant-loop decreases-loop
 loop-less c = search rules
@@ -42,18 +42,18 @@ loop-again c =
 returns-2 : tie.Need-returns-2 invariant-loop decreases-loop
 returns-2 c =
     let s = c.before in
-    omega (arith, ap length (before-end space s.before.args.line.now s.loop.i (omega arith)))
+    omega (arith, ap length (before_end space s.before.args.line.now s.loop.i (omega arith)))
 
-pub stop-spec : {M : Type 1} → statement M
-stop-spec =
+pub stop_spec : {M : Type 1} → statement M
+stop_spec =
     tie.close
     (tie.spec
     invariant-loop
     decreases-loop
     loop-holds
-    shared-slice-read-b
+    shared_slice_read_b
     returns
-    add-i
+    add_i
     loop-less
     loop-again
     returns-2)

@@ -4,7 +4,7 @@ use native.Mathlib.Omega.{arith}
 use Prim.Native.Nat.{◌-◌, ◌^◌, ◌≤◌, ◌<◌}
 use mathlib.Core.Path.{◌≡◌, refl, sym, ◌∙◌}
 use lib.ListN.{length, drop}
-use Rattle.lines.proofs.Decimals.{read_none, read-over, read_more, read-end}
+use Rattle.lines.proofs.Decimals.{read_none, read_over, read_more, read_end}
 use Rattle.lines.specs.Reading.{read_on}
 use Rattle.lines.proofs.reading.digits.Statement.{statement}
 use Rattle.lines.proofs.reading.digits.Tie as tie
@@ -18,14 +18,14 @@ decreases-loop text n₀ i₀ n i = length text - i
 loop-holds : tie.Need-loop-init invariant-loop decreases-loop
 loop-holds c = (omega arith, omega arith, refl)
 
-shared-slice-read-digit : tie.Need-shared-slice-read-digit invariant-loop decreases-loop
-shared-slice-read-digit c = search rules
+shared_slice_read_digit : tie.Need-shared-slice-read-digit invariant-loop decreases-loop
+shared_slice_read_digit c = search rules
 
-digit-requires : tie.Need-digit-requires invariant-loop decreases-loop
-digit-requires c κs = search rules
+digit_requires : tie.Need-digit-requires invariant-loop decreases-loop
+digit_requires c κs = search rules
 
-add-i : tie.Need-overflow-add-i invariant-loop decreases-loop
-add-i c = search rules
+add_i : tie.Need-overflow-add-i invariant-loop decreases-loop
+add_i c = search rules
 
 returns : tie.Need-returns invariant-loop decreases-loop
 returns c =
@@ -40,25 +40,25 @@ returns-2 c =
     let d = c.before.before in
     let s = d.before.before.before in
     let t = s.before.before.args.text.now in
-    sym (read-over s.loop.n t s.loop.i (omega arith) d.digit.result d.digit.ensures (omega arith) (omega arith))
+    sym (read_over s.loop.n t s.loop.i (omega arith) d.digit.result d.digit.ensures (omega arith) (omega arith))
     ∙ s.loop.invariant.2
 
-mul-tens : tie.Need-overflow-mul-tens invariant-loop decreases-loop
-mul-tens c = search rules
+mul_tens : tie.Need-overflow-mul-tens invariant-loop decreases-loop
+mul_tens c = search rules
 
-sub-if3 : tie.Need-overflow-sub-if3 invariant-loop decreases-loop
-sub-if3 c = search rules
+sub_if3 : tie.Need-overflow-sub-if3 invariant-loop decreases-loop
+sub_if3 c = search rules
 
 returns-3 : tie.Need-returns-3 invariant-loop decreases-loop
 returns-3 c =
     let d = c.before.before.before in
     let s = d.before.before.before in
     let t = s.before.before.args.text.now in
-    sym (read-over s.loop.n t s.loop.i (omega arith) d.digit.result d.digit.ensures (omega arith) (omega arith))
+    sym (read_over s.loop.n t s.loop.i (omega arith) d.digit.result d.digit.ensures (omega arith) (omega arith))
     ∙ s.loop.invariant.2
 
-add-n : tie.Need-overflow-add-n invariant-loop decreases-loop
-add-n c = search rules
+add_n : tie.Need-overflow-add-n invariant-loop decreases-loop
+add_n c = search rules
 
 loop-less : tie.Need-loop-smaller invariant-loop decreases-loop
 loop-less c = search rules
@@ -76,24 +76,24 @@ loop-again c =
 returns-4 : tie.Need-returns-4 invariant-loop decreases-loop
 returns-4 c =
     let s = c.before in
-    sym (read-end s.loop.n s.before.before.args.text.now s.loop.i (omega arith)) ∙ s.loop.invariant.2
+    sym (read_end s.loop.n s.before.before.args.text.now s.loop.i (omega arith)) ∙ s.loop.invariant.2
 
-pub digits-spec : {M : Type 1} → statement M
-digits-spec =
+pub digits_spec : {M : Type 1} → statement M
+digits_spec =
     tie.close
     (tie.spec
     invariant-loop
     decreases-loop
     loop-holds
-    shared-slice-read-digit
-    digit-requires
-    add-i
+    shared_slice_read_digit
+    digit_requires
+    add_i
     returns
     returns-2
-    mul-tens
-    sub-if3
+    mul_tens
+    sub_if3
     returns-3
-    add-n
+    add_n
     loop-less
     loop-again
     returns-4)

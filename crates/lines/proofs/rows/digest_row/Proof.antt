@@ -13,17 +13,17 @@ decreases-loop h values count links₀ digest₀ k₀ links digest k = 10 - k
 loop-holds : tie.Need-loop-init invariant-loop decreases-loop
 loop-holds c = search rules
 
-mul-digest-value : tie.Need-overflow-mul-digest-value invariant-loop decreases-loop
-mul-digest-value c = search rules
+mul_digest_value : tie.Need-overflow-mul-digest-value invariant-loop decreases-loop
+mul_digest_value c = search rules
 
-array-read-digest-value : tie.Need-array-read-digest-value invariant-loop decreases-loop
-array-read-digest-value c = search rules
+array_read_digest_value : tie.Need-array-read-digest-value invariant-loop decreases-loop
+array_read_digest_value c = search rules
 
-digest-value-requires : tie.Need-digest-value-requires invariant-loop decreases-loop
-digest-value-requires c κs = search rules
+digest_value_requires : tie.Need-digest-value-requires invariant-loop decreases-loop
+digest_value_requires c κs = search rules
 
-add-k : tie.Need-overflow-add-k invariant-loop decreases-loop
-add-k c = search rules
+add_k : tie.Need-overflow-add-k invariant-loop decreases-loop
+add_k c = search rules
 
 loop-less : tie.Need-loop-smaller invariant-loop decreases-loop
 loop-less c = search rules
@@ -34,17 +34,17 @@ loop-again c = search rules
 returns : tie.Need-returns invariant-loop decreases-loop
 returns c = search rules
 
-pub digest-row-spec : {M : Type 1} → statement M
-digest-row-spec =
+pub digest_row_spec : {M : Type 1} → statement M
+digest_row_spec =
     tie.close
     (tie.spec
     invariant-loop
     decreases-loop
     loop-holds
-    mul-digest-value
-    array-read-digest-value
-    digest-value-requires
-    add-k
+    mul_digest_value
+    array_read_digest_value
+    digest_value_requires
+    add_k
     loop-less
     loop-again
     returns)

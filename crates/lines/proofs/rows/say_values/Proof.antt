@@ -13,17 +13,17 @@ decreases-loop out₀ at values count links₀ waiting₀ k₀ out links waiting
 loop-holds : tie.Need-loop-init invariant-loop decreases-loop
 loop-holds c = search rules
 
-mul-say-value : tie.Need-overflow-mul-say-value invariant-loop decreases-loop
-mul-say-value c = search rules
+mul_say_value : tie.Need-overflow-mul-say-value invariant-loop decreases-loop
+mul_say_value c = search rules
 
-array-read-say-value : tie.Need-array-read-say-value invariant-loop decreases-loop
-array-read-say-value c = search rules
+array_read_say_value : tie.Need-array-read-say-value invariant-loop decreases-loop
+array_read_say_value c = search rules
 
-say-value-requires : tie.Need-say-value-requires invariant-loop decreases-loop
-say-value-requires c κs = search rules
+say_value_requires : tie.Need-say-value-requires invariant-loop decreases-loop
+say_value_requires c κs = search rules
 
-add-k : tie.Need-overflow-add-k invariant-loop decreases-loop
-add-k c = search rules
+add_k : tie.Need-overflow-add-k invariant-loop decreases-loop
+add_k c = search rules
 
 loop-less : tie.Need-loop-smaller invariant-loop decreases-loop
 loop-less c = search rules
@@ -34,17 +34,17 @@ loop-again c = search rules
 returns : tie.Need-returns invariant-loop decreases-loop
 returns c = search rules
 
-pub say-values-spec : {M : Type 1} → statement M
-say-values-spec =
+pub say_values_spec : {M : Type 1} → statement M
+say_values_spec =
     tie.close
     (tie.spec
     invariant-loop
     decreases-loop
     loop-holds
-    mul-say-value
-    array-read-say-value
-    say-value-requires
-    add-k
+    mul_say_value
+    array_read_say_value
+    say_value_requires
+    add_k
     loop-less
     loop-again
     returns)

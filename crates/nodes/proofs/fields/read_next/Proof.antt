@@ -2,15 +2,15 @@
 use contract.Running.{tables, tables_of}
 use denote.Triple.Spec.{triple_of}
 use denote.Triple.Table.{entered}
-use Rattle.nodes.proofs.Reading.{next_field, reads-meets}
+use Rattle.nodes.proofs.Reading.{next_field, reads_meets}
 use Rattle.nodes.specs.contracts.fields.read_next as read
 use Rattle.nodes.specs.contracts.fields.read_next.Key.{name as #read}
 use Rattle.nodes.proofs.fields.read_next.Statement as stated
 use Rattle.nodes.proofs.fields.read_next.Code as code
 
-pub read-next-spec : {M : Type 1} → stated.statement M
+pub read_next_spec : {M : Type 1} → stated.statement M
 unfolding code.routine tables_of
-read-next-spec 𝓤 𝓛 𝓜 𝓡 =
+read_next_spec 𝓤 𝓛 𝓜 𝓡 =
     entered 𝓤 𝓛.H (triple_of 𝓛 read.signature (read.spec 𝓛 𝓜.mem 𝓡.run))
     (tables 𝓤 𝓛.H 𝓜 𝓡 code.env).C (tables 𝓤 𝓛.H 𝓜 𝓡 code.env).Λ #read code.function (code.unfolded 𝓤 𝓛.H 𝓜 𝓡)
-    (reads-meets next_field 𝓛 (tables_of 𝓤 𝓛.H 𝓜 (tables 𝓤 𝓛.H 𝓜 𝓡 code.env)))
+    (reads_meets next_field 𝓛 (tables_of 𝓤 𝓛.H 𝓜 (tables 𝓤 𝓛.H 𝓜 𝓡 code.env)))

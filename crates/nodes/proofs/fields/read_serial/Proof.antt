@@ -2,15 +2,15 @@
 use contract.Running.{tables, tables_of}
 use denote.Triple.Spec.{triple_of}
 use denote.Triple.Table.{entered}
-use Rattle.nodes.proofs.Reading.{serial-field, reads-meets}
+use Rattle.nodes.proofs.Reading.{serial_field, reads_meets}
 use Rattle.nodes.specs.contracts.fields.read_serial as read
 use Rattle.nodes.specs.contracts.fields.read_serial.Key.{name as #read}
 use Rattle.nodes.proofs.fields.read_serial.Statement as stated
 use Rattle.nodes.proofs.fields.read_serial.Code as code
 
-pub read-serial-spec : {M : Type 1} → stated.statement M
+pub read_serial_spec : {M : Type 1} → stated.statement M
 unfolding code.routine tables_of
-read-serial-spec 𝓤 𝓛 𝓜 𝓡 =
+read_serial_spec 𝓤 𝓛 𝓜 𝓡 =
     entered 𝓤 𝓛.H (triple_of 𝓛 read.signature (read.spec 𝓛 𝓜.mem 𝓡.run))
     (tables 𝓤 𝓛.H 𝓜 𝓡 code.env).C (tables 𝓤 𝓛.H 𝓜 𝓡 code.env).Λ #read code.function (code.unfolded 𝓤 𝓛.H 𝓜 𝓡)
-    (reads-meets serial-field 𝓛 (tables_of 𝓤 𝓛.H 𝓜 (tables 𝓤 𝓛.H 𝓜 𝓡 code.env)))
+    (reads_meets serial_field 𝓛 (tables_of 𝓤 𝓛.H 𝓜 (tables 𝓤 𝓛.H 𝓜 𝓡 code.env)))

@@ -1,5 +1,5 @@
 -- `lay` meets its contract: a walk of its MIR. The nodes are opened once, before the loop; at the loop's test, with i
--- turns done, their row is `laidNodes`.
+-- turns done, their row is `laid_nodes`.
 use mathlib.Core.Path.{◌≡◌, refl, sym, ap, subst}
 use Prim.Native.Nat.{ℕ, suc, ◌<◌, ◌≤◌, ◌^◌, ◌*◌, ◌+◌}
 use native.Mathlib.Omega.{arith}
@@ -47,12 +47,12 @@ use denote.Triple.Table.{entered, cited}
 use denote.Triple.Walked.{says, Stays, stay_slice, walk_of, Goes-slice, Walks, ends_at, walked, walk_Meets}
 use Rattle.rules.specs.Places.{wheel01, buckets}
 use Rattle.face_rules.specs.declared.Node.{Node}
-use Rattle.face_rules.specs.nodes.Laid.{turnsOf, laidNode}
-use Rattle.face_rules.proofs.nodes.Fills.{length-fills}
-use Rattle.nodes.proofs.Counts.{counts, yes-less, not-less, one_more}
+use Rattle.face_rules.specs.nodes.Laid.{turns_of, laid_node}
+use Rattle.face_rules.proofs.nodes.Fills.{length_fills}
+use Rattle.nodes.proofs.Counts.{counts, yes_less, not_less, one_more}
 use Rattle.face_rules.proofs.nodes.Using.{blank}
 use Rattle.nodes.proofs.Passing.{passed_on}
-use Rattle.face_rules.proofs.nodes.InPlace.{laidTo, laid, turns-le}
+use Rattle.face_rules.proofs.nodes.InPlace.{laid_to, laid, turns_le}
 use Rattle.face_rules.specs.contracts.Node as T
 use Rattle.face_rules.proofs.Node.TheLaws as T'
 use Rattle.nodes.specs.contracts.laying.turns as turns
@@ -91,29 +91,29 @@ module _ {M : Type 1} {𝓤 : Ura M} (𝓛 : Logic 𝓤) (mem : Memory → SProp
   abbrev Turns : Contract 𝓤
   Turns = triple_of 𝓛 turns.signature (turns.spec 𝓛 mem run)
 
-  turns-of : (n : ℕ) (on : Bool) (r : ℕ) → ent 𝓤 (ensured 𝓛 turns.ended (turns.clauses 𝓛 mem run) tt (n, (on, tt)) tt r) (fact 𝓤 (r ≡ turnsOf on n))
-  turns-of n on r = ex_e 𝓤 _ (λ ws. snd∗ 𝓤 (sem 𝓛 (lasts turns.ended tt (n, (on, tt)) ws)) (fact 𝓤 (r ≡ turnsOf on n)))
+  turns_of_lem : (n : ℕ) (on : Bool) (r : ℕ) → ent 𝓤 (ensured 𝓛 turns.ended (turns.clauses 𝓛 mem run) tt (n, (on, tt)) tt r) (fact 𝓤 (r ≡ turns_of on n))
+  turns_of_lem n on r = ex_e 𝓤 _ (λ ws. snd∗ 𝓤 (sem 𝓛 (lasts turns.ended tt (n, (on, tt)) ws)) (fact 𝓤 (r ≡ turns_of on n)))
 
-  abbrev to-turns : ℕ → Bool → Turns.Ghost
-  to-turns n on = ((tt, tt, tt, (n, (on, tt)), (vint w64 n ∷ [], (vbool on ∷ [], tt))), tt)
+  abbrev to_turns : ℕ → Bool → Turns.Ghost
+  to_turns n on = ((tt, tt, tt, (n, (on, tt)), (vint w64 n ∷ [], (vbool on ∷ [], tt))), tt)
 
   abbrev Makes : Contract 𝓤
   Makes = triple_of 𝓛 makes.signature (makes.spec 𝓛 mem run)
 
-  makes-of : (i n : ℕ) (r : Node) → ent 𝓤 (ensured 𝓛 makes.ended (makes.clauses 𝓛 mem run) tt (i, (n, tt)) tt r)
-      (fact 𝓤 (r ≡ laidNode (buckets wheel01) n i))
-  makes-of i n r = ex_e 𝓤 _ (λ ws. snd∗ 𝓤 (sem 𝓛 (lasts makes.ended tt (i, (n, tt)) ws)) (fact 𝓤 (r ≡ laidNode (buckets wheel01) n i)))
+  makes_of : (i n : ℕ) (r : Node) → ent 𝓤 (ensured 𝓛 makes.ended (makes.clauses 𝓛 mem run) tt (i, (n, tt)) tt r)
+      (fact 𝓤 (r ≡ laid_node (buckets wheel01) n i))
+  makes_of i n r = ex_e 𝓤 _ (λ ws. snd∗ 𝓤 (sem 𝓛 (lasts makes.ended tt (i, (n, tt)) ws)) (fact 𝓤 (r ≡ laid_node (buckets wheel01) n i)))
 
-  abbrev to-makes : ℕ → ℕ → Makes.Ghost
-  to-makes i n = ((tt, tt, tt, (i, (n, tt)), (vint w64 i ∷ [], (vint w64 n ∷ [], tt))), tt)
+  abbrev to_makes : ℕ → ℕ → Makes.Ghost
+  to_makes i n = ((tt, tt, tt, (i, (n, tt)), (vint w64 i ∷ [], (vint w64 n ∷ [], tt))), tt)
 
   module _ where
-    goes-turns : (n : ℕ) (on : Bool) → n < 2 ^ 64 → ent 𝓤 (emp 𝓤) (Turns.pre (to-turns n on))
-    goes-turns n on few = qed 𝓛 [] ∵ nothing ! $ nothing ! $ nothing ! $ owned ! bool (Is bool) (bool_Makes 𝓛) on _ refl $ fjoin ! $ owned ! usize
+    goes_turns : (n : ℕ) (on : Bool) → n < 2 ^ 64 → ent 𝓤 (emp 𝓤) (Turns.pre (to_turns n on))
+    goes_turns n on few = qed 𝓛 [] ∵ nothing ! $ nothing ! $ nothing ! $ owned ! bool (Is bool) (bool_Makes 𝓛) on _ refl $ fjoin ! $ owned ! usize
         (Is usize) (uint_Makes 𝓛 w64) n _ (refl, few) $ fjoin ! $ move ! (1 ∷ 0 ∷ []) $ join ! $ done !
 
-    goes-makes : (i n : ℕ) → i < n → n < 2 ^ 64 → i < 2 ^ 64 → ent 𝓤 (emp 𝓤) (Makes.pre (to-makes i n))
-    goes-makes i n l few few' = qed 𝓛 [] ∵ says ! l $ nothing ! $ nothing ! $ owned ! usize (Is usize) (uint_Makes 𝓛 w64) n _ (refl, few) $ fjoin ! $
+    goes_makes : (i n : ℕ) → i < n → n < 2 ^ 64 → i < 2 ^ 64 → ent 𝓤 (emp 𝓤) (Makes.pre (to_makes i n))
+    goes_makes i n l few few' = qed 𝓛 [] ∵ says ! l $ nothing ! $ nothing ! $ owned ! usize (Is usize) (uint_Makes 𝓛 w64) n _ (refl, few) $ fjoin ! $
         owned ! usize (Is usize) (uint_Makes 𝓛 w64) i _ (refl, few') $ fjoin ! $ move ! (1 ∷ 0 ∷ []) $ done !
 
 module _ {M : Type 1} {𝓤 : Ura M} (𝓛 : Logic 𝓤) (mem : Memory → SProp 𝓤) (run : Routine → Fun 𝓤) (κ : Lft) (q : Share)
@@ -128,11 +128,11 @@ module _ {M : Type 1} {𝓤 : Ura M} (𝓛 : Logic 𝓤) (mem : Memory → SProp
 
   -- how many turns there are
   abbrev m : ℕ
-  m = turnsOf on n
+  m = turns_of on n
 
   -- the node that the turn i writes
   abbrev made : ℕ → Node
-  made i = laidNode (buckets wheel01) m i
+  made i = laid_node (buckets wheel01) m i
 
   abbrev x : MutBor (List Node) × (Bool × Unit {0})
   x = (r, (on, tt))
@@ -145,10 +145,10 @@ module _ {M : Type 1} {𝓤 : Ura M} (𝓛 : Logic 𝓤) (mem : Memory → SProp
 
   -- the nodes after i turns
   abbrev zs : ℕ → List Node
-  zs = laidTo ys on
+  zs = laid_to ys on
 
   len : (i : ℕ) → length (zs i) ≡ n
-  len i = length-fills made ys i
+  len i = length_fills made ys i
 
   abbrev Post : Val → SProp 𝓤
   Post = (walk_of 𝓛 lay'.ended stayed (lay'.clauses 𝓛 mem run)).post (((κ, tt), (q, tt), tt, x, at), tt)
@@ -202,14 +202,14 @@ module _ {M : Type 1} {𝓤 : Ura M} (𝓛 : Logic 𝓤) (mem : Memory → SProp
           qed 𝓛 (At i) ∵ exec ! C Λ E mir.turn-1 (any_q (after_turn 𝓤 H X Left)) $
           assigns ! (bin ! (load ! (from ! (stop !)) (look ! 1 refl)) (load ! (from ! (stop !)) (look ! 8 refl)) tt) (from ! (stop !)) (init ! 2 refl (tt, tt))
           $
-          rewrite ! 2 (λ (t : Bool). ‵ (fat full_share ty_bool l₆ 0 (vbool t))) (yes-less i m l) refl $ stays ! (load ! (from ! (stop !)) (look ! 2 refl)) $
+          rewrite ! 2 (λ (t : Bool). ‵ (fat full_share ty_bool l₆ 0 (vbool t))) (yes_less i m l) refl $ stays ! (load ! (from ! (stop !)) (look ! 2 refl)) $
           -- `laid_node`
-          use0 𝓛 (raw ((Makes 𝓛 mem run).pre (to-makes 𝓛 mem run i m))) (goes-makes 𝓛 mem run i m l fits-m fits-i) $
-          calls_at ! (fm_of 𝓤 H 𝓛.laws 𝓣) (Makes 𝓛 mem run) known-makes (to-makes 𝓛 mem run i m)
+          use0 𝓛 (raw ((Makes 𝓛 mem run).pre (to_makes 𝓛 mem run i m))) (goes_makes 𝓛 mem run i m l fits_m fits_i) $
+          calls_at ! (fm_of 𝓤 H 𝓛.laws 𝓣) (Makes 𝓛 mem run) known-makes (to_makes 𝓛 mem run i m)
           (and_then ! (load ! (from ! (stop !)) (look ! 2 refl)) (and_then ! (load ! (from ! (stop !)) (look ! 9 refl)) (no_more !))) (λ w.
           use1 𝓛 (later (some (λ (a : Node). (‵ ftrue ⊛ ‵ ((T.the_row).own_val a (w ∷ []))) ⊛ raw
           (ensured 𝓛 makes.ended (makes.clauses 𝓛 mem run) tt (i, (m, tt)) tt a)))) (id⊢ 𝓤 _) $ await ! tt $ pick ! (λ a.
-          split ! $ move ! (1 ∷ []) $ use1 𝓛 (raw (fact 𝓤 (a ≡ made i))) (makes-of 𝓛 mem run i m a) $ heard ! (a ≡ made i) (λ e. split ! $ drop ! $
+          split ! $ move ! (1 ∷ []) $ use1 𝓛 (raw (fact 𝓤 (a ≡ made i))) (makes_of 𝓛 mem run i m a) $ heard ! (a ≡ made i) (λ e. split ! $ drop ! $
           rewrite ! 0 (λ (d : Node). ‵ ((T.the_row).own_val d (w ∷ []))) e refl $ peeks ! T.the_row (Is T.the_row) (shows 𝓛 T.the_row) (made i) (w ∷ [])
           (λ is. drop ! $
           land ! (from ! (stop !)) (init ! 3 refl ((LL.lawful T.the_type T'.the_laws 𝓛).typed (made i) _ is).0) $ rewrite ! 3
@@ -232,13 +232,13 @@ module _ {M : Type 1} {𝓤 : Ura M} (𝓛 : Logic 𝓤) (mem : Memory → SProp
           (one_more i) refl $ by ! k)))))
         where
           below : i < n
-          below = omega (arith, l, turns-le on n)
+          below = omega (arith, l, turns_le on n)
 
-          fits-i : i < 2 ^ 64
-          fits-i = omega (arith, below, gr.0)
+          fits_i : i < 2 ^ 64
+          fits_i = omega (arith, below, gr.0)
 
-          fits-m : m < 2 ^ 64
-          fits-m = omega (arith, turns-le on n, gr.0)
+          fits_m : m < 2 ^ 64
+          fits_m = omega (arith, turns_le on n, gr.0)
 
           fits48 : i * 48 < 2 ^ 64
           fits48 = omega (arith, below, gr.1)
@@ -262,7 +262,7 @@ module _ {M : Type 1} {𝓤 : Ura M} (𝓛 : Logic 𝓤) (mem : Memory → SProp
           qed 𝓛 (At m) ∵ exec ! C Λ E mir.turn-1 (any_q (after_turn 𝓤 H X Left)) $
           assigns ! (bin ! (load ! (from ! (stop !)) (look ! 1 refl)) (load ! (from ! (stop !)) (look ! 8 refl)) tt) (from ! (stop !)) (init ! 2 refl (tt, tt))
           $
-          rewrite ! 2 (λ (t : Bool). ‵ (fat full_share ty_bool l₆ 0 (vbool t))) (not-less m) refl $ leaves_loop ! (load ! (from ! (stop !)) (look ! 2 refl)) $
+          rewrite ! 2 (λ (t : Bool). ‵ (fat full_share ty_bool l₆ 0 (vbool t))) (not_less m) refl $ leaves_loop ! (load ! (from ! (stop !)) (look ! 2 refl)) $
           exec ! C Λ E mir.t-5 (at_ret E Post) $
           assigns ! (of_opd ! (unit_lit !)) (from ! (stop !)) (init ! 9 refl (tt, tt)) $
           -- the borrow is shut, at what is written
@@ -282,12 +282,12 @@ module _ {M : Type 1} {𝓤 : Ura M} (𝓛 : Logic 𝓤) (mem : Memory → SProp
         -- `turns`
         assigns ! (of_opd ! (load ! (from ! (fld ! refl (stop !))) (look_in ! 16 (sub ! 1 refl (whole !))))) (from ! (stop !))
         (init ! 8 refl (tt, record { fits = gr.0 })) $
-        use0 𝓛 (raw ((Turns 𝓛 mem run).pre (to-turns 𝓛 mem run n on))) (goes-turns 𝓛 mem run n on gr.0) $
-        calls_at ! (fm_of 𝓤 H 𝓛.laws 𝓣) (Turns 𝓛 mem run) known-turns (to-turns 𝓛 mem run n on)
+        use0 𝓛 (raw ((Turns 𝓛 mem run).pre (to_turns 𝓛 mem run n on))) (goes_turns 𝓛 mem run n on gr.0) $
+        calls_at ! (fm_of 𝓤 H 𝓛.laws 𝓣) (Turns 𝓛 mem run) known-turns (to_turns 𝓛 mem run n on)
         (and_then ! (load ! (from ! (stop !)) (look ! 9 refl)) (and_then ! (load ! (from ! (stop !)) (look ! 15 refl)) (no_more !))) (λ w.
         use1 𝓛 (later (some (λ (a : ℕ). (‵ ftrue ⊛ ‵ (usize.own_val a (w ∷ []))) ⊛ raw
         (ensured 𝓛 turns.ended (turns.clauses 𝓛 mem run) tt (n, (on, tt)) tt a)))) (id⊢ 𝓤 _) $ await ! tt $ pick ! (λ a.
-        split ! $ move ! (1 ∷ []) $ use1 𝓛 (raw (fact 𝓤 (a ≡ m))) (turns-of 𝓛 mem run n on a) $ heard ! (a ≡ m) (λ e. split ! $ drop ! $
+        split ! $ move ! (1 ∷ []) $ use1 𝓛 (raw (fact 𝓤 (a ≡ m))) (turns_of_lem 𝓛 mem run n on a) $ heard ! (a ≡ m) (λ e. split ! $ drop ! $
         rewrite ! 0 (λ (d : ℕ). ‵ (usize.own_val d (w ∷ []))) e refl $ peeks ! usize (Is usize) (shows 𝓛 usize) m (w ∷ []) (λ is. drop ! $
         land ! (from ! (stop !)) (init ! 12 refl ((uint_Lawful 𝓛 w64).typed m _ is).0) $ rewrite ! 12 (λ (u : Val). ‵ (fat full_share word l₃ 0 u))
         (ap only is.0) refl $
@@ -303,26 +303,26 @@ module _ {M : Type 1} {𝓤 : Ura M} (𝓛 : Logic 𝓤) (mem : Memory → SProp
 module _ {M : Type 1} {𝓤 : Ura M} (𝓛 : Logic 𝓤) (mem : Memory → SProp 𝓤) (run : Routine → Fun 𝓤) where
   open 𝓛 use {H}
 
-  lay-walks : (𝓣 : Tables 𝓤 H) → Triple 𝓤 (𝓣.C #turns) (Turns 𝓛 mem run) → Triple 𝓤 (𝓣.C #makes) (Makes 𝓛 mem run) → Walks 𝓛 lay'.ended stayed
+  lay_walks : (𝓣 : Tables 𝓤 H) → Triple 𝓤 (𝓣.C #turns) (Turns 𝓛 mem run) → Triple 𝓤 (𝓣.C #makes) (Makes 𝓛 mem run) → Walks 𝓛 lay'.ended stayed
       (WpFn 𝓤 H 𝓣.C 𝓣.Λ code.function) (lay'.clauses 𝓛 mem run)
-  lay-walks 𝓣 known-turns known-makes = walked 𝓛 lay'.ended stayed (lay'.clauses 𝓛 mem run) (WpFn 𝓤 H 𝓣.C 𝓣.Λ code.function)
+  lay_walks 𝓣 known-turns known-makes = walked 𝓛 lay'.ended stayed (lay'.clauses 𝓛 mem run) (WpFn 𝓤 H 𝓣.C 𝓣.Λ code.function)
       (λ κs. (mut_slice_vals, (bool_vals, tt)))
       (λ κs. (mut_slice_Tells (named 0) κs.0 T.the_row, (bool_Tells, tt)))
       (λ κs qs bounds a g are. via 𝓤 _ (fst∗ 𝓤 _ (emp 𝓤)) (walk 𝓛 mem run κs.0 qs.0 a.0 a.1.0 are.0.0.1 𝓣 known-turns known-makes))
 
-lay-meets : {M : Type 1} {𝓤 : Ura M} (𝓛 : Logic 𝓤) → (mem : Memory → SProp 𝓤) (run : Routine → Fun 𝓤) (𝓣 : Tables 𝓤 𝓛.H) → Triple 𝓤
+lay_meets : {M : Type 1} {𝓤 : Ura M} (𝓛 : Logic 𝓤) → (mem : Memory → SProp 𝓤) (run : Routine → Fun 𝓤) (𝓣 : Tables 𝓤 𝓛.H) → Triple 𝓤
     (𝓣.C #turns) (Turns 𝓛 mem run) → Triple 𝓤 (𝓣.C #makes) (Makes 𝓛 mem run)
     → Meets 𝓛 lay'.signature (WpFn 𝓤 𝓛.H 𝓣.C 𝓣.Λ code.function) (lay'.spec 𝓛 mem run)
-lay-meets {𝓤 = 𝓤} 𝓛 mem run 𝓣 known-turns known-makes =
+lay_meets {𝓤 = 𝓤} 𝓛 mem run 𝓣 known-turns known-makes =
     walk_Meets 𝓛 lay'.ended stayed (Goes-slice 𝓛 1 0 tt (plain (λ _. T.the_row)), ((λ κs y f vs fits. 𝓛.laws.⇛_intro _), tt))
     (lay'.clauses 𝓛 mem run) (WpFn 𝓤 𝓛.H 𝓣.C 𝓣.Λ code.function) (WpFn-mono 𝓤 𝓛.H 𝓛.laws 𝓣 code.function)
-    (lay-walks 𝓛 mem run 𝓣 known-turns known-makes)
+    (lay_walks 𝓛 mem run 𝓣 known-turns known-makes)
 
-pub lay-spec : {M : Type 1} → stated.statement M
+pub lay_spec : {M : Type 1} → stated.statement M
 unfolding code.routine tables_of
-lay-spec 𝓤 𝓛 𝓜 𝓡 =
+lay_spec 𝓤 𝓛 𝓜 𝓡 =
     entered 𝓤 𝓛.H (triple_of 𝓛 lay'.signature (lay'.spec 𝓛 𝓜.mem 𝓡.run))
     (tables 𝓤 𝓛.H 𝓜 𝓡 code.env).C (tables 𝓤 𝓛.H 𝓜 𝓡 code.env).Λ #lay code.function (code.unfolded 𝓤 𝓛.H 𝓜 𝓡)
-    (lay-meets 𝓛 𝓜.mem 𝓡.run (tables_of 𝓤 𝓛.H 𝓜 (tables 𝓤 𝓛.H 𝓜 𝓡 code.env))
+    (lay_meets 𝓛 𝓜.mem 𝓡.run (tables_of 𝓤 𝓛.H 𝓜 (tables 𝓤 𝓛.H 𝓜 𝓡 code.env))
     (cited 𝓤 𝓛.H (Turns 𝓛 𝓜.mem 𝓡.run) 𝓜 𝓡 code.env #turns turns-def.routine code.calls-nodes::laying::turns (turns-thm.met 𝓤 𝓛 𝓜 𝓡))
     (cited 𝓤 𝓛.H (Makes 𝓛 𝓜.mem 𝓡.run) 𝓜 𝓡 code.env #makes makes-def.routine code.calls-nodes::laying::laid-node (makes-thm.met 𝓤 𝓛 𝓜 𝓡)))

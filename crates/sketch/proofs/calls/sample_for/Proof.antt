@@ -3,8 +3,8 @@ use Rattle.std.proofs.Common.{rules, eq-eqb, ne_eqb}
 use Rattle.sketch.proofs.calls.sample_for.Statement.{statement}
 use Rattle.sketch.proofs.calls.sample_for.Tie as tie
 
-mul-result : tie.Need-overflow-mul-result
-mul-result c = search rules
+mul_result : tie.Need-overflow-mul-result
+mul_result c = search rules
 
 returns : tie.Need-returns
 returns c = simp (eq-eqb _ _ c.if1.true)
@@ -12,5 +12,5 @@ returns c = simp (eq-eqb _ _ c.if1.true)
 returns-2 : tie.Need-returns-2
 returns-2 c = simp (ne_eqb _ _ c.if1.false)
 
-pub sample-for-spec : {M : Type 1} → statement M
-sample-for-spec = tie.close (tie.spec mul-result returns returns-2)
+pub sample_for_spec : {M : Type 1} → statement M
+sample_for_spec = tie.close (tie.spec mul_result returns returns-2)

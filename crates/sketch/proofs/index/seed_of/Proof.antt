@@ -18,5 +18,5 @@ returns-4 c =
     let e : c.before.args.depth ≡ 3 = omega (arith, c.match.rest.1, c.match.rest.0.1, c.match.rest.0.0.1) in
     ap seed (sym e)
 
-pub seed-of-spec : {M : Type 1} → statement M
-seed-of-spec = tie.close (tie.spec returns returns-2 returns-3 returns-4)
+pub seed_of_spec : {M : Type 1} → statement M
+seed_of_spec = tie.close (tie.spec returns returns-2 returns-3 returns-4)

@@ -13,14 +13,14 @@ decreases-loop table₀ words i₀ table i = words - i
 loop-holds : tie.Need-loop-init invariant-loop decreases-loop
 loop-holds c = (search rules, search rules, fill_none _ 0)
 
-mul-table : tie.Need-overflow-mul-table invariant-loop decreases-loop
-mul-table c = search rules
+mul_table : tie.Need-overflow-mul-table invariant-loop decreases-loop
+mul_table c = search rules
 
-slice-write-table : tie.Need-slice-write-table invariant-loop decreases-loop
-slice-write-table c = search rules
+slice_write_table : tie.Need-slice-write-table invariant-loop decreases-loop
+slice_write_table c = search rules
 
-add-i : tie.Need-overflow-add-i invariant-loop decreases-loop
-add-i c = search rules
+add_i : tie.Need-overflow-add-i invariant-loop decreases-loop
+add_i c = search rules
 
 loop-less : tie.Need-loop-smaller invariant-loop decreases-loop
 loop-less c = search rules
@@ -48,9 +48,9 @@ clear_spec =
     invariant-loop
     decreases-loop
     loop-holds
-    mul-table
-    slice-write-table
-    add-i
+    mul_table
+    slice_write_table
+    add_i
     loop-less
     loop-again
     same_length

@@ -1,7 +1,7 @@
 -- `sketch::unchecked::count` meets its contract. The loop's invariant: the first i depths are counted.
 use Rattle.std.proofs.Common.{◌≡◌, ℕ, ◌+◌, ◌-◌, ◌*◌, ◌%◌, ◌≤◌, length, refl, ap, ◌∙◌, arith, rules}
 use Rattle.sketch_rules.specs.Sketch.{counted, rose}
-use Rattle.sketch_rules.proofs.Counting.{rises-le, turn-table, turn-rose}
+use Rattle.sketch_rules.proofs.Counting.{rises_le, turn_table, turn_rose}
 use Rattle.sketch.proofs.unchecked.count.Statement.{statement}
 use Rattle.sketch.proofs.unchecked.count.Tie as tie
 
@@ -12,33 +12,33 @@ invariant-loop table₀ used hash words start up₀ i₀ table up i = (i ≤ 4) 
 abbrev decreases-loop : tie.decreases-loop
 decreases-loop table₀ used hash words start up₀ i₀ table up i = 4 - i
 
-mul-start : tie.Need-overflow-mul-start invariant-loop decreases-loop
-mul-start c = search rules
+mul_start : tie.Need-overflow-mul-start invariant-loop decreases-loop
+mul_start c = search rules
 
 loop-holds : tie.Need-loop-init invariant-loop decreases-loop
 unfolding counted rose
 loop-holds c = search rules
 
-word-at-requires : tie.Need-word-at-requires invariant-loop decreases-loop
-word-at-requires c κs = (search rules, c.before.before.before.requires.power)
+word_at_requires : tie.Need-word-at-requires invariant-loop decreases-loop
+word_at_requires c κs = (search rules, c.before.before.before.requires.power)
 
-add-raise-at : tie.Need-overflow-add-raise-at invariant-loop decreases-loop
-add-raise-at c = search rules
+add_raise_at : tie.Need-overflow-add-raise-at invariant-loop decreases-loop
+add_raise_at c = search rules
 
-raise-at-requires : tie.Need-raise-at-requires invariant-loop decreases-loop
-raise-at-requires c κs = search rules
+raise_at_requires : tie.Need-raise-at-requires invariant-loop decreases-loop
+raise_at_requires c κs = search rules
 
-add-up : tie.Need-overflow-add-up invariant-loop decreases-loop
-add-up c =
+add_up : tie.Need-overflow-add-up invariant-loop decreases-loop
+add_up c =
     let l = c.before.before.before.before.before.before in
     omega (
       arith,
       c.before.before.raise-at.ensures.0,
-      rises-le l.loop.table c.before.before.before.before.word_at.result (4 * (l.before.before.args.hash % 4) + l.loop.i),
+      rises_le l.loop.table c.before.before.before.before.word_at.result (4 * (l.before.before.args.hash % 4) + l.loop.i),
     )
 
-add-i : tie.Need-overflow-add-i invariant-loop decreases-loop
-add-i c = search rules
+add_i : tie.Need-overflow-add-i invariant-loop decreases-loop
+add_i c = search rules
 
 loop-less : tie.Need-loop-smaller invariant-loop decreases-loop
 loop-less c = search rules
@@ -52,9 +52,9 @@ loop-again c =
     let p = c.before.before.before.before.word_at in (
       search rules,
       search rules,
-      omega (arith, r.ensures.0, rises-le l.loop.table p.result (4 * (s.args.hash % 4) + l.loop.i)),
-      turn-table s.args.hash s.args.used l.loop.i t l.loop.table _ _ l.loop.invariant.3 p.ensures.is refl _ r.ensures.1,
-      turn-rose s.args.hash s.args.used l.loop.i t l.loop.table _ _ l.loop.invariant.3 p.ensures.is refl _ _ l.loop.invariant.4
+      omega (arith, r.ensures.0, rises_le l.loop.table p.result (4 * (s.args.hash % 4) + l.loop.i)),
+      turn_table s.args.hash s.args.used l.loop.i t l.loop.table _ _ l.loop.invariant.3 p.ensures.is refl _ r.ensures.1,
+      turn_rose s.args.hash s.args.used l.loop.i t l.loop.table _ _ l.loop.invariant.3 p.ensures.is refl _ _ l.loop.invariant.4
           r.ensures.0,
     )
 
@@ -77,13 +77,13 @@ count_spec =
     (tie.spec
     invariant-loop
     decreases-loop
-    mul-start
+    mul_start
     loop-holds
-    word-at-requires
-    add-raise-at
-    raise-at-requires
-    add-up
-    add-i
+    word_at_requires
+    add_raise_at
+    raise_at_requires
+    add_up
+    add_i
     loop-less
     loop-again
     same_length

@@ -7,14 +7,14 @@ use Rattle.sketch.proofs.unchecked.settle.Tie as tie
 returns : tie.Need-returns
 returns c = not_full _ _ _ _ c.if1.true
 
-age-requires : tie.Need-age-requires
-age-requires c κs = search rules
+age_requires : tie.Need-age-requires
+age_requires c κs = search rules
 
-cast-aged-size : tie.Need-overflow-cast-aged-size
-cast-aged-size c = search rules
+cast_aged_size : tie.Need-overflow-cast-aged-size
+cast_aged_size c = search rules
 
-aged-size-requires : tie.Need-aged-size-requires
-aged-size-requires c κs = search rules
+aged_size_requires : tie.Need-aged-size-requires
+aged_size_requires c κs = search rules
 
 same_length : tie.Need-same-length
 same_length c = search rules
@@ -22,7 +22,7 @@ same_length c = search rules
 returns-2 : tie.Need-returns-2
 returns-2 c = search full
 
-pub settle-spec : {M : Type 1} → statement M
-settle-spec =
+pub settle_spec : {M : Type 1} → statement M
+settle_spec =
     tie.close
-    (tie.spec returns age-requires cast-aged-size aged-size-requires same_length returns-2)
+    (tie.spec returns age_requires cast_aged_size aged_size_requires same_length returns-2)

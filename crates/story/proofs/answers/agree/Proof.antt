@@ -12,5 +12,5 @@ returns-2 c = search agreeing
 returns-3 : tie.Need-returns-3
 returns-3 c = search agreeing
 
-pub agree-spec : {M : Type 1} → statement M
-agree-spec = tie.close (tie.spec returns returns-2 returns-3)
+pub agree_spec : {M : Type 1} → statement M
+agree_spec = tie.close (tie.spec returns returns-2 returns-3)

@@ -4,8 +4,8 @@ use borrow.Author.Rules.{rules}
 use Rattle.story.proofs.answers.is_count.Statement.{statement}
 use Rattle.story.proofs.answers.is_count.Tie as tie
 
-enum-known-answer : tie.Need-enum-known-answer
-enum-known-answer c = search rules
+enum_known_answer : tie.Need-enum-known-answer
+enum_known_answer c = search rules
 
 enum_told : tie.Need-enum-told
 enum_told c = search rules
@@ -16,5 +16,5 @@ returns c = search answering
 returns-2 : tie.Need-returns-2
 returns-2 c = search answering
 
-pub is-count-spec : {M : Type 1} → statement M
-is-count-spec = tie.close (tie.spec enum-known-answer enum_told returns returns-2)
+pub is_count_spec : {M : Type 1} → statement M
+is_count_spec = tie.close (tie.spec enum_known_answer enum_told returns returns-2)

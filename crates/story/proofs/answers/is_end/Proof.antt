@@ -7,14 +7,14 @@ use Rattle.story.proofs.answers.is_end.Tie as tie
 enum_told : tie.Need-enum-told
 enum_told c = search rules
 
-enum-told-2 : tie.Need-enum-told-2
-enum-told-2 c = search rules
+enum_told_2 : tie.Need-enum-told-2
+enum_told_2 c = search rules
 
-enum-told-3 : tie.Need-enum-told-3
-enum-told-3 c = search rules
+enum_told_3 : tie.Need-enum-told-3
+enum_told_3 c = search rules
 
-enum-told-4 : tie.Need-enum-told-4
-enum-told-4 c = search rules
+enum_told_4 : tie.Need-enum-told-4
+enum_told_4 c = search rules
 
 returns : tie.Need-returns
 returns c = search answering
@@ -28,7 +28,7 @@ returns-3 c = search answering
 returns-4 : tie.Need-returns-4
 returns-4 c = search answering
 
-pub is-end-spec : {M : Type 1} → statement M
-is-end-spec =
+pub is_end_spec : {M : Type 1} → statement M
+is_end_spec =
     tie.close
-    (tie.spec enum_told enum-told-2 enum-told-3 enum-told-4 returns returns-2 returns-3 returns-4)
+    (tie.spec enum_told enum_told_2 enum_told_3 enum_told_4 returns returns-2 returns-3 returns-4)

@@ -4,20 +4,20 @@ use borrow.Author.Rules.{rules}
 use Rattle.story.proofs.answers.is_expired.Statement.{statement}
 use Rattle.story.proofs.answers.is_expired.Tie as tie
 
-enum-known-answer : tie.Need-enum-known-answer
-enum-known-answer c = search rules
+enum_known_answer : tie.Need-enum-known-answer
+enum_known_answer c = search rules
 
-agree-requires : tie.Need-agree-requires
-agree-requires c κs = search rules
+agree_requires : tie.Need-agree-requires
+agree_requires c κs = search rules
 
 enum_told : tie.Need-enum-told
 enum_told c = search rules
 
-enum-told-2 : tie.Need-enum-told-2
-enum-told-2 c = search rules
+enum_told_2 : tie.Need-enum-told-2
+enum_told_2 c = search rules
 
-enum-told-3 : tie.Need-enum-told-3
-enum-told-3 c = search rules
+enum_told_3 : tie.Need-enum-told-3
+enum_told_3 c = search rules
 
 returns : tie.Need-returns
 returns c = search answering
@@ -31,15 +31,15 @@ returns-3 c = search answering
 returns-4 : tie.Need-returns-4
 returns-4 c = search answering
 
-pub is-expired-spec : {M : Type 1} → statement M
-is-expired-spec =
+pub is_expired_spec : {M : Type 1} → statement M
+is_expired_spec =
     tie.close
     (tie.spec
-    enum-known-answer
-    agree-requires
+    enum_known_answer
+    agree_requires
     enum_told
-    enum-told-2
-    enum-told-3
+    enum_told_2
+    enum_told_3
     returns
     returns-2
     returns-3

@@ -4,8 +4,8 @@ use borrow.Author.Rules.{rules}
 use Rattle.story.proofs.answers.is_handle.Statement.{statement}
 use Rattle.story.proofs.answers.is_handle.Tie as tie
 
-enum-known-answer : tie.Need-enum-known-answer
-enum-known-answer c = search rules
+enum_known_answer : tie.Need-enum-known-answer
+enum_known_answer c = search rules
 
 enum_told : tie.Need-enum-told
 enum_told c = search rules
@@ -19,5 +19,5 @@ returns-2 c = search answering
 returns-3 : tie.Need-returns-3
 returns-3 c = search answering
 
-pub is-handle-spec : {M : Type 1} → statement M
-is-handle-spec = tie.close (tie.spec enum-known-answer enum_told returns returns-2 returns-3)
+pub is_handle_spec : {M : Type 1} → statement M
+is_handle_spec = tie.close (tie.spec enum_known_answer enum_told returns returns-2 returns-3)

@@ -7,8 +7,8 @@ use Rattle.story.proofs.answers.is_refused.Tie as tie
 enum_told : tie.Need-enum-told
 enum_told c = search rules
 
-enum-known-answer : tie.Need-enum-known-answer
-enum-known-answer c = search rules
+enum_known_answer : tie.Need-enum-known-answer
+enum_known_answer c = search rules
 
 returns : tie.Need-returns
 returns c = search answering
@@ -16,5 +16,5 @@ returns c = search answering
 returns-2 : tie.Need-returns-2
 returns-2 c = search answering
 
-pub is-refused-spec : {M : Type 1} → statement M
-is-refused-spec = tie.close (tie.spec enum_told enum-known-answer returns returns-2)
+pub is_refused_spec : {M : Type 1} → statement M
+is_refused_spec = tie.close (tie.spec enum_told enum_known_answer returns returns-2)

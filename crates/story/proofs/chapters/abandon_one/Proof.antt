@@ -18,47 +18,47 @@ reached1 c = on (start (2 ^ 31)) _ _ c.before.requires c.start.ensures
 reached2 : (c : tie.After-abandon) → Reached abandoned (held c.abandon.result.after)
 reached2 c = on abandon _ _ (reached1 c.before.before.before.before) c.abandon.ensures
 
-mul-start : tie.Need-overflow-mul-start
-mul-start c = search rules
+mul_start : tie.Need-overflow-mul-start
+mul_start c = search rules
 
-start-requires : tie.Need-start-requires
-start-requires c κs = search rules
+start_requires : tie.Need-start-requires
+start_requires c κs = search rules
 
-is-noted-requires : tie.Need-is-noted-requires
-is-noted-requires c κs = search rules
+is_noted_requires : tie.Need-is-noted-requires
+is_noted_requires c κs = search rules
 
-expect-requires : tie.Need-expect-requires
+expect_requires : tie.Need-expect-requires
 unfolding tick
-expect-requires c κs = c.is-noted.ensures.yes (says (start (2 ^ 31)) _ _ c.before.before.requires c.before.start.ensures _ refl)
+expect_requires c κs = c.is-noted.ensures.yes (says (start (2 ^ 31)) _ _ c.before.before.requires c.before.start.ensures _ refl)
 
-abandon-requires : tie.Need-abandon-requires
-abandon-requires c κs = search rules
+abandon_requires : tie.Need-abandon-requires
+abandon_requires c κs = search rules
 
-is-noted-requires-2 : tie.Need-is-noted-requires-2
-is-noted-requires-2 c κs = search rules
+is_noted_requires_2 : tie.Need-is-noted-requires-2
+is_noted_requires_2 c κs = search rules
 
-expect-requires-2 : tie.Need-expect-requires-2
+expect_requires_2 : tie.Need-expect-requires-2
 unfolding tick
-expect-requires-2 c κs = c.is-noted2.ensures.yes (says abandon _ _ (reached1 c.before.before.before.before.before)
+expect_requires_2 c κs = c.is-noted2.ensures.yes (says abandon _ _ (reached1 c.before.before.before.before.before)
     c.before.abandon.ensures _ refl)
 
-expect-requires-3 : tie.Need-expect-requires-3
+expect_requires_3 : tie.Need-expect-requires-3
 unfolding tick
-expect-requires-3 c κs = eq-eqb _ 0 (reads (reached2 c.before.before.before.before.before) 0 refl)
+expect_requires_3 c κs = eq-eqb _ 0 (reads (reached2 c.before.before.before.before.before) 0 refl)
 
 returns : tie.Need-returns
 returns c = reached2 c.before.before.before.before.before.before
 
-pub abandon-one-spec : {M : Type 1} → statement M
-abandon-one-spec =
+pub abandon_one_spec : {M : Type 1} → statement M
+abandon_one_spec =
     tie.close
     (tie.spec
-    mul-start
-    start-requires
-    is-noted-requires
-    expect-requires
-    abandon-requires
-    is-noted-requires-2
-    expect-requires-2
-    expect-requires-3
+    mul_start
+    start_requires
+    is_noted_requires
+    expect_requires
+    abandon_requires
+    is_noted_requires_2
+    expect_requires_2
+    expect_requires_3
     returns)

@@ -9,24 +9,24 @@ use borrow.Author.Rules.{rules}
 use Rattle.story.proofs.chapters.begin.Statement.{statement}
 use Rattle.story.proofs.chapters.begin.Tie as tie
 
-create-requires : tie.Need-create-requires
-create-requires c κs = search rules
+create_requires : tie.Need-create-requires
+create_requires c κs = search rules
 
-enable-requires : tie.Need-enable-requires
-enable-requires c κs = search rules
+enable_requires : tie.Need-enable-requires
+enable_requires c κs = search rules
 
-is-noted-requires : tie.Need-is-noted-requires
-is-noted-requires c κs = search rules
+is_noted_requires : tie.Need-is-noted-requires
+is_noted_requires c κs = search rules
 
-expect-requires : tie.Need-expect-requires
+expect_requires : tie.Need-expect-requires
 unfolding tick
-expect-requires c κs = c.is-noted.ensures.yes (says (enable 168 2 true) _ _
+expect_requires c κs = c.is-noted.ensures.yes (says (enable 168 2 true) _ _
     (beginning 7 (held c.before.before.create.result) _ c.before.before.create.ensures) c.before.enable.ensures _ refl)
 
 returns : tie.Need-returns
 returns c = on (enable 168 2 true) _ _ (beginning 7 (held c.before.before.before.before.create.result) _
     c.before.before.before.before.create.ensures) c.before.before.before.enable.ensures
 
-pub begin-spec : {M : Type 1} → statement M
-begin-spec =
-    tie.close (tie.spec create-requires enable-requires is-noted-requires expect-requires returns)
+pub begin_spec : {M : Type 1} → statement M
+begin_spec =
+    tie.close (tie.spec create_requires enable_requires is_noted_requires expect_requires returns)

@@ -42,14 +42,14 @@ use denote.Triple.Statement.{Contract, Triple}
 use denote.Triple.Table.{entered, cited}
 use denote.Triple.Walked.{says, Stays, walk_of, Walks, ends_at, walked, walk_Meets}
 use Rattle.nodes.proofs.Passing.{passed_on}
-use Rattle.nodes.proofs.Lending.{Lease, lft-of}
-use Rattle.story.proofs.Locals.{ref-of, Shared, shares_array, array-room, Here, LentValue, lends-value, value-back}
+use Rattle.nodes.proofs.Lending.{Lease, lft_of}
+use Rattle.story.proofs.Locals.{ref_of, Shared, shares_array, array_room, Here, LentValue, lends_value, value_back}
 use Rattle.face_rules.specs.declared.Node.{Node}
 use Rattle.wheel_rules.specs.declared.calls.Clock.{Clock}
 use Rattle.wheel_rules.specs.declared.calls.Noted.{Noted}
-use Rattle.face_rules.specs.Face.{recordsOf}
+use Rattle.face_rules.specs.Face.{records_of}
 use Rattle.rules.specs.Wheel.{abandon}
-use Rattle.wheel_rules.specs.Promise.{Promised, notedSays}
+use Rattle.wheel_rules.specs.Promise.{Promised, noted_says}
 use Rattle.face_rules.specs.contracts.Node as T
 use Rattle.face_rules.proofs.Node.TheLaws as T'
 use Rattle.wheel_rules.specs.contracts.calls.Clock as K
@@ -126,14 +126,14 @@ module _ {M : Type 1} {𝓤 : Ura M} (𝓛 : Logic 𝓤) (at_mem : Memory → SP
   -- what is lent lies at b₁ and b₂
   module _ (b₁ : ℕ) (w₁ : Lease) (b₂ : ℕ) (w₂ : Lease) where
     abbrev lives : (Lft × (Lft × (Lft × (Lft × (Lft × (Lft × (Lft × Unit {0})))))))
-    lives = (lft-of w₁, (lft-of w₂, (κ₀, (κ₁, (κ₂, (κ₃, (κ₄, tt)))))))
+    lives = (lft_of w₁, (lft_of w₂, (κ₀, (κ₁, (κ₂, (κ₃, (κ₄, tt)))))))
 
     -- what is passed to `abandon`, what it says of it at exit, and its promise
     abbrev given : (MutBor (List Node) × (MutBor Clock × (MutBor (List ℕ) × (MutBor (List ℕ) × (MutBor (List Bool) × (MutBor (List ℕ) × (MutBor (List ℕ) × Unit {0})))))))
-    given = (ref-of b₁ w₁.name x₁, (ref-of b₂ w₂.name x₂, (x₃, (x₄, (x₅, (x₆, (x₇, tt)))))))
+    given = (ref_of b₁ w₁.name x₁, (ref_of b₂ w₂.name x₂, (x₃, (x₄, (x₅, (x₆, (x₇, tt)))))))
 
-    abbrev given-at : (List Val × (List Val × (List Val × (List Val × (List Val × (List Val × (List Val × Unit {0})))))))
-    given-at = (
+    abbrev given_at : (List Val × (List Val × (List Val × (List Val × (List Val × (List Val × (List Val × Unit {0})))))))
+    given_at = (
       slice_val (b₁, 0) 168 ∷ [],
       (
         vptr b₂ 0 ∷ [],
@@ -148,29 +148,29 @@ module _ {M : Type 1} {𝓤 : Ura M} (𝓛 : Logic 𝓤) (at_mem : Memory → SP
     )
 
     abbrev Tokens : Item 𝓤
-    Tokens = ‵ (flft (lft-of w₁) full_share) ⊛ ‵ (flft (lft-of w₂) full_share) ⊛ ‵ (flft κ₀ q₀) ⊛ ‵ (flft κ₁ q₁) ⊛ ‵ (flft κ₂ q₂) ⊛ ‵ (flft κ₃ q₃) ⊛ ‵
+    Tokens = ‵ (flft (lft_of w₁) full_share) ⊛ ‵ (flft (lft_of w₂) full_share) ⊛ ‵ (flft κ₀ q₀) ⊛ ‵ (flft κ₁ q₁) ⊛ ‵ (flft κ₂ q₂) ⊛ ‵ (flft κ₃ q₃) ⊛ ‵
         (flft κ₄ q₄) ⊛ ‵ ftrue
 
     abbrev Last : Type 0
     Last = Lasts calls.ended lives given
 
     abbrev Does : Last → Noted → Type 0
-    Does ws u = Promised abandon (recordsOf x₃.now x₄.now x₁ x₅.now x₆.now x₇.now x₂)
-        (recordsOf x₃.now x₄.now x₁ x₅.now x₆.now x₇.now ws.1.0) (notedSays u)
+    Does ws u = Promised abandon (records_of x₃.now x₄.now x₁ x₅.now x₆.now x₇.now x₂)
+        (records_of x₃.now x₄.now x₁ x₅.now x₆.now x₇.now ws.1.0) (noted_says u)
 
-    abbrev to-call : (Call 𝓛 at_mem run).Ghost
-    to-call = ((lives, (full_share, (full_share, (q₀, (q₁, (q₂, (q₃, (q₄, tt))))))), tt, given, given-at), tt)
+    abbrev to_call : (Call 𝓛 at_mem run).Ghost
+    to_call = ((lives, (full_share, (full_share, (q₀, (q₁, (q₂, (q₃, (q₄, tt))))))), tt, given, given_at), tt)
 
-    goes-call : ent 𝓤 (⋆ 𝓛 (Tokens ∷ ‵ (owns (ShrSlice (named 0) (lft-of w₁) T.the_row ∷ MutRef (named 1) (lft-of w₂) K.the_row ∷ ShrSlice (named 2) κ₀
-        usize ∷ ShrSlice (named 3) κ₁ usize ∷ ShrSlice (named 4) κ₂ bool ∷ ShrSlice (named 5) κ₃ u64 ∷ ShrSlice (named 6) κ₄ u32 ∷ []) given given-at) ∷ []))
-        ((Call 𝓛 at_mem run).pre to-call)
-    goes-call = qed 𝓛 (Tokens ∷ ‵ (owns (ShrSlice (named 0) (lft-of w₁) T.the_row ∷ MutRef (named 1) (lft-of w₂) K.the_row ∷ ShrSlice (named 2) κ₀ usize ∷
-        ShrSlice (named 3) κ₁ usize ∷ ShrSlice (named 4) κ₂ bool ∷ ShrSlice (named 5) κ₃ u64 ∷ ShrSlice (named 6) κ₄ u32 ∷ []) given given-at) ∷ []) ∵ join ! $
+    goes_call : ent 𝓤 (⋆ 𝓛 (Tokens ∷ ‵ (owns (ShrSlice (named 0) (lft_of w₁) T.the_row ∷ MutRef (named 1) (lft_of w₂) K.the_row ∷ ShrSlice (named 2) κ₀
+        usize ∷ ShrSlice (named 3) κ₁ usize ∷ ShrSlice (named 4) κ₂ bool ∷ ShrSlice (named 5) κ₃ u64 ∷ ShrSlice (named 6) κ₄ u32 ∷ []) given given_at) ∷ []))
+        ((Call 𝓛 at_mem run).pre to_call)
+    goes_call = qed 𝓛 (Tokens ∷ ‵ (owns (ShrSlice (named 0) (lft_of w₁) T.the_row ∷ MutRef (named 1) (lft_of w₂) K.the_row ∷ ShrSlice (named 2) κ₀ usize ∷
+        ShrSlice (named 3) κ₁ usize ∷ ShrSlice (named 4) κ₂ bool ∷ ShrSlice (named 5) κ₃ u64 ∷ ShrSlice (named 6) κ₄ u32 ∷ []) given given_at) ∷ []) ∵ join ! $
         nothing ! $ move ! (1 ∷ 0 ∷ []) $ done !
 
-    is-result : (ws : Last) (u : Noted) → (v₂ : Val) → Is K.the_row ws.1.0 (v₂ ∷ []) → (z : Val) → Is E.the_row u (z ∷ []) → Is U.the_row
+    is_result : (ws : Last) (u : Noted) → (v₂ : Val) → Is K.the_row ws.1.0 (v₂ ∷ []) → (z : Val) → Is E.the_row u (z ∷ []) → Is U.the_row
         (record { clock = ws.1.0; answer = u }) ((vstruct (of_list (v₂ ∷ z ∷ []))) ∷ [])
-    is-result ws u v₂ is₂ z is = ((v₂ ∷ [], (z ∷ [], tt)), (refl, (is₂, (is, tt))))
+    is_result ws u v₂ is₂ z is = ((v₂ ∷ [], (z ∷ [], tt)), (refl, (is₂, (is, tt))))
 
     exits : (ws : Last) (u : Noted) → Does ws u → (v₂ : Val) → Is K.the_row ws.1.0 (v₂ ∷ []) → (z : Val) → Is E.the_row u (z ∷ []) → ent 𝓤
         (⋆ 𝓛 (‵ ftrue ∷ ‵ ftrue ∷ ‵ ftrue ∷ ‵ ftrue ∷ ‵ ftrue ∷ ‵ (flft κ₀ q₀) ∷ ‵ (flft κ₁ q₁) ∷ ‵ (flft κ₂ q₂) ∷ ‵ (flft κ₃ q₃) ∷ ‵ (flft κ₄ q₄) ∷ []))
@@ -185,7 +185,7 @@ module _ {M : Type 1} {𝓤 : Ura M} (𝓛 : Logic 𝓤) (at_mem : Memory → SP
         (6 ∷ 0 ∷ []) $ join ! $ frame ! $
         nothing ! $ move ! (5 ∷ 0 ∷ []) $ fjoin ! $ move ! (4 ∷ 0 ∷ []) $ fjoin ! $ move ! (3 ∷ 0 ∷ []) $ fjoin ! $ move ! (2 ∷ 0 ∷ []) $ fjoin ! $ move !
         (1 ∷ 0 ∷ []) $ fjoin ! $ nothing ! $ fjoin ! $ nothing ! $ fjoin ! $
-        owned ! U.the_row (Is U.the_row) (LL.makes U.the_type U'.the_plain 𝓛) (record { clock = ws.1.0; answer = u }) _ (is-result ws u v₂ is₂ z is) $
+        owned ! U.the_row (Is U.the_row) (LL.makes U.the_type U'.the_plain 𝓛) (record { clock = ws.1.0; answer = u }) _ (is_result ws u v₂ is₂ z is) $
         move ! (1 ∷ 0 ∷ []) $ done !
 
   module _ (C : Calls 𝓤 H) (Λ : Loops 𝓤 H) (fm : FmC 𝓤 H 𝓛.laws C) (known-call : Triple 𝓤 (C #call) (Call 𝓛 at_mem run)) where
@@ -218,15 +218,15 @@ module _ {M : Type 1} {𝓤 : Ura M} (𝓛 : Logic 𝓤) (at_mem : Memory → SP
         (1 ∷ []) $ drop ! $
         move ! (24 ∷ 11 ∷ []) $ use2 𝓛 (later (some (Shared 𝓛 T.the_row 168 l₈ tt room (named 0) x₁ was₁.1.0.1)))
         (shares_array 𝓛 T.the_row 168 l₈ tt room (named 0) x₁ was₁.1.0.1 _) $ await ! tt $ pick ! (λ w₁. split ! $ move ! (1 ∷ []) $ split ! $
-        move ! (24 ∷ 13 ∷ []) $ use2 𝓛 (later (some (LentValue 𝓛 K.the_row refl (named 1) l₉ x₂))) (lends-value 𝓛 K.the_row refl (named 1) l₉ x₂ _)
+        move ! (24 ∷ 13 ∷ []) $ use2 𝓛 (later (some (LentValue 𝓛 K.the_row refl (named 1) l₉ x₂))) (lends_value 𝓛 K.the_row refl (named 1) l₉ x₂ _)
         $ await ! tt $ pick ! (λ w₂. split ! $ move ! (1 ∷ []) $ split ! $
         -- `abandon`
         nothing ! $ move ! (12 ∷ 0 ∷ []) $ fjoin ! $ move ! (12 ∷ 0 ∷ []) $ fjoin ! $ move ! (12 ∷ 0 ∷ []) $ fjoin ! $ move ! (12 ∷ 0 ∷ []) $ fjoin ! $ move !
         (12 ∷ 0 ∷ []) $ fjoin ! $ move ! (1 ∷ 0 ∷ []) $ fjoin ! $ move ! (3 ∷ 0 ∷ []) $ fjoin ! $
         nothing ! $ move ! (6 ∷ 0 ∷ []) $ join ! $ move ! (6 ∷ 0 ∷ []) $ join ! $ move ! (6 ∷ 0 ∷ []) $ join ! $ move ! (6 ∷ 0 ∷ []) $ join ! $ move !
         (6 ∷ 0 ∷ []) $ join ! $ move ! (3 ∷ 0 ∷ []) $ join ! $ move ! (4 ∷ 0 ∷ []) $ join ! $
-        use2 𝓛 (raw ((Call 𝓛 at_mem run).pre (to-call l₈ w₁ l₉ w₂))) (goes-call l₈ w₁ l₉ w₂) $
-        calls_at ! fm (Call 𝓛 at_mem run) known-call (to-call l₈ w₁ l₉ w₂)
+        use2 𝓛 (raw ((Call 𝓛 at_mem run).pre (to_call l₈ w₁ l₉ w₂))) (goes_call l₈ w₁ l₉ w₂) $
+        calls_at ! fm (Call 𝓛 at_mem run) known-call (to_call l₈ w₁ l₉ w₂)
         (and_then ! (load ! (from ! (stop !)) (look ! 7 refl))
         (and_then ! (load ! (from ! (stop !)) (look ! 5 refl))
         (and_then ! (load ! (from ! (stop !)) (look ! 23 refl))
@@ -247,15 +247,15 @@ module _ {M : Type 1} {𝓤 : Ura M} (𝓛 : Logic 𝓤) (at_mem : Memory → SP
         (1 ∷ []) $ fsplit ! $ move ! (1 ∷ []) $ fsplit ! $ move ! (1 ∷ []) $ drop ! $
         -- they are back
         move ! (13 ∷ 15 ∷ []) $ use2 𝓛 (later (‵ (froom (ty_array (lone (T.the_row).mir) 168) l₈ 0)))
-        (array-room 𝓛 T.the_row 168 l₈ tt room (named 0) x₁ was₁.1.0.1 w₁) $ await ! tt $
+        (array_room 𝓛 T.the_row 168 l₈ tt room (named 0) x₁ was₁.1.0.1 w₁) $ await ! tt $
         move ! (13 ∷ 14 ∷ 6 ∷ []) $ use3 𝓛 (later (some (Here 𝓛 K.the_row refl (named 1) l₉ ws.1.0)))
-        (value-back 𝓛 K.the_row refl (named 1) l₉ w₂ ws.1.0) $ await ! tt $ pick ! (λ v₂. split ! $ move ! (1 ∷ []) $
+        (value_back 𝓛 K.the_row refl (named 1) l₉ w₂ ws.1.0) $ await ! tt $ pick ! (λ v₂. split ! $ move ! (1 ∷ []) $
         peeks ! K.the_row (Is K.the_row) (shows 𝓛 K.the_row) ws.1.0 (v₂ ∷ []) (λ is₂. drop ! $
         assigns ! (of_opd ! (load ! (from ! (stop !)) (look ! 0 refl))) (from ! (stop !))
         (init ! 13 refl ((LL.lawful K.the_type K'.the_laws 𝓛).typed ws.1.0 _ is₂).0) $
         assigns ! (agg ! (and_then ! (load ! (from ! (stop !)) (look ! 13 refl)) (and_then ! (load ! (from ! (stop !)) (look ! 21 refl)) (no_more !))))
         (from ! (stop !)) (init ! 39 refl ((LL.lawful U.the_type U'.the_laws 𝓛).typed (record { clock = ws.1.0; answer = u }) _
-        (is-result l₈ w₁ l₉ w₂ ws u v₂ is₂ z is)).0) $
+        (is_result l₈ w₁ l₉ w₂ ws u v₂ is₂ z is)).0) $
         returns ! (look ! 39 refl) $
         forget ! 39 refl $ forget ! 37 refl $ forget ! 35 refl $ forget ! 33 refl $ forget ! 31 refl $ forget ! 29 refl $ forget ! 27 refl $ forget ! 25 refl $
         forget ! 0 refl $ forget ! 21 refl $ forget ! 19 refl $ forget ! 17 refl $ forget ! 15 refl $ forget ! 13 refl $
@@ -269,9 +269,9 @@ module _ {M : Type 1} {𝓤 : Ura M} (𝓛 : Logic 𝓤) (at_mem : Memory → SP
 module _ {M : Type 1} {𝓤 : Ura M} (𝓛 : Logic 𝓤) (at_mem : Memory → SProp 𝓤) (run : Routine → Fun 𝓤) where
   open 𝓛 use {H}
 
-  held-walks : (C : Calls 𝓤 H) (Λ : Loops 𝓤 H) → FmC 𝓤 H 𝓛.laws C → Triple 𝓤 (C #call) (Call 𝓛 at_mem run)
+  held_walks : (C : Calls 𝓤 H) (Λ : Loops 𝓤 H) → FmC 𝓤 H 𝓛.laws C → Triple 𝓤 (C #call) (Call 𝓛 at_mem run)
       → Walks 𝓛 held.ended stayed (WpFn 𝓤 H C Λ code.function) (held.clauses 𝓛 at_mem run)
-  held-walks C Λ fm known-call = walked 𝓛 held.ended stayed (held.clauses 𝓛 at_mem run) (WpFn 𝓤 H C Λ code.function)
+  held_walks C Λ fm known-call = walked 𝓛 held.ended stayed (held.clauses 𝓛 at_mem run) (WpFn 𝓤 H C Λ code.function)
       (λ κs. (many, (vals, (shr_slice_vals, (shr_slice_vals, (shr_slice_vals, (shr_slice_vals, (shr_slice_vals, tt))))))))
       (λ κs. (
         Array-Tells T.the_row (LL.vals T.the_type T'.the_laws) (LL.tells T.the_type T'.the_laws) 168,
@@ -296,10 +296,10 @@ module _ {M : Type 1} {𝓤 : Ura M} (𝓛 : Logic 𝓤) (at_mem : Memory → SP
       are.0 are.1.0 are.1.1.0.0.1 are.1.1.1.0.0.1 are.1.1.1.1.0.0.1 are.1.1.1.1.1.0.0.1
       are.1.1.1.1.1.1.0.0.1 C Λ fm known-call))
 
-held-meets : {M : Type 1} {𝓤 : Ura M} (𝓛 : Logic 𝓤) → (at_mem : Memory → SProp 𝓤) (run : Routine → Fun 𝓤) (𝓣 : Tables 𝓤 𝓛.H) → Triple
+held_meets : {M : Type 1} {𝓤 : Ura M} (𝓛 : Logic 𝓤) → (at_mem : Memory → SProp 𝓤) (run : Routine → Fun 𝓤) (𝓣 : Tables 𝓤 𝓛.H) → Triple
     𝓤 (𝓣.C #call) (Call 𝓛 at_mem run)
     → Meets 𝓛 held.signature (WpFn 𝓤 𝓛.H 𝓣.C 𝓣.Λ code.function) (held.spec 𝓛 at_mem run)
-held-meets {𝓤 = 𝓤} 𝓛 at_mem run 𝓣 known-call =
+held_meets {𝓤 = 𝓤} 𝓛 at_mem run 𝓣 known-call =
     walk_Meets 𝓛 held.ended stayed (
       λ κs y f vs fits. 𝓛.laws.⇛_intro _,
       (
@@ -317,12 +317,12 @@ held-meets {𝓤 = 𝓤} 𝓛 at_mem run 𝓣 known-call =
       ),
     ) (held.clauses 𝓛 at_mem run)
     (WpFn 𝓤 𝓛.H 𝓣.C 𝓣.Λ code.function) (WpFn-mono 𝓤 𝓛.H 𝓛.laws 𝓣 code.function)
-    (held-walks 𝓛 at_mem run 𝓣.C 𝓣.Λ (fm_of 𝓤 𝓛.H 𝓛.laws 𝓣) known-call)
+    (held_walks 𝓛 at_mem run 𝓣.C 𝓣.Λ (fm_of 𝓤 𝓛.H 𝓛.laws 𝓣) known-call)
 
-pub abandon-spec : {M : Type 1} → stated.statement M
+pub abandon_spec : {M : Type 1} → stated.statement M
 unfolding code.routine tables_of
-abandon-spec 𝓤 𝓛 𝓜 𝓡 =
+abandon_spec 𝓤 𝓛 𝓜 𝓡 =
     entered 𝓤 𝓛.H (triple_of 𝓛 held.signature (held.spec 𝓛 𝓜.mem 𝓡.run))
     (tables 𝓤 𝓛.H 𝓜 𝓡 code.env).C (tables 𝓤 𝓛.H 𝓜 𝓡 code.env).Λ #held code.function (code.unfolded 𝓤 𝓛.H 𝓜 𝓡)
-    (held-meets 𝓛 𝓜.mem 𝓡.run (tables_of 𝓤 𝓛.H 𝓜 (tables 𝓤 𝓛.H 𝓜 𝓡 code.env))
+    (held_meets 𝓛 𝓜.mem 𝓡.run (tables_of 𝓤 𝓛.H 𝓜 (tables 𝓤 𝓛.H 𝓜 𝓡 code.env))
     (cited 𝓤 𝓛.H (Call 𝓛 𝓜.mem 𝓡.run) 𝓜 𝓡 code.env #call call-def.routine code.calls-face::advancing::abandon (call-thm.met 𝓤 𝓛 𝓜 𝓡)))

@@ -42,14 +42,14 @@ use denote.Triple.Statement.{Contract, Triple}
 use denote.Triple.Table.{entered, cited}
 use denote.Triple.Walked.{says, Stays, walk_of, Walks, ends_at, walked, walk_Meets}
 use Rattle.nodes.proofs.Passing.{passed_on}
-use Rattle.nodes.proofs.Lending.{Lease, lft-of}
-use Rattle.story.proofs.Locals.{ref-of, Shared, shares_array, array-room}
+use Rattle.nodes.proofs.Lending.{Lease, lft_of}
+use Rattle.story.proofs.Locals.{ref_of, Shared, shares_array, array_room}
 use Rattle.face_rules.specs.declared.Node.{Node}
 use Rattle.wheel_rules.specs.declared.calls.Clock.{Clock}
 use Rattle.wheel_rules.specs.declared.calls.Counted.{Counted}
-use Rattle.face_rules.specs.Face.{recordsOf}
-use Rattle.rules.specs.Wheel.{armedCount}
-use Rattle.wheel_rules.specs.Promise.{Promised, countedSays}
+use Rattle.face_rules.specs.Face.{records_of}
+use Rattle.rules.specs.Wheel.{armed_count}
+use Rattle.wheel_rules.specs.Promise.{Promised, counted_says}
 use Rattle.face_rules.specs.contracts.Node as T
 use Rattle.face_rules.proofs.Node.TheLaws as T'
 use Rattle.wheel_rules.specs.contracts.calls.Clock as K
@@ -124,14 +124,14 @@ module _ {M : Type 1} {𝓤 : Ura M} (𝓛 : Logic 𝓤) (at_mem : Memory → SP
   -- what is lent lies at b₁ and b₂
   module _ (b₁ : ℕ) (w₁ : Lease) where
     abbrev lives : (Lft × (Lft × (Lft × (Lft × (Lft × (Lft × Unit {0}))))))
-    lives = (lft-of w₁, (κ₀, (κ₁, (κ₂, (κ₃, (κ₄, tt))))))
+    lives = (lft_of w₁, (κ₀, (κ₁, (κ₂, (κ₃, (κ₄, tt))))))
 
     -- what is passed to `armed_count`, what it says of it at exit, and its promise
     abbrev given : (Bor (List Node) × (Clock × (Bor (List ℕ) × (Bor (List ℕ) × (Bor (List Bool) × (Bor (List ℕ) × (Bor (List ℕ) × Unit {0})))))))
-    given = (ref-of b₁ w₁.name x₁, (x₂, (x₃, (x₄, (x₅, (x₆, (x₇, tt)))))))
+    given = (ref_of b₁ w₁.name x₁, (x₂, (x₃, (x₄, (x₅, (x₆, (x₇, tt)))))))
 
-    abbrev given-at : (List Val × (List Val × (List Val × (List Val × (List Val × (List Val × (List Val × Unit {0})))))))
-    given-at = (
+    abbrev given_at : (List Val × (List Val × (List Val × (List Val × (List Val × (List Val × (List Val × Unit {0})))))))
+    given_at = (
       slice_val (b₁, 0) 168 ∷ [],
       (
         vals x₂,
@@ -149,23 +149,23 @@ module _ {M : Type 1} {𝓤 : Ura M} (𝓛 : Logic 𝓤) (at_mem : Memory → SP
     )
 
     abbrev Tokens : Item 𝓤
-    Tokens = ‵ (flft (lft-of w₁) full_share) ⊛ ‵ (flft κ₀ q₀) ⊛ ‵ (flft κ₁ q₁) ⊛ ‵ (flft κ₂ q₂) ⊛ ‵ (flft κ₃ q₃) ⊛ ‵ (flft κ₄ q₄) ⊛ ‵ ftrue
+    Tokens = ‵ (flft (lft_of w₁) full_share) ⊛ ‵ (flft κ₀ q₀) ⊛ ‵ (flft κ₁ q₁) ⊛ ‵ (flft κ₂ q₂) ⊛ ‵ (flft κ₃ q₃) ⊛ ‵ (flft κ₄ q₄) ⊛ ‵ ftrue
 
     abbrev Last : Type 0
     Last = Lasts calls.ended lives given
 
     abbrev Does : Last → Counted → Type 0
-    Does ws u = Promised armedCount (recordsOf x₃.now x₄.now x₁ x₅.now x₆.now x₇.now x₂)
-        (recordsOf x₃.now x₄.now x₁ x₅.now x₆.now x₇.now x₂) (countedSays u)
+    Does ws u = Promised armed_count (records_of x₃.now x₄.now x₁ x₅.now x₆.now x₇.now x₂)
+        (records_of x₃.now x₄.now x₁ x₅.now x₆.now x₇.now x₂) (counted_says u)
 
-    abbrev to-call : (Call 𝓛 at_mem run).Ghost
-    to-call = ((lives, (full_share, (q₀, (q₁, (q₂, (q₃, (q₄, tt)))))), tt, given, given-at), tt)
+    abbrev to_call : (Call 𝓛 at_mem run).Ghost
+    to_call = ((lives, (full_share, (q₀, (q₁, (q₂, (q₃, (q₄, tt)))))), tt, given, given_at), tt)
 
-    goes-call : ent 𝓤 (⋆ 𝓛 (Tokens ∷ ‵ (owns (ShrSlice (named 0) (lft-of w₁) T.the_row ∷ K.the_row ∷ ShrSlice (named 1) κ₀ usize ∷ ShrSlice (named 2) κ₁
-        usize ∷ ShrSlice (named 3) κ₂ bool ∷ ShrSlice (named 4) κ₃ u64 ∷ ShrSlice (named 5) κ₄ u32 ∷ []) given given-at) ∷ []))
-        ((Call 𝓛 at_mem run).pre to-call)
-    goes-call = qed 𝓛 (Tokens ∷ ‵ (owns (ShrSlice (named 0) (lft-of w₁) T.the_row ∷ K.the_row ∷ ShrSlice (named 1) κ₀ usize ∷ ShrSlice (named 2) κ₁ usize ∷
-        ShrSlice (named 3) κ₂ bool ∷ ShrSlice (named 4) κ₃ u64 ∷ ShrSlice (named 5) κ₄ u32 ∷ []) given given-at) ∷ []) ∵ join ! $ nothing ! $ move !
+    goes_call : ent 𝓤 (⋆ 𝓛 (Tokens ∷ ‵ (owns (ShrSlice (named 0) (lft_of w₁) T.the_row ∷ K.the_row ∷ ShrSlice (named 1) κ₀ usize ∷ ShrSlice (named 2) κ₁
+        usize ∷ ShrSlice (named 3) κ₂ bool ∷ ShrSlice (named 4) κ₃ u64 ∷ ShrSlice (named 5) κ₄ u32 ∷ []) given given_at) ∷ []))
+        ((Call 𝓛 at_mem run).pre to_call)
+    goes_call = qed 𝓛 (Tokens ∷ ‵ (owns (ShrSlice (named 0) (lft_of w₁) T.the_row ∷ K.the_row ∷ ShrSlice (named 1) κ₀ usize ∷ ShrSlice (named 2) κ₁ usize ∷
+        ShrSlice (named 3) κ₂ bool ∷ ShrSlice (named 4) κ₃ u64 ∷ ShrSlice (named 5) κ₄ u32 ∷ []) given given_at) ∷ []) ∵ join ! $ nothing ! $ move !
         (1 ∷ 0 ∷ []) $ done !
 
     exits : (ws : Last) (u : Counted) → Does ws u → (z : Val) → Is E.the_row u (z ∷ []) → ent 𝓤
@@ -214,8 +214,8 @@ module _ {M : Type 1} {𝓤 : Ura M} (𝓛 : Logic 𝓤) (at_mem : Memory → SP
         (9 ∷ 0 ∷ []) $ fjoin ! $ move ! (9 ∷ 0 ∷ []) $ fjoin ! $ move ! (1 ∷ 0 ∷ []) $ fjoin ! $
         nothing ! $ move ! (4 ∷ 0 ∷ []) $ join ! $ move ! (4 ∷ 0 ∷ []) $ join ! $ move ! (4 ∷ 0 ∷ []) $ join ! $ move ! (4 ∷ 0 ∷ []) $ join ! $ move !
         (4 ∷ 0 ∷ []) $ join ! $ move ! (3 ∷ 0 ∷ []) $ join ! $
-        use2 𝓛 (raw ((Call 𝓛 at_mem run).pre (to-call l₈ w₁))) (goes-call l₈ w₁) $
-        calls_at ! fm (Call 𝓛 at_mem run) known-call (to-call l₈ w₁)
+        use2 𝓛 (raw ((Call 𝓛 at_mem run).pre (to_call l₈ w₁))) (goes_call l₈ w₁) $
+        calls_at ! fm (Call 𝓛 at_mem run) known-call (to_call l₈ w₁)
         (and_then ! (load ! (from ! (stop !)) (look ! 2 refl))
         (and_then ! (load ! (from ! (stop !)) (look ! 17 refl))
         (and_then ! (load ! (from ! (stop !)) (look ! 15 refl))
@@ -236,7 +236,7 @@ module _ {M : Type 1} {𝓤 : Ura M} (𝓛 : Logic 𝓤) (at_mem : Memory → SP
         (1 ∷ []) $ fsplit ! $ move ! (1 ∷ []) $ fsplit ! $ move ! (1 ∷ []) $ drop ! $
         -- they are back
         move ! (12 ∷ 13 ∷ []) $ use2 𝓛 (later (‵ (froom (ty_array (lone (T.the_row).mir) 168) l₈ 0)))
-        (array-room 𝓛 T.the_row 168 l₈ tt room (named 0) x₁ was₁.1.0.1 w₁) $ await ! tt $
+        (array_room 𝓛 T.the_row 168 l₈ tt room (named 0) x₁ was₁.1.0.1 w₁) $ await ! tt $
         returns ! (look ! 32 refl) $
         forget ! 32 refl $ forget ! 30 refl $ forget ! 28 refl $ forget ! 26 refl $ forget ! 24 refl $ forget ! 22 refl $ forget ! 20 refl $ forget ! 18 refl $
         forget ! 15 refl $ forget ! 13 refl $
@@ -249,9 +249,9 @@ module _ {M : Type 1} {𝓤 : Ura M} (𝓛 : Logic 𝓤) (at_mem : Memory → SP
 module _ {M : Type 1} {𝓤 : Ura M} (𝓛 : Logic 𝓤) (at_mem : Memory → SProp 𝓤) (run : Routine → Fun 𝓤) where
   open 𝓛 use {H}
 
-  held-walks : (C : Calls 𝓤 H) (Λ : Loops 𝓤 H) → FmC 𝓤 H 𝓛.laws C → Triple 𝓤 (C #call) (Call 𝓛 at_mem run)
+  held_walks : (C : Calls 𝓤 H) (Λ : Loops 𝓤 H) → FmC 𝓤 H 𝓛.laws C → Triple 𝓤 (C #call) (Call 𝓛 at_mem run)
       → Walks 𝓛 held.ended stayed (WpFn 𝓤 H C Λ code.function) (held.clauses 𝓛 at_mem run)
-  held-walks C Λ fm known-call = walked 𝓛 held.ended stayed (held.clauses 𝓛 at_mem run) (WpFn 𝓤 H C Λ code.function)
+  held_walks C Λ fm known-call = walked 𝓛 held.ended stayed (held.clauses 𝓛 at_mem run) (WpFn 𝓤 H C Λ code.function)
       (λ κs. (many, (vals, (shr_slice_vals, (shr_slice_vals, (shr_slice_vals, (shr_slice_vals, (shr_slice_vals, tt))))))))
       (λ κs. (
         Array-Tells T.the_row (LL.vals T.the_type T'.the_laws) (LL.tells T.the_type T'.the_laws) 168,
@@ -276,10 +276,10 @@ module _ {M : Type 1} {𝓤 : Ura M} (𝓛 : Logic 𝓤) (at_mem : Memory → SP
       are.0 are.1.0 are.1.1.0.0.1 are.1.1.1.0.0.1 are.1.1.1.1.0.0.1 are.1.1.1.1.1.0.0.1
       are.1.1.1.1.1.1.0.0.1 C Λ fm known-call))
 
-held-meets : {M : Type 1} {𝓤 : Ura M} (𝓛 : Logic 𝓤) → (at_mem : Memory → SProp 𝓤) (run : Routine → Fun 𝓤) (𝓣 : Tables 𝓤 𝓛.H) → Triple
+held_meets : {M : Type 1} {𝓤 : Ura M} (𝓛 : Logic 𝓤) → (at_mem : Memory → SProp 𝓤) (run : Routine → Fun 𝓤) (𝓣 : Tables 𝓤 𝓛.H) → Triple
     𝓤 (𝓣.C #call) (Call 𝓛 at_mem run)
     → Meets 𝓛 held.signature (WpFn 𝓤 𝓛.H 𝓣.C 𝓣.Λ code.function) (held.spec 𝓛 at_mem run)
-held-meets {𝓤 = 𝓤} 𝓛 at_mem run 𝓣 known-call =
+held_meets {𝓤 = 𝓤} 𝓛 at_mem run 𝓣 known-call =
     walk_Meets 𝓛 held.ended stayed (
       λ κs y f vs fits. 𝓛.laws.⇛_intro _,
       (
@@ -297,12 +297,12 @@ held-meets {𝓤 = 𝓤} 𝓛 at_mem run 𝓣 known-call =
       ),
     ) (held.clauses 𝓛 at_mem run)
     (WpFn 𝓤 𝓛.H 𝓣.C 𝓣.Λ code.function) (WpFn-mono 𝓤 𝓛.H 𝓛.laws 𝓣 code.function)
-    (held-walks 𝓛 at_mem run 𝓣.C 𝓣.Λ (fm_of 𝓤 𝓛.H 𝓛.laws 𝓣) known-call)
+    (held_walks 𝓛 at_mem run 𝓣.C 𝓣.Λ (fm_of 𝓤 𝓛.H 𝓛.laws 𝓣) known-call)
 
-pub armed-count-spec : {M : Type 1} → stated.statement M
+pub armed_count_spec : {M : Type 1} → stated.statement M
 unfolding code.routine tables_of
-armed-count-spec 𝓤 𝓛 𝓜 𝓡 =
+armed_count_spec 𝓤 𝓛 𝓜 𝓡 =
     entered 𝓤 𝓛.H (triple_of 𝓛 held.signature (held.spec 𝓛 𝓜.mem 𝓡.run))
     (tables 𝓤 𝓛.H 𝓜 𝓡 code.env).C (tables 𝓤 𝓛.H 𝓜 𝓡 code.env).Λ #held code.function (code.unfolded 𝓤 𝓛.H 𝓜 𝓡)
-    (held-meets 𝓛 𝓜.mem 𝓡.run (tables_of 𝓤 𝓛.H 𝓜 (tables 𝓤 𝓛.H 𝓜 𝓡 code.env))
-    (cited 𝓤 𝓛.H (Call 𝓛 𝓜.mem 𝓡.run) 𝓜 𝓡 code.env #call call-def.routine code.calls-face::counts::armed-count (call-thm.met 𝓤 𝓛 𝓜 𝓡)))
+    (held_meets 𝓛 𝓜.mem 𝓡.run (tables_of 𝓤 𝓛.H 𝓜 (tables 𝓤 𝓛.H 𝓜 𝓡 code.env))
+    (cited 𝓤 𝓛.H (Call 𝓛 𝓜.mem 𝓡.run) 𝓜 𝓡 code.env #call call-def.routine code.calls-face::counts::armed_count_lem (call-thm.met 𝓤 𝓛 𝓜 𝓡)))

@@ -44,14 +44,14 @@ use denote.Triple.Table.{entered, cited}
 use denote.Triple.Walked.{says, Stays, walk_of, Walks, ends_at, walked, walk_Meets}
 use borrow.Struct.Items.{is_same}
 use Rattle.nodes.proofs.Passing.{passed_on}
-use Rattle.nodes.proofs.Lending.{Lease, lft-of}
-use Rattle.story.proofs.Locals.{ref-of, Local, Lent, lends-array, array_back, Here, LentValue, lends-value, value-back}
+use Rattle.nodes.proofs.Lending.{Lease, lft_of}
+use Rattle.story.proofs.Locals.{ref_of, Local, Lent, lends_array, array_back, Here, LentValue, lends_value, value_back}
 use Rattle.face_rules.specs.declared.Node.{Node}
 use Rattle.wheel_rules.specs.declared.calls.Clock.{Clock}
 use Rattle.wheel_rules.specs.declared.calls.Noted.{Noted}
-use Rattle.face_rules.specs.Face.{recordsOf}
+use Rattle.face_rules.specs.Face.{records_of}
 use Rattle.rules.specs.Wheel.{deschedule}
-use Rattle.wheel_rules.specs.Promise.{Promised, notedSays}
+use Rattle.wheel_rules.specs.Promise.{Promised, noted_says}
 use Rattle.face_rules.specs.contracts.Node as T
 use Rattle.face_rules.proofs.Node.TheLaws as T'
 use Rattle.wheel_rules.specs.contracts.calls.Clock as K
@@ -144,15 +144,15 @@ module _ {M : Type 1} {𝓤 : Ura M} (𝓛 : Logic 𝓤) (at_mem : Memory → SP
   -- what is lent lies at b₁ and b₂
   module _ (b₁ : ℕ) (w₁ : Lease) (b₂ : ℕ) (w₂ : Lease) where
     abbrev lives : (Lft × (Lft × (Lft × (Lft × (Lft × (Lft × (Lft × Unit {0})))))))
-    lives = (lft-of w₁, (lft-of w₂, (κ₀, (κ₁, (κ₂, (κ₃, (κ₄, tt)))))))
+    lives = (lft_of w₁, (lft_of w₂, (κ₀, (κ₁, (κ₂, (κ₃, (κ₄, tt)))))))
 
     -- what is passed to `deschedule`, what it says of it at exit, and its promise
     abbrev given : (MutBor (List Node) × (MutBor Clock × (MutBor (List ℕ) ×
         (MutBor (List ℕ) × (MutBor (List Bool) × (MutBor (List ℕ) × (MutBor (List ℕ) × (ℕ × (ℕ × (ℕ × Unit {0}))))))))))
-    given = (ref-of b₁ w₁.name x₁, (ref-of b₂ w₂.name x₂, (x₃, (x₄, (x₅, (x₆, (x₇, (m₈, (m₉, (m₁₀, tt))))))))))
+    given = (ref_of b₁ w₁.name x₁, (ref_of b₂ w₂.name x₂, (x₃, (x₄, (x₅, (x₆, (x₇, (m₈, (m₉, (m₁₀, tt))))))))))
 
-    abbrev given-at : (List Val × (List Val × (List Val × (List Val × (List Val × (List Val × (List Val × (List Val × (List Val × (List Val × Unit {0}))))))))))
-    given-at = (
+    abbrev given_at : (List Val × (List Val × (List Val × (List Val × (List Val × (List Val × (List Val × (List Val × (List Val × (List Val × Unit {0}))))))))))
+    given_at = (
       slice_val (b₁, 0) 168 ∷ [],
       (
         vptr b₂ 0 ∷ [],
@@ -173,29 +173,29 @@ module _ {M : Type 1} {𝓤 : Ura M} (𝓛 : Logic 𝓤) (at_mem : Memory → SP
     )
 
     abbrev Tokens : Item 𝓤
-    Tokens = ‵ (flft (lft-of w₁) full_share) ⊛ ‵ (flft (lft-of w₂) full_share) ⊛ ‵ (flft κ₀ q₀) ⊛ ‵ (flft κ₁ q₁) ⊛ ‵ (flft κ₂ q₂) ⊛ ‵ (flft κ₃ q₃) ⊛ ‵
+    Tokens = ‵ (flft (lft_of w₁) full_share) ⊛ ‵ (flft (lft_of w₂) full_share) ⊛ ‵ (flft κ₀ q₀) ⊛ ‵ (flft κ₁ q₁) ⊛ ‵ (flft κ₂ q₂) ⊛ ‵ (flft κ₃ q₃) ⊛ ‵
         (flft κ₄ q₄) ⊛ ‵ ftrue
 
     abbrev Last : Type 0
     Last = Lasts calls.ended lives given
 
     abbrev Does : Last → Noted → Type 0
-    Does ws u = Promised (deschedule m₈ m₉ m₁₀) (recordsOf x₃.now x₄.now x₁ x₅.now x₆.now x₇.now x₂)
-        (recordsOf ws.1.1.0 ws.1.1.1.0 ws.0 x₅.now x₆.now x₇.now ws.1.0) (notedSays u)
+    Does ws u = Promised (deschedule m₈ m₉ m₁₀) (records_of x₃.now x₄.now x₁ x₅.now x₆.now x₇.now x₂)
+        (records_of ws.1.1.0 ws.1.1.1.0 ws.0 x₅.now x₆.now x₇.now ws.1.0) (noted_says u)
 
-    abbrev to-call : (Call 𝓛 at_mem run).Ghost
-    to-call = ((lives, (full_share, (full_share, (q₀, (q₁, (q₂, (q₃, (q₄, tt))))))), tt, given, given-at), tt)
+    abbrev to_call : (Call 𝓛 at_mem run).Ghost
+    to_call = ((lives, (full_share, (full_share, (q₀, (q₁, (q₂, (q₃, (q₄, tt))))))), tt, given, given_at), tt)
 
-    goes-call : ent 𝓤 (⋆ 𝓛 (Tokens ∷ ‵ (owns (MutSlice (named 0) (lft-of w₁) T.the_row ∷ MutRef (named 1) (lft-of w₂) K.the_row ∷ MutSlice (named 2) κ₀
+    goes_call : ent 𝓤 (⋆ 𝓛 (Tokens ∷ ‵ (owns (MutSlice (named 0) (lft_of w₁) T.the_row ∷ MutRef (named 1) (lft_of w₂) K.the_row ∷ MutSlice (named 2) κ₀
         usize ∷ MutSlice (named 3) κ₁ usize ∷ ShrSlice (named 4) κ₂ bool ∷ ShrSlice (named 5) κ₃ u64 ∷ ShrSlice (named 6) κ₄ u32 ∷ usize ∷ u64 ∷ u32 ∷ [])
-        given given-at) ∷ [])) ((Call 𝓛 at_mem run).pre to-call)
-    goes-call = qed 𝓛 (Tokens ∷ ‵ (owns (MutSlice (named 0) (lft-of w₁) T.the_row ∷ MutRef (named 1) (lft-of w₂) K.the_row ∷ MutSlice (named 2) κ₀ usize ∷
+        given given_at) ∷ [])) ((Call 𝓛 at_mem run).pre to_call)
+    goes_call = qed 𝓛 (Tokens ∷ ‵ (owns (MutSlice (named 0) (lft_of w₁) T.the_row ∷ MutRef (named 1) (lft_of w₂) K.the_row ∷ MutSlice (named 2) κ₀ usize ∷
         MutSlice (named 3) κ₁ usize ∷ ShrSlice (named 4) κ₂ bool ∷ ShrSlice (named 5) κ₃ u64 ∷ ShrSlice (named 6) κ₄ u32 ∷ usize ∷ u64 ∷ u32 ∷ []) given
-        given-at) ∷ []) ∵ join ! $ nothing ! $ move ! (1 ∷ 0 ∷ []) $ done !
+        given_at) ∷ []) ∵ join ! $ nothing ! $ move ! (1 ∷ 0 ∷ []) $ done !
 
-    is-result : (ws : Last) (u : Noted) → (v₁ : Val) → Is (Array T.the_row 168) ws.0 (v₁ ∷ []) → (v₂ : Val) → Is K.the_row ws.1.0 (v₂ ∷ []) → (z : Val)
+    is_result : (ws : Last) (u : Noted) → (v₁ : Val) → Is (Array T.the_row 168) ws.0 (v₁ ∷ []) → (v₂ : Val) → Is K.the_row ws.1.0 (v₂ ∷ []) → (z : Val)
         → Is E.the_row u (z ∷ []) → Is U.the_row (record { nodes = ws.0; clock = ws.1.0; answer = u }) ((vstruct (of_list (v₁ ∷ v₂ ∷ z ∷ []))) ∷ [])
-    is-result ws u v₁ is₁ v₂ is₂ z is = (
+    is_result ws u v₁ is₁ v₂ is₂ z is = (
       (v₁ ∷ [], (v₂ ∷ [], (z ∷ [], tt))),
       (refl, (is_same (field T.the_type).row Node (T.the_type).to (T.the_type).to_one 168 ws.0 (v₁ ∷ []) is₁, (is₂, (is, tt)))),
     )
@@ -220,7 +220,7 @@ module _ {M : Type 1} {𝓤 : Ura M} (𝓛 : Logic 𝓤) (at_mem : Memory → SP
         (4 ∷ 0 ∷ []) $ fjoin ! $ move ! (3 ∷ 0 ∷ []) $ fjoin ! $ move ! (2 ∷ 0 ∷ []) $ fjoin ! $ move ! (1 ∷ 0 ∷ []) $ fjoin ! $ nothing ! $ fjoin ! $
         nothing ! $ fjoin ! $
         owned ! U.the_row (Is U.the_row) (LL.makes U.the_type U'.the_plain 𝓛) (record { nodes = ws.0; clock = ws.1.0; answer = u }) _
-        (is-result ws u v₁ is₁ v₂ is₂ z is) $ move ! (1 ∷ 0 ∷ []) $ done !
+        (is_result ws u v₁ is₁ v₂ is₂ z is) $ move ! (1 ∷ 0 ∷ []) $ done !
 
   module _ (C : Calls 𝓤 H) (Λ : Loops 𝓤 H) (fm : FmC 𝓤 H 𝓛.laws C) (known-call : Triple 𝓤 (C #call) (Call 𝓛 at_mem run)) where
     walk : ent 𝓤 (on_entry 𝓛 held.signature (κ₀, (κ₁, (κ₂, (κ₃, (κ₄, tt))))) (q₀, (q₁, (q₂, (q₃, (q₄, tt))))) x at)
@@ -267,17 +267,17 @@ module _ {M : Type 1} {𝓤 : Ura M} (𝓛 : Logic 𝓤) (at_mem : Memory → SP
         move ! (56 ∷ []) $ split ! $ move ! (1 ∷ []) $ split ! $ move ! (1 ∷ []) $ split ! $ move ! (1 ∷ []) $ split ! $ move ! (1 ∷ []) $ split ! $ move !
         (1 ∷ []) $ drop ! $
         move ! (37 ∷ 14 ∷ []) $ use2 𝓛 (later (some (Lent 𝓛 T.the_row 168 l₁₁ tt room (named 0) x₁ was₁.1.0.1)))
-        (lends-array 𝓛 T.the_row 168 l₁₁ tt room (named 0) x₁ was₁.1.0.1 _) $ await ! tt $ pick ! (λ w₁. split ! $ move ! (1 ∷ []) $ split ! $
+        (lends_array 𝓛 T.the_row 168 l₁₁ tt room (named 0) x₁ was₁.1.0.1 _) $ await ! tt $ pick ! (λ w₁. split ! $ move ! (1 ∷ []) $ split ! $
         move ! (37 ∷ 16 ∷ []) $ use2 𝓛 (later (some (LentValue 𝓛 K.the_row refl (named 1) l₁₂ x₂)))
-        (lends-value 𝓛 K.the_row refl (named 1) l₁₂ x₂ _) $ await ! tt $ pick ! (λ w₂. split ! $ move ! (1 ∷ []) $ split ! $
+        (lends_value 𝓛 K.the_row refl (named 1) l₁₂ x₂ _) $ await ! tt $ pick ! (λ w₂. split ! $ move ! (1 ∷ []) $ split ! $
         -- `deschedule`
         nothing ! $ move ! (12 ∷ 0 ∷ []) $ fjoin ! $ move ! (12 ∷ 0 ∷ []) $ fjoin ! $ move ! (12 ∷ 0 ∷ []) $ fjoin ! $ move ! (12 ∷ 0 ∷ []) $ fjoin ! $ move !
         (12 ∷ 0 ∷ []) $ fjoin ! $ move ! (12 ∷ 0 ∷ []) $ fjoin ! $ move ! (12 ∷ 0 ∷ []) $ fjoin ! $ move ! (12 ∷ 0 ∷ []) $ fjoin ! $ move ! (1 ∷ 0 ∷ []) $
         fjoin ! $ move ! (3 ∷ 0 ∷ []) $ fjoin ! $
         nothing ! $ move ! (6 ∷ 0 ∷ []) $ join ! $ move ! (6 ∷ 0 ∷ []) $ join ! $ move ! (6 ∷ 0 ∷ []) $ join ! $ move ! (6 ∷ 0 ∷ []) $ join ! $ move !
         (6 ∷ 0 ∷ []) $ join ! $ move ! (3 ∷ 0 ∷ []) $ join ! $ move ! (4 ∷ 0 ∷ []) $ join ! $
-        use2 𝓛 (raw ((Call 𝓛 at_mem run).pre (to-call l₁₁ w₁ l₁₂ w₂))) (goes-call l₁₁ w₁ l₁₂ w₂) $
-        calls_at ! fm (Call 𝓛 at_mem run) known-call (to-call l₁₁ w₁ l₁₂ w₂)
+        use2 𝓛 (raw ((Call 𝓛 at_mem run).pre (to_call l₁₁ w₁ l₁₂ w₂))) (goes_call l₁₁ w₁ l₁₂ w₂) $
+        calls_at ! fm (Call 𝓛 at_mem run) known-call (to_call l₁₁ w₁ l₁₂ w₂)
         (and_then ! (load ! (from ! (stop !)) (look ! 17 refl))
         (and_then ! (load ! (from ! (stop !)) (look ! 15 refl))
         (and_then ! (load ! (from ! (stop !)) (look ! 11 refl))
@@ -306,7 +306,7 @@ module _ {M : Type 1} {𝓤 : Ura M} (𝓛 : Logic 𝓤) (at_mem : Memory → SP
         (array_back 𝓛 T.the_row 168 l₁₁ tt room (named 0) x₁ was₁.1.0.1 w₁ ws.0) $ await ! tt $ pick ! (λ v₁. split ! $ move ! (1 ∷ []) $
         peeks ! (Array T.the_row 168) (Is (Array T.the_row 168)) (shows 𝓛 (Array T.the_row 168)) ws.0 (v₁ ∷ []) (λ is₁. drop ! $
         move ! (15 ∷ 16 ∷ 9 ∷ []) $ use3 𝓛 (later (some (Here 𝓛 K.the_row refl (named 1) l₁₂ ws.1.0)))
-        (value-back 𝓛 K.the_row refl (named 1) l₁₂ w₂ ws.1.0) $ await ! tt $ pick ! (λ v₂. split ! $ move ! (1 ∷ []) $
+        (value_back 𝓛 K.the_row refl (named 1) l₁₂ w₂ ws.1.0) $ await ! tt $ pick ! (λ v₂. split ! $ move ! (1 ∷ []) $
         peeks ! K.the_row (Is K.the_row) (shows 𝓛 K.the_row) ws.1.0 (v₂ ∷ []) (λ is₂. drop ! $
         assigns ! (of_opd ! (load ! (from ! (stop !)) (look ! 1 refl))) (from ! (stop !))
         (init ! 17 refl ((Array-Lawful 𝓛 T.the_row (LL.lawful T.the_type T'.the_laws 𝓛) 168).typed ws.0 _ is₁).0) $
@@ -315,7 +315,7 @@ module _ {M : Type 1} {𝓤 : Ura M} (𝓛 : Logic 𝓤) (at_mem : Memory → SP
         assigns ! (agg ! (and_then ! (load ! (from ! (stop !)) (look ! 17 refl))
         (and_then ! (load ! (from ! (stop !)) (look ! 15 refl)) (and_then ! (load ! (from ! (stop !)) (look ! 33 refl)) (no_more !))))) (from ! (stop !))
         (init ! 57 refl ((LL.lawful U.the_type U'.the_laws 𝓛).typed (record { nodes = ws.0; clock = ws.1.0; answer = u }) _
-        (is-result l₁₁ w₁ l₁₂ w₂ ws u v₁ is₁ v₂ is₂ z is)).0) $
+        (is_result l₁₁ w₁ l₁₂ w₂ ws u v₁ is₁ v₂ is₂ z is)).0) $
         returns ! (look ! 57 refl) $
         forget ! 57 refl $ forget ! 55 refl $ forget ! 53 refl $ forget ! 51 refl $ forget ! 49 refl $ forget ! 47 refl $ forget ! 45 refl $ forget ! 43 refl $
         forget ! 41 refl $ forget ! 39 refl $ forget ! 37 refl $ forget ! 1 refl $ forget ! 0 refl $ forget ! 33 refl $ forget ! 31 refl $ forget ! 29 refl
@@ -332,9 +332,9 @@ module _ {M : Type 1} {𝓤 : Ura M} (𝓛 : Logic 𝓤) (at_mem : Memory → SP
 module _ {M : Type 1} {𝓤 : Ura M} (𝓛 : Logic 𝓤) (at_mem : Memory → SProp 𝓤) (run : Routine → Fun 𝓤) where
   open 𝓛 use {H}
 
-  held-walks : (C : Calls 𝓤 H) (Λ : Loops 𝓤 H) → FmC 𝓤 H 𝓛.laws C → Triple 𝓤 (C #call) (Call 𝓛 at_mem run)
+  held_walks : (C : Calls 𝓤 H) (Λ : Loops 𝓤 H) → FmC 𝓤 H 𝓛.laws C → Triple 𝓤 (C #call) (Call 𝓛 at_mem run)
       → Walks 𝓛 held.ended stayed (WpFn 𝓤 H C Λ code.function) (held.clauses 𝓛 at_mem run)
-  held-walks C Λ fm known-call = walked 𝓛 held.ended stayed (held.clauses 𝓛 at_mem run) (WpFn 𝓤 H C Λ code.function)
+  held_walks C Λ fm known-call = walked 𝓛 held.ended stayed (held.clauses 𝓛 at_mem run) (WpFn 𝓤 H C Λ code.function)
       (λ κs. (many, (vals, (shr_slice_vals, (shr_slice_vals, (shr_slice_vals, (shr_slice_vals, (shr_slice_vals, (uint_vals w64, (uint_vals w64, (uint_vals w32, tt)))))))))))
       (λ κs. (
         Array-Tells T.the_row (LL.vals T.the_type T'.the_laws) (LL.tells T.the_type T'.the_laws) 168,
@@ -364,10 +364,10 @@ module _ {M : Type 1} {𝓤 : Ura M} (𝓛 : Logic 𝓤) (at_mem : Memory → SP
       are.1.1.1.1.1.1.0.0.1 are.1.1.1.1.1.1.1.0.1 are.1.1.1.1.1.1.1.1.0.1 are.1.1.1.1.1.1.1.1.1.0.1 C Λ fm
       known-call))
 
-held-meets : {M : Type 1} {𝓤 : Ura M} (𝓛 : Logic 𝓤) → (at_mem : Memory → SProp 𝓤) (run : Routine → Fun 𝓤) (𝓣 : Tables 𝓤 𝓛.H) → Triple
+held_meets : {M : Type 1} {𝓤 : Ura M} (𝓛 : Logic 𝓤) → (at_mem : Memory → SProp 𝓤) (run : Routine → Fun 𝓤) (𝓣 : Tables 𝓤 𝓛.H) → Triple
     𝓤 (𝓣.C #call) (Call 𝓛 at_mem run)
     → Meets 𝓛 held.signature (WpFn 𝓤 𝓛.H 𝓣.C 𝓣.Λ code.function) (held.spec 𝓛 at_mem run)
-held-meets {𝓤 = 𝓤} 𝓛 at_mem run 𝓣 known-call =
+held_meets {𝓤 = 𝓤} 𝓛 at_mem run 𝓣 known-call =
     walk_Meets 𝓛 held.ended stayed (
       λ κs y f vs fits. 𝓛.laws.⇛_intro _,
       (
@@ -392,12 +392,12 @@ held-meets {𝓤 = 𝓤} 𝓛 at_mem run 𝓣 known-call =
     )
     (held.clauses 𝓛 at_mem run)
     (WpFn 𝓤 𝓛.H 𝓣.C 𝓣.Λ code.function) (WpFn-mono 𝓤 𝓛.H 𝓛.laws 𝓣 code.function)
-    (held-walks 𝓛 at_mem run 𝓣.C 𝓣.Λ (fm_of 𝓤 𝓛.H 𝓛.laws 𝓣) known-call)
+    (held_walks 𝓛 at_mem run 𝓣.C 𝓣.Λ (fm_of 𝓤 𝓛.H 𝓛.laws 𝓣) known-call)
 
-pub deschedule-spec : {M : Type 1} → stated.statement M
+pub deschedule_spec : {M : Type 1} → stated.statement M
 unfolding code.routine tables_of
-deschedule-spec 𝓤 𝓛 𝓜 𝓡 =
+deschedule_spec 𝓤 𝓛 𝓜 𝓡 =
     entered 𝓤 𝓛.H (triple_of 𝓛 held.signature (held.spec 𝓛 𝓜.mem 𝓡.run))
     (tables 𝓤 𝓛.H 𝓜 𝓡 code.env).C (tables 𝓤 𝓛.H 𝓜 𝓡 code.env).Λ #held code.function (code.unfolded 𝓤 𝓛.H 𝓜 𝓡)
-    (held-meets 𝓛 𝓜.mem 𝓡.run (tables_of 𝓤 𝓛.H 𝓜 (tables 𝓤 𝓛.H 𝓜 𝓡 code.env))
+    (held_meets 𝓛 𝓜.mem 𝓡.run (tables_of 𝓤 𝓛.H 𝓜 (tables 𝓤 𝓛.H 𝓜 𝓡 code.env))
     (cited 𝓤 𝓛.H (Call 𝓛 𝓜.mem 𝓡.run) 𝓜 𝓡 code.env #call call-def.routine code.calls-face::timers::deschedule (call-thm.met 𝓤 𝓛 𝓜 𝓡)))

@@ -7,5 +7,5 @@ use Rattle.wheel.proofs.making.create.Tie as tie
 returns : tie.Need-returns
 returns c = search begins
 
-pub create-spec : {M : Type 1} → statement M
-create-spec = tie.close (tie.spec returns)
+pub create_spec : {M : Type 1} → statement M
+create_spec = tie.close (tie.spec returns)

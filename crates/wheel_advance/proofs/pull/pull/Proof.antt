@@ -1,10 +1,10 @@
 -- `pull` meets its contract.
-use borrow.Author.Tests.{not-true, not-false}
+use borrow.Author.Tests.{not_true, not-false}
 use Rattle.rules.specs.Places.{wheel01}
 use Rattle.wheel_rules.specs.Lent.{nodes}
 use Rattle.wheel_rules.specs.popping.Pop.{left}
-use Rattle.wheel_rules.proofs.pull.Pulling.{Pulling, pull-begins, pull-asks, pull-ends, pull-kept}
-use Rattle.wheel_rules.proofs.pull.Skipping.{skip-asks, skip-less, skip-again}
+use Rattle.wheel_rules.proofs.pull.Pulling.{Pulling, pull_begins, pull_asks, pull_ends, pull_kept}
+use Rattle.wheel_rules.proofs.pull.Skipping.{skip_asks, skip_less, skip_again}
 use native.Mathlib.Omega.{arith}
 use Rattle.wheel_advance.proofs.pull.pull.Statement.{statement}
 use Rattle.wheel_advance.proofs.pull.pull.Tie as tie
@@ -19,111 +19,111 @@ decreases-loop heads₀ tails₀ next₀ prev₀ bucket₀ entry₀ generation�
     bucket c
 
 loop-holds : tie.Need-loop-init invariant-loop decreases-loop
-loop-holds c = pull-begins _ _ _ _ c.before.before.before.before.before.before.before.before.before.before.requires
+loop-holds c = pull_begins _ _ _ _ c.before.before.before.before.before.before.before.before.before.before.requires
 
-take-turn-requires : tie.Need-take-turn-requires invariant-loop decreases-loop
-take-turn-requires c κs = pull-asks _ _ _ _ c.before.before.before.before.before.before.before.before.before.before.before.before.before.before.before.before.before.before.before.requires _ _ c.before.before.before.before.before.before.before.before.loop.invariant
+take_turn_requires : tie.Need-take-turn-requires invariant-loop decreases-loop
+take_turn_requires c κs = pull_asks _ _ _ _ c.before.before.before.before.before.before.before.before.before.before.before.before.before.before.before.before.before.before.before.requires _ _ c.before.before.before.before.before.before.before.before.loop.invariant
 
 same_length : tie.Need-same-length invariant-loop decreases-loop
 same_length c = omega (
   arith,
-  (pull-kept _ _ _ _ c.before.before.before.before.before.before.before.before.before.before.before.before.before.before.before.before.before.before.before.before.before.before.before.before.before.before.before.before.before.before.before.before.before.before.before.before.before.before.before.requires _ _
+  (pull_kept _ _ _ _ c.before.before.before.before.before.before.before.before.before.before.before.before.before.before.before.before.before.before.before.before.before.before.before.before.before.before.before.before.before.before.before.before.before.before.before.before.before.before.before.requires _ _
       c.before.before.before.before.before.before.before.before.before.before.before.before.before.before.before.before.before.before.before.before.before.before.before.before.before.before.before.before.loop.invariant _ _
-      c.before.before.before.before.before.before.before.before.before.before.before.before.before.before.before.before.before.before.before.take-turn.ensures (not-true _ c.if1.true)).heads,
+      c.before.before.before.before.before.before.before.before.before.before.before.before.before.before.before.before.before.before.before.take-turn.ensures (not_true _ c.if1.true)).heads,
 )
 
-same-length-2 : tie.Need-same-length-2 invariant-loop decreases-loop
-same-length-2 c = omega (
+same_length_2 : tie.Need-same-length-2 invariant-loop decreases-loop
+same_length_2 c = omega (
   arith,
-  (pull-kept _ _ _ _ c.before.before.before.before.before.before.before.before.before.before.before.before.before.before.before.before.before.before.before.before.before.before.before.before.before.before.before.before.before.before.before.before.before.before.before.before.before.before.before.requires _ _
+  (pull_kept _ _ _ _ c.before.before.before.before.before.before.before.before.before.before.before.before.before.before.before.before.before.before.before.before.before.before.before.before.before.before.before.before.before.before.before.before.before.before.before.before.before.before.before.requires _ _
       c.before.before.before.before.before.before.before.before.before.before.before.before.before.before.before.before.before.before.before.before.before.before.before.before.before.before.before.before.loop.invariant _ _
-      c.before.before.before.before.before.before.before.before.before.before.before.before.before.before.before.before.before.before.before.take-turn.ensures (not-true _ c.if1.true)).tails,
+      c.before.before.before.before.before.before.before.before.before.before.before.before.before.before.before.before.before.before.before.take-turn.ensures (not_true _ c.if1.true)).tails,
 )
 
-same-length-3 : tie.Need-same-length-3 invariant-loop decreases-loop
-same-length-3 c = omega (
+same_length_3 : tie.Need-same-length-3 invariant-loop decreases-loop
+same_length_3 c = omega (
   arith,
-  (pull-kept _ _ _ _ c.before.before.before.before.before.before.before.before.before.before.before.before.before.before.before.before.before.before.before.before.before.before.before.before.before.before.before.before.before.before.before.before.before.before.before.before.before.before.before.requires _ _
+  (pull_kept _ _ _ _ c.before.before.before.before.before.before.before.before.before.before.before.before.before.before.before.before.before.before.before.before.before.before.before.before.before.before.before.before.before.before.before.before.before.before.before.before.before.before.before.requires _ _
       c.before.before.before.before.before.before.before.before.before.before.before.before.before.before.before.before.before.before.before.before.before.before.before.before.before.before.before.before.loop.invariant _ _
-      c.before.before.before.before.before.before.before.before.before.before.before.before.before.before.before.before.before.before.before.take-turn.ensures (not-true _ c.if1.true)).next,
+      c.before.before.before.before.before.before.before.before.before.before.before.before.before.before.before.before.before.before.before.take-turn.ensures (not_true _ c.if1.true)).next,
 )
 
-same-length-4 : tie.Need-same-length-4 invariant-loop decreases-loop
-same-length-4 c = omega (
+same_length_4 : tie.Need-same-length-4 invariant-loop decreases-loop
+same_length_4 c = omega (
   arith,
-  (pull-kept _ _ _ _ c.before.before.before.before.before.before.before.before.before.before.before.before.before.before.before.before.before.before.before.before.before.before.before.before.before.before.before.before.before.before.before.before.before.before.before.before.before.before.before.requires _ _
+  (pull_kept _ _ _ _ c.before.before.before.before.before.before.before.before.before.before.before.before.before.before.before.before.before.before.before.before.before.before.before.before.before.before.before.before.before.before.before.before.before.before.before.before.before.before.before.requires _ _
       c.before.before.before.before.before.before.before.before.before.before.before.before.before.before.before.before.before.before.before.before.before.before.before.before.before.before.before.before.loop.invariant _ _
-      c.before.before.before.before.before.before.before.before.before.before.before.before.before.before.before.before.before.before.before.take-turn.ensures (not-true _ c.if1.true)).prev,
+      c.before.before.before.before.before.before.before.before.before.before.before.before.before.before.before.before.before.before.before.take-turn.ensures (not_true _ c.if1.true)).prev,
 )
 
-same-length-5 : tie.Need-same-length-5 invariant-loop decreases-loop
-same-length-5 c = omega (
+same_length_5 : tie.Need-same-length-5 invariant-loop decreases-loop
+same_length_5 c = omega (
   arith,
-  (pull-kept _ _ _ _ c.before.before.before.before.before.before.before.before.before.before.before.before.before.before.before.before.before.before.before.before.before.before.before.before.before.before.before.before.before.before.before.before.before.before.before.before.before.before.before.requires _ _
+  (pull_kept _ _ _ _ c.before.before.before.before.before.before.before.before.before.before.before.before.before.before.before.before.before.before.before.before.before.before.before.before.before.before.before.before.before.before.before.before.before.before.before.before.before.before.before.requires _ _
       c.before.before.before.before.before.before.before.before.before.before.before.before.before.before.before.before.before.before.before.before.before.before.before.before.before.before.before.before.loop.invariant _ _
-      c.before.before.before.before.before.before.before.before.before.before.before.before.before.before.before.before.before.before.before.take-turn.ensures (not-true _ c.if1.true)).home,
+      c.before.before.before.before.before.before.before.before.before.before.before.before.before.before.before.before.before.before.before.take-turn.ensures (not_true _ c.if1.true)).home,
 )
 
-same-length-6 : tie.Need-same-length-6 invariant-loop decreases-loop
-same-length-6 c = omega (
+same_length_6 : tie.Need-same-length-6 invariant-loop decreases-loop
+same_length_6 c = omega (
   arith,
-  (pull-kept _ _ _ _ c.before.before.before.before.before.before.before.before.before.before.before.before.before.before.before.before.before.before.before.before.before.before.before.before.before.before.before.before.before.before.before.before.before.before.before.before.before.before.before.requires _ _
+  (pull_kept _ _ _ _ c.before.before.before.before.before.before.before.before.before.before.before.before.before.before.before.before.before.before.before.before.before.before.before.before.before.before.before.before.before.before.before.before.before.before.before.before.before.before.before.requires _ _
       c.before.before.before.before.before.before.before.before.before.before.before.before.before.before.before.before.before.before.before.before.before.before.before.before.before.before.before.before.loop.invariant _ _
-      c.before.before.before.before.before.before.before.before.before.before.before.before.before.before.before.before.before.before.before.take-turn.ensures (not-true _ c.if1.true)).entry,
+      c.before.before.before.before.before.before.before.before.before.before.before.before.before.before.before.before.before.before.before.take-turn.ensures (not_true _ c.if1.true)).entry,
 )
 
-same-length-7 : tie.Need-same-length-7 invariant-loop decreases-loop
-same-length-7 c = omega (
+same_length_7 : tie.Need-same-length-7 invariant-loop decreases-loop
+same_length_7 c = omega (
   arith,
-  (pull-kept _ _ _ _ c.before.before.before.before.before.before.before.before.before.before.before.before.before.before.before.before.before.before.before.before.before.before.before.before.before.before.before.before.before.before.before.before.before.before.before.before.before.before.before.requires _ _
+  (pull_kept _ _ _ _ c.before.before.before.before.before.before.before.before.before.before.before.before.before.before.before.before.before.before.before.before.before.before.before.before.before.before.before.before.before.before.before.before.before.before.before.before.before.before.before.requires _ _
       c.before.before.before.before.before.before.before.before.before.before.before.before.before.before.before.before.before.before.before.before.before.before.before.before.before.before.before.before.loop.invariant _ _
-      c.before.before.before.before.before.before.before.before.before.before.before.before.before.before.before.before.before.before.before.take-turn.ensures (not-true _ c.if1.true)).generation,
+      c.before.before.before.before.before.before.before.before.before.before.before.before.before.before.before.before.before.before.before.take-turn.ensures (not_true _ c.if1.true)).generation,
 )
 
-same-length-8 : tie.Need-same-length-8 invariant-loop decreases-loop
-same-length-8 c = omega (
+same_length_8 : tie.Need-same-length-8 invariant-loop decreases-loop
+same_length_8 c = omega (
   arith,
-  (pull-kept _ _ _ _ c.before.before.before.before.before.before.before.before.before.before.before.before.before.before.before.before.before.before.before.before.before.before.before.before.before.before.before.before.before.before.before.before.before.before.before.before.before.before.before.requires _ _
+  (pull_kept _ _ _ _ c.before.before.before.before.before.before.before.before.before.before.before.before.before.before.before.before.before.before.before.before.before.before.before.before.before.before.before.before.before.before.before.before.before.before.before.before.before.before.before.requires _ _
       c.before.before.before.before.before.before.before.before.before.before.before.before.before.before.before.before.before.before.before.before.before.before.before.before.before.before.before.before.loop.invariant _ _
-      c.before.before.before.before.before.before.before.before.before.before.before.before.before.before.before.before.before.before.before.take-turn.ensures (not-true _ c.if1.true)).serial,
+      c.before.before.before.before.before.before.before.before.before.before.before.before.before.before.before.before.before.before.before.take-turn.ensures (not_true _ c.if1.true)).serial,
 )
 
 returns : tie.Need-returns invariant-loop decreases-loop
-returns c = pull-ends _ _ _ _ c.before.before.before.before.before.before.before.before.before.before.before.before.before.before.before.before.before.before.before.before.before.before.before.before.before.before.before.before.before.before.before.before.before.before.before.before.before.before.before.requires _ _ c.before.before.before.before.before.before.before.before.before.before.before.before.before.before.before.before.before.before.before.before.before.before.before.before.before.before.before.before.loop.invariant _ _
-    c.before.before.before.before.before.before.before.before.before.before.before.before.before.before.before.before.before.before.before.take-turn.ensures (not-true _ c.if1.true)
+returns c = pull_ends _ _ _ _ c.before.before.before.before.before.before.before.before.before.before.before.before.before.before.before.before.before.before.before.before.before.before.before.before.before.before.before.before.before.before.before.before.before.before.before.before.before.before.before.requires _ _ c.before.before.before.before.before.before.before.before.before.before.before.before.before.before.before.before.before.before.before.before.before.before.before.before.before.before.before.before.loop.invariant _ _
+    c.before.before.before.before.before.before.before.before.before.before.before.before.before.before.before.before.before.before.before.take-turn.ensures (not_true _ c.if1.true)
 
-pass-over-requires : tie.Need-pass-over-requires invariant-loop decreases-loop
-pass-over-requires c κs = skip-asks _ _ _ _ c.before.before.before.before.before.before.before.before.before.before.before.before.before.before.before.before.before.before.before.before.before.before.before.before.before.before.before.before.before.before.before.before.before.before.before.before.before.before.before.before.before.requires _ _
+pass_over_requires : tie.Need-pass-over-requires invariant-loop decreases-loop
+pass_over_requires c κs = skip_asks _ _ _ _ c.before.before.before.before.before.before.before.before.before.before.before.before.before.before.before.before.before.before.before.before.before.before.before.before.before.before.before.before.before.before.before.before.before.before.before.before.before.before.before.before.before.requires _ _
     c.before.before.before.before.before.before.before.before.before.before.before.before.before.before.before.before.before.before.before.before.before.before.before.before.before.before.before.before.before.before.loop.invariant _ _
     c.before.before.before.before.before.before.before.before.before.before.before.before.before.before.before.before.before.before.before.before.before.take-turn.ensures (not-false _ c.before.before.if1.false)
 
 loop-less : tie.Need-loop-smaller invariant-loop decreases-loop
-loop-less c = skip-less _ _ _ _ c.before.before.before.before.before.before.before.before.before.before.before.before.before.before.before.before.before.before.before.before.before.before.before.before.before.before.before.before.before.before.before.before.before.before.before.before.before.before.before.before.before.before.requires _ _
+loop-less c = skip_less _ _ _ _ c.before.before.before.before.before.before.before.before.before.before.before.before.before.before.before.before.before.before.before.before.before.before.before.before.before.before.before.before.before.before.before.before.before.before.before.before.before.before.before.before.before.before.requires _ _
     c.before.before.before.before.before.before.before.before.before.before.before.before.before.before.before.before.before.before.before.before.before.before.before.before.before.before.before.before.before.before.before.loop.invariant _ _
     c.before.before.before.before.before.before.before.before.before.before.before.before.before.before.before.before.before.before.before.before.before.before.take-turn.ensures (not-false _ c.before.before.before.if1.false) _ c.pass-over.ensures
 
 loop-again : tie.Need-loop-preserved invariant-loop decreases-loop
-loop-again c = skip-again _ _ _ _ c.before.before.before.before.before.before.before.before.before.before.before.before.before.before.before.before.before.before.before.before.before.before.before.before.before.before.before.before.before.before.before.before.before.before.before.before.before.before.before.before.before.before.requires _ _
+loop-again c = skip_again _ _ _ _ c.before.before.before.before.before.before.before.before.before.before.before.before.before.before.before.before.before.before.before.before.before.before.before.before.before.before.before.before.before.before.before.before.before.before.before.before.before.before.before.before.before.before.requires _ _
     c.before.before.before.before.before.before.before.before.before.before.before.before.before.before.before.before.before.before.before.before.before.before.before.before.before.before.before.before.before.before.before.loop.invariant _ _
     c.before.before.before.before.before.before.before.before.before.before.before.before.before.before.before.before.before.before.before.before.before.before.take-turn.ensures (not-false _ c.before.before.before.if1.false) _ c.pass-over.ensures
 
-pub pull-spec : {M : Type 1} → statement M
-pull-spec =
+pub pull_spec : {M : Type 1} → statement M
+pull_spec =
     tie.close
     (tie.spec
     invariant-loop
     decreases-loop
     loop-holds
-    take-turn-requires
+    take_turn_requires
     same_length
-    same-length-2
-    same-length-3
-    same-length-4
-    same-length-5
-    same-length-6
-    same-length-7
-    same-length-8
+    same_length_2
+    same_length_3
+    same_length_4
+    same_length_5
+    same_length_6
+    same_length_7
+    same_length_8
     returns
-    pass-over-requires
+    pass_over_requires
     loop-less
     loop-again)

@@ -1,48 +1,48 @@
 -- `lay_out_around` meets its contract.
-use Rattle.wheel_rules.proofs.layout.Ends.{laid-around}
+use Rattle.wheel_rules.proofs.layout.Ends.{laid_around}
 use borrow.Author.Rules.{rules}
 use Rattle.wheel_timers.proofs.around.lay_out_around.Statement.{statement}
 use Rattle.wheel_timers.proofs.around.lay_out_around.Tie as tie
 
-enabled-requires : tie.Need-enabled-requires
-enabled-requires c κs = search rules
+enabled_requires : tie.Need-enabled-requires
+enabled_requires c κs = search rules
 
-seat-ends-requires : tie.Need-seat-ends-requires
-seat-ends-requires c κs = search rules
+seat_ends_requires : tie.Need-seat-ends-requires
+seat_ends_requires c κs = search rules
 
-clear-entries-requires : tie.Need-clear-entries-requires
-clear-entries-requires c κs = search rules
+clear_entries_requires : tie.Need-clear-entries-requires
+clear_entries_requires c κs = search rules
 
 same_length : tie.Need-same-length
 same_length c = search rules
 
-same-length-2 : tie.Need-same-length-2
-same-length-2 c = search rules
+same_length_2 : tie.Need-same-length-2
+same_length_2 c = search rules
 
-same-length-3 : tie.Need-same-length-3
-same-length-3 c = search rules
+same_length_3 : tie.Need-same-length-3
+same_length_3 c = search rules
 
-same-length-4 : tie.Need-same-length-4
-same-length-4 c = search rules
+same_length_4 : tie.Need-same-length-4
+same_length_4 c = search rules
 
-same-length-5 : tie.Need-same-length-5
-same-length-5 c = search rules
+same_length_5 : tie.Need-same-length-5
+same_length_5 c = search rules
 
 returns : tie.Need-returns
-returns c = laid-around _ _ _ _ _ _ _ _ _ _ _ _ _ c.before.before.before.before.before.before.before.before.before.before.before.before.before.before.before.before.before.enabled.ensures
+returns c = laid_around _ _ _ _ _ _ _ _ _ _ _ _ _ c.before.before.before.before.before.before.before.before.before.before.before.before.before.before.before.before.before.enabled.ensures
     c.before.before.before.before.before.before.before.before.before.before.before.before.before.before.seat-ends.ensures
     c.before.before.before.before.before.before.clear-entries.ensures
 
-pub lay-out-around-spec : {M : Type 1} → statement M
-lay-out-around-spec =
+pub lay_out_around_spec : {M : Type 1} → statement M
+lay_out_around_spec =
     tie.close
     (tie.spec
-    enabled-requires
-    seat-ends-requires
-    clear-entries-requires
+    enabled_requires
+    seat_ends_requires
+    clear_entries_requires
     same_length
-    same-length-2
-    same-length-3
-    same-length-4
-    same-length-5
+    same_length_2
+    same_length_3
+    same_length_4
+    same_length_5
     returns)

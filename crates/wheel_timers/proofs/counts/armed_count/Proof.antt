@@ -1,6 +1,6 @@
 -- `armed_count` meets its contract.
 use borrow.Author.Rules.{rules}
-use Rattle.wheel_rules.proofs.records.Counting.{Counting, counting-begins, counting-again, counted-all}
+use Rattle.wheel_rules.proofs.records.Counting.{Counting, counting_begins, counting_again, counted_all}
 use Prim.Native.Nat.{◌-◌}
 use lib.ListN.{length}
 use Rattle.wheel_timers.proofs.counts.armed_count.Statement.{statement}
@@ -13,44 +13,44 @@ abbrev decreases-loop : tie.decreases-loop
 decreases-loop heads bucket total n₀ x₀ n x = length bucket - x
 
 loop-holds : tie.Need-loop-init invariant-loop decreases-loop
-loop-holds c = counting-begins _ _ (search rules)
+loop-holds c = counting_begins _ _ (search rules)
 
-mul-one : tie.Need-overflow-mul-one invariant-loop decreases-loop
-mul-one c = search rules
+mul_one : tie.Need-overflow-mul-one invariant-loop decreases-loop
+mul_one c = search rules
 
-shared-slice-read-one : tie.Need-shared-slice-read-one invariant-loop decreases-loop
-shared-slice-read-one c = search rules
+shared_slice_read_one : tie.Need-shared-slice-read-one invariant-loop decreases-loop
+shared_slice_read_one c = search rules
 
-one-requires : tie.Need-one-requires invariant-loop decreases-loop
-one-requires c κs = search rules
+one_requires : tie.Need-one-requires invariant-loop decreases-loop
+one_requires c κs = search rules
 
-add-n : tie.Need-overflow-add-n invariant-loop decreases-loop
-add-n c = search rules
+add_n : tie.Need-overflow-add-n invariant-loop decreases-loop
+add_n c = search rules
 
-add-x : tie.Need-overflow-add-x invariant-loop decreases-loop
-add-x c = search rules
+add_x : tie.Need-overflow-add-x invariant-loop decreases-loop
+add_x c = search rules
 
 loop-less : tie.Need-loop-smaller invariant-loop decreases-loop
 loop-less c = search rules
 
 loop-again : tie.Need-loop-preserved invariant-loop decreases-loop
-loop-again c = search counting-again
+loop-again c = search counting_again
 
 returns : tie.Need-returns invariant-loop decreases-loop
-returns c = search counted-all
+returns c = search counted_all
 
-pub armed-count-spec : {M : Type 1} → statement M
-armed-count-spec =
+pub armed_count_spec : {M : Type 1} → statement M
+armed_count_spec =
     tie.close
     (tie.spec
     invariant-loop
     decreases-loop
     loop-holds
-    mul-one
-    shared-slice-read-one
-    one-requires
-    add-n
-    add-x
+    mul_one
+    shared_slice_read_one
+    one_requires
+    add_n
+    add_x
     loop-less
     loop-again
     returns)

@@ -1,6 +1,6 @@
 -- `seat` meets its contract.
 use borrow.Author.Rules.{rules}
-use Rattle.wheel_rules.proofs.layout.Seating.{Seating, seating-begins, seating-asks, seating-again, seating-ends}
+use Rattle.wheel_rules.proofs.layout.Seating.{Seating, seating_begins, seating_asks, seating_again, seating_ends}
 use Rattle.deque_rules.specs.Links.{links}
 use Prim.Native.Nat.{◌-◌}
 use lib.ListN.{length}
@@ -14,57 +14,57 @@ invariant-loop heads₀ tails₀ next₀ prev₀ bucket₀ free₀ b₀ heads ta
 abbrev decreases-loop : tie.decreases-loop
 decreases-loop heads₀ tails₀ next₀ prev₀ bucket₀ free₀ b₀ heads tails next prev bucket free b = length heads₀ - b
 
-lay-out-requires : tie.Need-lay-out-requires invariant-loop decreases-loop
-lay-out-requires c κs = search rules
+lay_out_requires : tie.Need-lay-out-requires invariant-loop decreases-loop
+lay_out_requires c κs = search rules
 
 loop-holds : tie.Need-loop-init invariant-loop decreases-loop
-loop-holds c = seating-begins _ _ _ c.before.before.before.before.before.before.before.before.before.before.before.before.before.before.before.before.before.before.before.before.before.requires c.before.before.before.before.before.before.before.before.before.before.lay-out.ensures
+loop-holds c = seating_begins _ _ _ c.before.before.before.before.before.before.before.before.before.before.before.before.before.before.before.before.before.before.before.before.before.requires c.before.before.before.before.before.before.before.before.before.before.lay-out.ensures
 
-push-requires : tie.Need-push-requires invariant-loop decreases-loop
-push-requires c κs = search seating-asks
+push_requires : tie.Need-push-requires invariant-loop decreases-loop
+push_requires c κs = search seating_asks
 
-add-b : tie.Need-overflow-add-b invariant-loop decreases-loop
-add-b c = search rules
+add_b : tie.Need-overflow-add-b invariant-loop decreases-loop
+add_b c = search rules
 
 loop-less : tie.Need-loop-smaller invariant-loop decreases-loop
 loop-less c = search rules
 
 loop-again : tie.Need-loop-preserved invariant-loop decreases-loop
-loop-again c = search seating-again
+loop-again c = search seating_again
 
 same_length : tie.Need-same-length invariant-loop decreases-loop
 same_length c = search rules
 
-same-length-2 : tie.Need-same-length-2 invariant-loop decreases-loop
-same-length-2 c = search rules
+same_length_2 : tie.Need-same-length-2 invariant-loop decreases-loop
+same_length_2 c = search rules
 
-same-length-3 : tie.Need-same-length-3 invariant-loop decreases-loop
-same-length-3 c = search rules
+same_length_3 : tie.Need-same-length-3 invariant-loop decreases-loop
+same_length_3 c = search rules
 
-same-length-4 : tie.Need-same-length-4 invariant-loop decreases-loop
-same-length-4 c = search rules
+same_length_4 : tie.Need-same-length-4 invariant-loop decreases-loop
+same_length_4 c = search rules
 
-same-length-5 : tie.Need-same-length-5 invariant-loop decreases-loop
-same-length-5 c = search rules
+same_length_5 : tie.Need-same-length-5 invariant-loop decreases-loop
+same_length_5 c = search rules
 
 returns : tie.Need-returns invariant-loop decreases-loop
-returns c = search seating-ends
+returns c = search seating_ends
 
-pub seat-spec : {M : Type 1} → statement M
-seat-spec =
+pub seat_spec : {M : Type 1} → statement M
+seat_spec =
     tie.close
     (tie.spec
     invariant-loop
     decreases-loop
-    lay-out-requires
+    lay_out_requires
     loop-holds
-    push-requires
-    add-b
+    push_requires
+    add_b
     loop-less
     loop-again
     same_length
-    same-length-2
-    same-length-3
-    same-length-4
-    same-length-5
+    same_length_2
+    same_length_3
+    same_length_4
+    same_length_5
     returns)

@@ -5,14 +5,14 @@ use Rattle.wheel_rules.proofs.place.Tables.{first_below, index_below}
 use Rattle.wheel_timers.proofs.place.place_at.Statement.{statement}
 use Rattle.wheel_timers.proofs.place.place_at.Tie as tie
 
-index-at-requires : tie.Need-index-at-requires
-index-at-requires c κs = search rules
+index_at_requires : tie.Need-index-at-requires
+index_at_requires c κs = search rules
 
-level-first-requires : tie.Need-level-first-requires
-level-first-requires c κs = search rules
+level_first_requires : tie.Need-level-first-requires
+level_first_requires c κs = search rules
 
-add-t6 : tie.Need-overflow-add-t6
-add-t6 c =
+add_t6 : tie.Need-overflow-add-t6
+add_t6 c =
     record {
       fits = omega (
         arith,
@@ -23,14 +23,14 @@ add-t6 c =
       );
     }
 
-known-requires : tie.Need-known-requires
-known-requires c κs = search rules
+known_requires : tie.Need-known-requires
+known_requires c κs = search rules
 
-mul-t9 : tie.Need-overflow-mul-t9
-mul-t9 c = search rules
+mul_t9 : tie.Need-overflow-mul-t9
+mul_t9 c = search rules
 
-add-t10 : tie.Need-overflow-add-t10
-add-t10 c =
+add_t10 : tie.Need-overflow-add-t10
+add_t10 c =
     record {
       fits = omega (
         arith,
@@ -43,7 +43,7 @@ add-t10 c =
 returns : tie.Need-returns
 returns c = rw (c.before.level-first.ensures, c.before.before.index_at.ensures, c.known.ensures)
 
-pub place-at-spec : {M : Type 1} → statement M
-place-at-spec =
+pub place_at_spec : {M : Type 1} → statement M
+place_at_spec =
     tie.close
-    (tie.spec index-at-requires level-first-requires add-t6 known-requires mul-t9 add-t10 returns)
+    (tie.spec index_at_requires level_first_requires add_t6 known_requires mul_t9 add_t10 returns)

@@ -1,42 +1,42 @@
 -- `rearm` meets its contract.
-use Rattle.wheel_rules.proofs.timers.Timing.{rearm-asks, rearm-does}
+use Rattle.wheel_rules.proofs.timers.Timing.{rearm_asks, rearm_does}
 use borrow.Author.Rules.{rules}
 use Rattle.wheel_timers.proofs.timers.rearm.Statement.{statement}
 use Rattle.wheel_timers.proofs.timers.rearm.Tie as tie
 
-bucket-of-requires : tie.Need-bucket-of-requires
-bucket-of-requires c κs = search rules
+bucket_of_requires : tie.Need-bucket-of-requires
+bucket_of_requires c κs = search rules
 
-move-back-requires : tie.Need-move-back-requires
-move-back-requires c κs = search rearm-asks
+move_back_requires : tie.Need-move-back-requires
+move_back_requires c κs = search rearm_asks
 
 same_length : tie.Need-same-length
 same_length c = search rules
 
-same-length-2 : tie.Need-same-length-2
-same-length-2 c = search rules
+same_length_2 : tie.Need-same-length-2
+same_length_2 c = search rules
 
-same-length-3 : tie.Need-same-length-3
-same-length-3 c = search rules
+same_length_3 : tie.Need-same-length-3
+same_length_3 c = search rules
 
-same-length-4 : tie.Need-same-length-4
-same-length-4 c = search rules
+same_length_4 : tie.Need-same-length-4
+same_length_4 c = search rules
 
-same-length-5 : tie.Need-same-length-5
-same-length-5 c = search rules
+same_length_5 : tie.Need-same-length-5
+same_length_5 c = search rules
 
 returns : tie.Need-returns
-returns c = search rearm-does
+returns c = search rearm_does
 
-pub rearm-spec : {M : Type 1} → statement M
-rearm-spec =
+pub rearm_spec : {M : Type 1} → statement M
+rearm_spec =
     tie.close
     (tie.spec
-    bucket-of-requires
-    move-back-requires
+    bucket_of_requires
+    move_back_requires
     same_length
-    same-length-2
-    same-length-3
-    same-length-4
-    same-length-5
+    same_length_2
+    same_length_3
+    same_length_4
+    same_length_5
     returns)

@@ -12,17 +12,17 @@ decreases-loop to₀ ends b₀ to b = 165 - b
 loop-holds : tie.Need-loop-init invariant-loop decreases-loop
 loop-holds c = search rules
 
-mul-put : tie.Need-overflow-mul-put invariant-loop decreases-loop
-mul-put c = search rules
+mul_put : tie.Need-overflow-mul-put invariant-loop decreases-loop
+mul_put c = search rules
 
-element-copy-out-put : tie.Need-element-copy-out-put invariant-loop decreases-loop
-element-copy-out-put c = search rules
+element_copy_out_put : tie.Need-element-copy-out-put invariant-loop decreases-loop
+element_copy_out_put c = search rules
 
-put-requires : tie.Need-put-requires invariant-loop decreases-loop
-put-requires c κs = search rules
+put_requires : tie.Need-put-requires invariant-loop decreases-loop
+put_requires c κs = search rules
 
-add-b : tie.Need-overflow-add-b invariant-loop decreases-loop
-add-b c = search rules
+add_b : tie.Need-overflow-add-b invariant-loop decreases-loop
+add_b c = search rules
 
 loop-less : tie.Need-loop-smaller invariant-loop decreases-loop
 loop-less c = search rules
@@ -43,10 +43,10 @@ copy_spec =
     invariant-loop
     decreases-loop
     loop-holds
-    mul-put
-    element-copy-out-put
-    put-requires
-    add-b
+    mul_put
+    element_copy_out_put
+    put_requires
+    add_b
     loop-less
     loop-again
     same_length

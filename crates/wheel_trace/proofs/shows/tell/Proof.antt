@@ -12,14 +12,14 @@ decreases-loop heads tails next prev bucket entry generation serial dated deadli
 loop-holds : tie.Need-loop-init invariant-loop decreases-loop
 loop-holds c = search rules
 
-row-at-requires : tie.Need-row-at-requires invariant-loop decreases-loop
-row-at-requires c κs = search rules
+row_at_requires : tie.Need-row-at-requires invariant-loop decreases-loop
+row_at_requires c κs = search rules
 
-tell-row-requires : tie.Need-tell-row-requires invariant-loop decreases-loop
-tell-row-requires c κs = search rules
+tell_row_requires : tie.Need-tell-row-requires invariant-loop decreases-loop
+tell_row_requires c κs = search rules
 
-add-i : tie.Need-overflow-add-i invariant-loop decreases-loop
-add-i c = search rules
+add_i : tie.Need-overflow-add-i invariant-loop decreases-loop
+add_i c = search rules
 
 loop-less : tie.Need-loop-smaller invariant-loop decreases-loop
 loop-less c = search rules
@@ -30,16 +30,16 @@ loop-again c = search rules
 returns : tie.Need-returns invariant-loop decreases-loop
 returns c = search rules
 
-pub tell-spec : {M : Type 1} → statement M
-tell-spec =
+pub tell_spec : {M : Type 1} → statement M
+tell_spec =
     tie.close
     (tie.spec
     invariant-loop
     decreases-loop
     loop-holds
-    row-at-requires
-    tell-row-requires
-    add-i
+    row_at_requires
+    tell_row_requires
+    add_i
     loop-less
     loop-again
     returns)

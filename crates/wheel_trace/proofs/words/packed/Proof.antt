@@ -15,17 +15,17 @@ returns c = tt
 loop-holds : tie.Need-loop-init invariant-loop decreases-loop
 loop-holds c = search rules
 
-shared-slice-read-letter-of : tie.Need-shared-slice-read-letter-of invariant-loop decreases-loop
-shared-slice-read-letter-of c = search rules
+shared_slice_read_letter_of : tie.Need-shared-slice-read-letter-of invariant-loop decreases-loop
+shared_slice_read_letter_of c = search rules
 
-letter-of-requires : tie.Need-letter-of-requires invariant-loop decreases-loop
-letter-of-requires c κs = tt
+letter_of_requires : tie.Need-letter-of-requires invariant-loop decreases-loop
+letter_of_requires c κs = tt
 
 returns-2 : tie.Need-returns-2 invariant-loop decreases-loop
 returns-2 c = tt
 
-add-i : tie.Need-overflow-add-i invariant-loop decreases-loop
-add-i c = search rules
+add_i : tie.Need-overflow-add-i invariant-loop decreases-loop
+add_i c = search rules
 
 loop-less : tie.Need-loop-smaller invariant-loop decreases-loop
 loop-less c = search rules
@@ -36,18 +36,18 @@ loop-again c = search rules
 returns-3 : tie.Need-returns-3 invariant-loop decreases-loop
 returns-3 c = tt
 
-pub packed-spec : {M : Type 1} → statement M
-packed-spec =
+pub packed_spec : {M : Type 1} → statement M
+packed_spec =
     tie.close
     (tie.spec
     invariant-loop
     decreases-loop
     returns
     loop-holds
-    shared-slice-read-letter-of
-    letter-of-requires
+    shared_slice_read_letter_of
+    letter_of_requires
     returns-2
-    add-i
+    add_i
     loop-less
     loop-again
     returns-3)

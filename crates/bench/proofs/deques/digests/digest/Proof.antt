@@ -10,35 +10,35 @@ invariant-loop heads next element shown h₀ s₀ left₀ h s left = Unit {0}
 abbrev decreases-loop : tie.decreases-loop
 decreases-loop heads next element shown h₀ s₀ left₀ h s left = left
 
-digest-start-requires : tie.Need-digest-start-requires invariant-loop decreases-loop
-digest-start-requires c κs = tt
+digest_start_requires : tie.Need-digest-start-requires invariant-loop decreases-loop
+digest_start_requires c κs = tt
 
 returns : tie.Need-returns invariant-loop decreases-loop
 returns c = tt
 
-shared-slice-read-s : tie.Need-shared-slice-read-s invariant-loop decreases-loop
-shared-slice-read-s c = search rules
+shared_slice_read_s : tie.Need-shared-slice-read-s invariant-loop decreases-loop
+shared_slice_read_s c = search rules
 
 loop-holds : tie.Need-loop-init invariant-loop decreases-loop
 loop-holds c = tt
 
-sub-left : tie.Need-overflow-sub-left invariant-loop decreases-loop
-sub-left c = search rules
+sub_left : tie.Need-overflow-sub-left invariant-loop decreases-loop
+sub_left c = search rules
 
-mul-digest-step : tie.Need-overflow-mul-digest-step invariant-loop decreases-loop
-mul-digest-step c = search rules
+mul_digest_step : tie.Need-overflow-mul-digest-step invariant-loop decreases-loop
+mul_digest_step c = search rules
 
-shared-slice-read-digest-step : tie.Need-shared-slice-read-digest-step invariant-loop decreases-loop
-shared-slice-read-digest-step c = search rules
+shared_slice_read_digest_step : tie.Need-shared-slice-read-digest-step invariant-loop decreases-loop
+shared_slice_read_digest_step c = search rules
 
-digest-step-requires : tie.Need-digest-step-requires invariant-loop decreases-loop
-digest-step-requires c κs = tt
+digest_step_requires : tie.Need-digest-step-requires invariant-loop decreases-loop
+digest_step_requires c κs = tt
 
-mul-s : tie.Need-overflow-mul-s invariant-loop decreases-loop
-mul-s c = search rules
+mul_s : tie.Need-overflow-mul-s invariant-loop decreases-loop
+mul_s c = search rules
 
-shared-slice-read-s-2 : tie.Need-shared-slice-read-s-2 invariant-loop decreases-loop
-shared-slice-read-s-2 c = search rules
+shared_slice_read_s_2 : tie.Need-shared-slice-read-s-2 invariant-loop decreases-loop
+shared_slice_read_s_2 c = search rules
 
 loop-less : tie.Need-loop-smaller invariant-loop decreases-loop
 loop-less c = search rules
@@ -55,22 +55,22 @@ loop-again-2 c = tt
 returns-2 : tie.Need-returns-2 invariant-loop decreases-loop
 returns-2 c = tt
 
-pub digest-spec : {M : Type 1} → statement M
-digest-spec =
+pub digest_spec : {M : Type 1} → statement M
+digest_spec =
     tie.close
     (tie.spec
     invariant-loop
     decreases-loop
-    digest-start-requires
+    digest_start_requires
     returns
-    shared-slice-read-s
+    shared_slice_read_s
     loop-holds
-    sub-left
-    mul-digest-step
-    shared-slice-read-digest-step
-    digest-step-requires
-    mul-s
-    shared-slice-read-s-2
+    sub_left
+    mul_digest_step
+    shared_slice_read_digest_step
+    digest_step_requires
+    mul_s
+    shared_slice_read_s_2
     loop-less
     loop-again
     loop-less-2

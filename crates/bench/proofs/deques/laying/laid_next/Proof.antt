@@ -9,26 +9,26 @@ invariant-loop n count next₀ s₀ end next s = end ≤ 4096
 abbrev decreases-loop : tie.decreases-loop
 decreases-loop n count next₀ s₀ end next s = end - s
 
-within-requires : tie.Need-within-requires invariant-loop decreases-loop
-within-requires c κs = search rules
+within_requires : tie.Need-within-requires invariant-loop decreases-loop
+within_requires c κs = search rules
 
 loop-holds : tie.Need-loop-init invariant-loop decreases-loop
 loop-holds c = search rules
 
-add-after : tie.Need-overflow-add-after invariant-loop decreases-loop
-add-after c = search rules
+add_after : tie.Need-overflow-add-after invariant-loop decreases-loop
+add_after c = search rules
 
-after-requires : tie.Need-after-requires invariant-loop decreases-loop
-after-requires c κs = search rules
+after_requires : tie.Need-after-requires invariant-loop decreases-loop
+after_requires c κs = search rules
 
 mul_next : tie.Need-overflow-mul-next invariant-loop decreases-loop
 mul_next c = search rules
 
-array-write-next : tie.Need-array-write-next invariant-loop decreases-loop
-array-write-next c = search rules
+array_write_next : tie.Need-array-write-next invariant-loop decreases-loop
+array_write_next c = search rules
 
-add-s : tie.Need-overflow-add-s invariant-loop decreases-loop
-add-s c = search rules
+add_s : tie.Need-overflow-add-s invariant-loop decreases-loop
+add_s c = search rules
 
 loop-less : tie.Need-loop-smaller invariant-loop decreases-loop
 loop-less c = search rules
@@ -39,19 +39,19 @@ loop-again c = search rules
 returns : tie.Need-returns invariant-loop decreases-loop
 returns c = search rules
 
-pub laid-next-spec : {M : Type 1} → statement M
-laid-next-spec =
+pub laid_next_spec : {M : Type 1} → statement M
+laid_next_spec =
     tie.close
     (tie.spec
     invariant-loop
     decreases-loop
-    within-requires
+    within_requires
     loop-holds
-    add-after
-    after-requires
+    add_after
+    after_requires
     mul_next
-    array-write-next
-    add-s
+    array_write_next
+    add_s
     loop-less
     loop-again
     returns)

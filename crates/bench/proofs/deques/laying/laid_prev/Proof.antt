@@ -9,23 +9,23 @@ invariant-loop count prev₀ s₀ end prev s = (end ≤ 4096) × (1 ≤ s)
 abbrev decreases-loop : tie.decreases-loop
 decreases-loop count prev₀ s₀ end prev s = end - s
 
-within-requires : tie.Need-within-requires invariant-loop decreases-loop
-within-requires c κs = search rules
+within_requires : tie.Need-within-requires invariant-loop decreases-loop
+within_requires c κs = search rules
 
 loop-holds : tie.Need-loop-init invariant-loop decreases-loop
 loop-holds c = search rules
 
-sub-prev : tie.Need-overflow-sub-prev invariant-loop decreases-loop
-sub-prev c = search rules
+sub_prev : tie.Need-overflow-sub-prev invariant-loop decreases-loop
+sub_prev c = search rules
 
-mul-prev : tie.Need-overflow-mul-prev invariant-loop decreases-loop
-mul-prev c = search rules
+mul_prev : tie.Need-overflow-mul-prev invariant-loop decreases-loop
+mul_prev c = search rules
 
-array-write-prev : tie.Need-array-write-prev invariant-loop decreases-loop
-array-write-prev c = search rules
+array_write_prev : tie.Need-array-write-prev invariant-loop decreases-loop
+array_write_prev c = search rules
 
-add-s : tie.Need-overflow-add-s invariant-loop decreases-loop
-add-s c = search rules
+add_s : tie.Need-overflow-add-s invariant-loop decreases-loop
+add_s c = search rules
 
 loop-less : tie.Need-loop-smaller invariant-loop decreases-loop
 loop-less c = search rules
@@ -36,18 +36,18 @@ loop-again c = search rules
 returns : tie.Need-returns invariant-loop decreases-loop
 returns c = search rules
 
-pub laid-prev-spec : {M : Type 1} → statement M
-laid-prev-spec =
+pub laid_prev_spec : {M : Type 1} → statement M
+laid_prev_spec =
     tie.close
     (tie.spec
     invariant-loop
     decreases-loop
-    within-requires
+    within_requires
     loop-holds
-    sub-prev
-    mul-prev
-    array-write-prev
-    add-s
+    sub_prev
+    mul_prev
+    array_write_prev
+    add_s
     loop-less
     loop-again
     returns)

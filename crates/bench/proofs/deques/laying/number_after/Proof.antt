@@ -12,11 +12,11 @@ decreases-loop count x number₀ left₀ number left = left
 loop-holds : tie.Need-loop-init invariant-loop decreases-loop
 loop-holds c = search rules
 
-following-requires : tie.Need-following-requires invariant-loop decreases-loop
-following-requires c κs = search rules
+following_requires : tie.Need-following-requires invariant-loop decreases-loop
+following_requires c κs = search rules
 
-sub-left : tie.Need-overflow-sub-left invariant-loop decreases-loop
-sub-left c = search rules
+sub_left : tie.Need-overflow-sub-left invariant-loop decreases-loop
+sub_left c = search rules
 
 loop-less : tie.Need-loop-smaller invariant-loop decreases-loop
 loop-less c = search rules
@@ -27,7 +27,7 @@ loop-again c = search rules
 returns : tie.Need-returns invariant-loop decreases-loop
 returns c = search rules
 
-pub number-after-spec : {M : Type 1} → statement M
-number-after-spec =
+pub number_after_spec : {M : Type 1} → statement M
+number_after_spec =
     tie.close
-    (tie.spec invariant-loop decreases-loop loop-holds following-requires sub-left loop-less loop-again returns)
+    (tie.spec invariant-loop decreases-loop loop-holds following_requires sub_left loop-less loop-again returns)

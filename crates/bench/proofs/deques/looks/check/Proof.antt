@@ -12,14 +12,14 @@ decreases-loop heads tails lens cursors next prev home element free calls sum₀
 loop-holds : tie.Need-loop-init invariant-loop decreases-loop
 loop-holds c = tt
 
-length-requires : tie.Need-length-requires invariant-loop decreases-loop
-length-requires c κs = tt
+length_requires : tie.Need-length-requires invariant-loop decreases-loop
+length_requires c κs = tt
 
-wrapping-add-u64-requires : tie.Need-wrapping-add-u64-requires invariant-loop decreases-loop
-wrapping-add-u64-requires c κs = tt
+wrapping_add_u64_requires : tie.Need-wrapping-add-u64-requires invariant-loop decreases-loop
+wrapping_add_u64_requires c κs = tt
 
-sub-left : tie.Need-overflow-sub-left invariant-loop decreases-loop
-sub-left c = search rules
+sub_left : tie.Need-overflow-sub-left invariant-loop decreases-loop
+sub_left c = search rules
 
 loop-less : tie.Need-loop-smaller invariant-loop decreases-loop
 loop-less c = search rules
@@ -30,16 +30,16 @@ loop-again c = tt
 returns : tie.Need-returns invariant-loop decreases-loop
 returns c = tt
 
-pub check-spec : {M : Type 1} → statement M
-check-spec =
+pub check_spec : {M : Type 1} → statement M
+check_spec =
     tie.close
     (tie.spec
     invariant-loop
     decreases-loop
     loop-holds
-    length-requires
-    wrapping-add-u64-requires
-    sub-left
+    length_requires
+    wrapping_add_u64_requires
+    sub_left
     loop-less
     loop-again
     returns)

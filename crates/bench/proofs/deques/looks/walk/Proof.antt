@@ -16,14 +16,14 @@ decreases-loop heads tails lens cursors₀ next prev home element free calls sum
 loop-holds : tie.Need-loop-init invariant-loop decreases-loop
 loop-holds c = search rules
 
-sub-left : tie.Need-overflow-sub-left invariant-loop decreases-loop
-sub-left c = search rules
+sub_left : tie.Need-overflow-sub-left invariant-loop decreases-loop
+sub_left c = search rules
 
-step-requires : tie.Need-step-requires invariant-loop decreases-loop
-step-requires c κs = search rules
+step_requires : tie.Need-step-requires invariant-loop decreases-loop
+step_requires c κs = search rules
 
-wrapping-add-u64-requires : tie.Need-wrapping-add-u64-requires invariant-loop decreases-loop
-wrapping-add-u64-requires c κs = tt
+wrapping_add_u64_requires : tie.Need-wrapping-add-u64-requires invariant-loop decreases-loop
+wrapping_add_u64_requires c κs = tt
 
 loop-less : tie.Need-loop-smaller invariant-loop decreases-loop
 loop-less c = search rules
@@ -37,16 +37,16 @@ same_length c = search rules
 returns : tie.Need-returns invariant-loop decreases-loop
 returns c = tt
 
-pub walk-spec : {M : Type 1} → statement M
-walk-spec =
+pub walk_spec : {M : Type 1} → statement M
+walk_spec =
     tie.close
     (tie.spec
     invariant-loop
     decreases-loop
     loop-holds
-    sub-left
-    step-requires
-    wrapping-add-u64-requires
+    sub_left
+    step_requires
+    wrapping_add_u64_requires
     loop-less
     loop-again
     same_length

@@ -7,11 +7,11 @@ use Rattle.bench.proofs.deques.records.test.Tie as tie
 returns : tie.Need-returns
 returns c = search not_tested
 
-sound-requires : tie.Need-sound-requires
-sound-requires c κs = search rules
+sound_requires : tie.Need-sound-requires
+sound_requires c κs = search rules
 
 returns-2 : tie.Need-returns-2
 returns-2 c = search tested
 
-pub test-spec : {M : Type 1} → statement M
-test-spec = tie.close (tie.spec returns sound-requires returns-2)
+pub test_spec : {M : Type 1} → statement M
+test_spec = tie.close (tie.spec returns sound_requires returns-2)

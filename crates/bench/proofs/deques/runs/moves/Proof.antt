@@ -2,8 +2,8 @@
 use Rattle.std.proofs.Common.{take, sym}
 use Rattle.deque_rules.specs.Deque.{state}
 use Rattle.bench.specs.Ready.{Sized, Full}
-use Rattle.bench.proofs.DequeStanding.{tested-ready, full-asks, full_size, chosen-node}
-use Rattle.bench.proofs.DequeParts.{one_less, part-fits, part_length}
+use Rattle.bench.proofs.DequeStanding.{tested_ready, full_asks, full_size, chosen_node}
+use Rattle.bench.proofs.DequeParts.{one_less, part_fits, part_length}
 use Rattle.bench.proofs.DequeTurns.{shifted}
 use Rattle.bench.proofs.deques.runs.moves.Statement.{statement}
 use Rattle.bench.proofs.deques.runs.moves.Tie as tie
@@ -16,8 +16,8 @@ invariant-loop n calls first heads₀ tails₀ lens cursors₀ next₀ prev₀ h
 abbrev decreases-loop : tie.decreases-loop
 decreases-loop n calls first heads₀ tails₀ lens cursors₀ next₀ prev₀ home element free x₀ left₀ heads tails cursors next prev x left = left
 
-laid-requires : tie.Need-laid-requires invariant-loop decreases-loop
-laid-requires c κs = c.requires
+laid_requires : tie.Need-laid-requires invariant-loop decreases-loop
+laid_requires c κs = c.requires
 
 returns : tie.Need-returns invariant-loop decreases-loop
 returns c = tt
@@ -25,77 +25,77 @@ returns c = tt
 returns-2 : tie.Need-returns-2 invariant-loop decreases-loop
 returns-2 c = tt
 
-number-after-requires : tie.Need-number-after-requires invariant-loop decreases-loop
-number-after-requires c κs = tt
+number_after_requires : tie.Need-number-after-requires invariant-loop decreases-loop
+number_after_requires c κs = tt
 
 loop-holds : tie.Need-loop-init invariant-loop decreases-loop
 loop-holds c =
     let m = c.before.before.before.before.before.before.before.before.before.before.before.before.laid.ensures in
     let z = m.sized in (
-      full-asks _ _ _ (tested-ready _ _ _ m.tested c.before.before.before.before.before.before.before.before.before.before.if1.false)
-          (part_length _ _ z.nodes z.next-len) c.before.if2.false,
+      full_asks _ _ _ (tested_ready _ _ _ m.tested c.before.before.before.before.before.before.before.before.before.before.if1.false)
+          (part_length _ _ z.nodes z.next_len) c.before.if2.false,
       z,
     )
 
-sub-left : tie.Need-overflow-sub-left invariant-loop decreases-loop
-sub-left c = c.loop-test.true
+sub_left : tie.Need-overflow-sub-left invariant-loop decreases-loop
+sub_left c = c.loop-test.true
 
-following-requires : tie.Need-following-requires invariant-loop decreases-loop
-following-requires c κs = tt
+following_requires : tie.Need-following-requires invariant-loop decreases-loop
+following_requires c κs = tt
 
-chosen-requires : tie.Need-chosen-requires invariant-loop decreases-loop
-chosen-requires c κs = let l = c.before.before.loop.invariant in full_size _ _ _ l.0 (part_length _ _ l.1.nodes l.1.next-len)
+chosen_requires : tie.Need-chosen-requires invariant-loop decreases-loop
+chosen_requires c κs = let l = c.before.before.loop.invariant in full_size _ _ _ l.0 (part_length _ _ l.1.nodes l.1.next_len)
 
-slice-aggregate-shift : tie.Need-slice-aggregate-shift invariant-loop decreases-loop
-slice-aggregate-shift c = sym c.before.before.before.before.loop.invariant.1.heads-len
+slice_aggregate_shift : tie.Need-slice-aggregate-shift invariant-loop decreases-loop
+slice_aggregate_shift c = sym c.before.before.before.before.loop.invariant.1.heads_len
 
-slice-aggregate-shift-2 : tie.Need-slice-aggregate-shift-2 invariant-loop decreases-loop
-slice-aggregate-shift-2 c = sym c.before.before.before.before.before.loop.invariant.1.tails-len
+slice_aggregate_shift_2 : tie.Need-slice-aggregate-shift-2 invariant-loop decreases-loop
+slice_aggregate_shift_2 c = sym c.before.before.before.before.before.loop.invariant.1.tails_len
 
-slice-aggregate-shift-3 : tie.Need-slice-aggregate-shift-3 invariant-loop decreases-loop
-slice-aggregate-shift-3 c = sym c.before.before.before.before.before.before.loop.invariant.1.lens-len
+slice_aggregate_shift_3 : tie.Need-slice-aggregate-shift-3 invariant-loop decreases-loop
+slice_aggregate_shift_3 c = sym c.before.before.before.before.before.before.loop.invariant.1.lens_len
 
-slice-aggregate-shift-4 : tie.Need-slice-aggregate-shift-4 invariant-loop decreases-loop
-slice-aggregate-shift-4 c = sym c.before.before.before.before.before.before.before.loop.invariant.1.cursors-len
+slice_aggregate_shift_4 : tie.Need-slice-aggregate-shift-4 invariant-loop decreases-loop
+slice_aggregate_shift_4 c = sym c.before.before.before.before.before.before.before.loop.invariant.1.cursors_len
 
-array-borrow-prefix-next : tie.Need-array-borrow-prefix-next invariant-loop decreases-loop
-array-borrow-prefix-next c =
-    let l = c.before.before.before.before.before.before.before.loop in part-fits c.before.before.before.before.before.before.before.before.before.before.before.before.before.before.before.before.before.before.before.before.before.args.n l.next l.invariant.1.nodes l.invariant.1.next-len
+array_borrow_prefix_next : tie.Need-array-borrow-prefix-next invariant-loop decreases-loop
+array_borrow_prefix_next c =
+    let l = c.before.before.before.before.before.before.before.loop in part_fits c.before.before.before.before.before.before.before.before.before.before.before.before.before.before.before.before.before.before.before.before.before.args.n l.next l.invariant.1.nodes l.invariant.1.next_len
 
-slice-aggregate-shift-5 : tie.Need-slice-aggregate-shift-5 invariant-loop decreases-loop
-slice-aggregate-shift-5 c =
-    let l = c.before.before.before.before.before.before.before.before.loop.invariant.1 in sym (part_length _ _ l.nodes l.next-len)
+slice_aggregate_shift_5 : tie.Need-slice-aggregate-shift-5 invariant-loop decreases-loop
+slice_aggregate_shift_5 c =
+    let l = c.before.before.before.before.before.before.before.before.loop.invariant.1 in sym (part_length _ _ l.nodes l.next_len)
 
-array-borrow-prefix-prev : tie.Need-array-borrow-prefix-prev invariant-loop decreases-loop
-array-borrow-prefix-prev c =
-    let l = c.before.before.before.before.before.before.before.before.loop in part-fits c.before.before.before.before.before.before.before.before.before.before.before.before.before.before.before.before.before.before.before.before.before.before.args.n l.prev
-    l.invariant.1.nodes l.invariant.1.prev-len
+array_borrow_prefix_prev : tie.Need-array-borrow-prefix-prev invariant-loop decreases-loop
+array_borrow_prefix_prev c =
+    let l = c.before.before.before.before.before.before.before.before.loop in part_fits c.before.before.before.before.before.before.before.before.before.before.before.before.before.before.before.before.before.before.before.before.before.before.args.n l.prev
+    l.invariant.1.nodes l.invariant.1.prev_len
 
-slice-aggregate-shift-6 : tie.Need-slice-aggregate-shift-6 invariant-loop decreases-loop
-slice-aggregate-shift-6 c =
-    let l = c.before.before.before.before.before.before.before.before.before.loop.invariant.1 in sym (part_length _ _ l.nodes l.prev-len)
+slice_aggregate_shift_6 : tie.Need-slice-aggregate-shift-6 invariant-loop decreases-loop
+slice_aggregate_shift_6 c =
+    let l = c.before.before.before.before.before.before.before.before.before.loop.invariant.1 in sym (part_length _ _ l.nodes l.prev_len)
 
-array-share-prefix-home : tie.Need-array-share-prefix-home invariant-loop decreases-loop
-array-share-prefix-home c =
-    let z = c.before.before.before.before.before.before.before.before.before.loop.invariant.1 in part-fits c.before.before.before.before.before.before.before.before.before.before.before.before.before.before.before.before.before.before.before.before.before.before.before.args.n c.before.before.before.before.before.before.before.before.before.before.before.before.before.before.before.before.before.before.before.before.before.before.laid.result.home z.nodes z.home-len
+array_share_prefix_home : tie.Need-array-share-prefix-home invariant-loop decreases-loop
+array_share_prefix_home c =
+    let z = c.before.before.before.before.before.before.before.before.before.loop.invariant.1 in part_fits c.before.before.before.before.before.before.before.before.before.before.before.before.before.before.before.before.before.before.before.before.before.before.before.args.n c.before.before.before.before.before.before.before.before.before.before.before.before.before.before.before.before.before.before.before.before.before.before.laid.result.home z.nodes z.home_len
 
-slice-aggregate-shift-7 : tie.Need-slice-aggregate-shift-7 invariant-loop decreases-loop
-slice-aggregate-shift-7 c =
-    let l = c.before.before.before.before.before.before.before.before.before.before.loop.invariant.1 in sym (part_length _ _ l.nodes l.home-len)
+slice_aggregate_shift_7 : tie.Need-slice-aggregate-shift-7 invariant-loop decreases-loop
+slice_aggregate_shift_7 c =
+    let l = c.before.before.before.before.before.before.before.before.before.before.loop.invariant.1 in sym (part_length _ _ l.nodes l.home_len)
 
-array-share-prefix-element : tie.Need-array-share-prefix-element invariant-loop decreases-loop
-array-share-prefix-element c =
-    let z = c.before.before.before.before.before.before.before.before.before.before.loop.invariant.1 in part-fits c.before.before.before.before.before.before.before.before.before.before.before.before.before.before.before.before.before.before.before.before.before.before.before.before.args.n c.before.before.before.before.before.before.before.before.before.before.before.before.before.before.before.before.before.before.before.before.before.before.before.laid.result.element z.nodes z.element-len
+array_share_prefix_element : tie.Need-array-share-prefix-element invariant-loop decreases-loop
+array_share_prefix_element c =
+    let z = c.before.before.before.before.before.before.before.before.before.before.loop.invariant.1 in part_fits c.before.before.before.before.before.before.before.before.before.before.before.before.before.before.before.before.before.before.before.before.before.before.before.before.args.n c.before.before.before.before.before.before.before.before.before.before.before.before.before.before.before.before.before.before.before.before.before.before.before.laid.result.element z.nodes z.element_len
 
-slice-aggregate-shift-8 : tie.Need-slice-aggregate-shift-8 invariant-loop decreases-loop
-slice-aggregate-shift-8 c =
+slice_aggregate_shift_8 : tie.Need-slice-aggregate-shift-8 invariant-loop decreases-loop
+slice_aggregate_shift_8 c =
     let l = c.before.before.before.before.before.before.before.before.before.before.before.loop.invariant.1 in sym (part_length _ _ l.nodes
-    l.element-len)
+    l.element_len)
 
-shift-requires : tie.Need-shift-requires invariant-loop decreases-loop
-shift-requires c κs =
+shift_requires : tie.Need-shift-requires invariant-loop decreases-loop
+shift_requires c κs =
     let l = c.before.before.before.before.before.before.before.before.before.before.before.loop.invariant in
-    chosen-node _ _ _ _ l.0 (part_length _ _ l.1.nodes l.1.next-len) c.before.before.before.before.before.before.before.before.chosen.ensures
+    chosen_node _ _ _ _ l.0 (part_length _ _ l.1.nodes l.1.next_len) c.before.before.before.before.before.before.before.before.chosen.ensures
 
 loop-less : tie.Need-loop-smaller invariant-loop decreases-loop
 loop-less c =
@@ -108,62 +108,62 @@ loop-again c =
     shifted l.inv.1 m.new.0 m.new.1.0 m.new.1.1.1.0 m.new.1.1.1.1.0 m.new.1.1.1.1.1.0 c.before.before.before.before.heads3.given c.before.before.before.tails3.given c.before.before.cursors3.given c.before.next3.given c.prev3.given
     c.before.before.before.before.before.before.before.before.before.before.before.before.before.before.before.before.before.before.before.before.before.before.before.before.before.before.before.before.before.before.laid.result.free c.before.before.before.before.before.before.before.before.before.before.before.before.before.before.chosen.result l.inv.0 m.ensures
 
-slice-aggregate-digest : tie.Need-slice-aggregate-digest invariant-loop decreases-loop
-slice-aggregate-digest c = sym c.before.before.loop.invariant.1.heads-len
+slice_aggregate_digest : tie.Need-slice-aggregate-digest invariant-loop decreases-loop
+slice_aggregate_digest c = sym c.before.before.loop.invariant.1.heads_len
 
-array-share-prefix-next : tie.Need-array-share-prefix-next invariant-loop decreases-loop
-array-share-prefix-next c =
-    let l = c.before.before.loop in part-fits c.before.before.before.before.before.before.before.before.before.before.before.before.before.before.before.before.args.n l.next l.invariant.1.nodes l.invariant.1.next-len
+array_share_prefix_next : tie.Need-array-share-prefix-next invariant-loop decreases-loop
+array_share_prefix_next c =
+    let l = c.before.before.loop in part_fits c.before.before.before.before.before.before.before.before.before.before.before.before.before.before.before.before.args.n l.next l.invariant.1.nodes l.invariant.1.next_len
 
-slice-aggregate-digest-2 : tie.Need-slice-aggregate-digest-2 invariant-loop decreases-loop
-slice-aggregate-digest-2 c = let l = c.before.before.before.loop.invariant.1 in sym (part_length _ _ l.nodes l.next-len)
+slice_aggregate_digest_2 : tie.Need-slice-aggregate-digest-2 invariant-loop decreases-loop
+slice_aggregate_digest_2 c = let l = c.before.before.before.loop.invariant.1 in sym (part_length _ _ l.nodes l.next_len)
 
-array-share-prefix-element-2 : tie.Need-array-share-prefix-element-2 invariant-loop decreases-loop
-array-share-prefix-element-2 c =
-    let z = c.before.before.before.loop.invariant.1 in part-fits c.before.before.before.before.before.before.before.before.before.before.before.before.before.before.before.before.before.args.n c.before.before.before.before.before.before.before.before.before.before.before.before.before.before.before.before.laid.result.element z.nodes z.element-len
+array_share_prefix_element_2 : tie.Need-array-share-prefix-element-2 invariant-loop decreases-loop
+array_share_prefix_element_2 c =
+    let z = c.before.before.before.loop.invariant.1 in part_fits c.before.before.before.before.before.before.before.before.before.before.before.before.before.before.before.before.before.args.n c.before.before.before.before.before.before.before.before.before.before.before.before.before.before.before.before.laid.result.element z.nodes z.element_len
 
-slice-aggregate-digest-3 : tie.Need-slice-aggregate-digest-3 invariant-loop decreases-loop
-slice-aggregate-digest-3 c = let l = c.before.before.before.before.loop.invariant.1 in sym (part_length _ _ l.nodes l.element-len)
+slice_aggregate_digest_3 : tie.Need-slice-aggregate-digest-3 invariant-loop decreases-loop
+slice_aggregate_digest_3 c = let l = c.before.before.before.before.loop.invariant.1 in sym (part_length _ _ l.nodes l.element_len)
 
-digest-requires : tie.Need-digest-requires invariant-loop decreases-loop
-digest-requires c κs = tt
+digest_requires : tie.Need-digest-requires invariant-loop decreases-loop
+digest_requires c κs = tt
 
 returns-3 : tie.Need-returns-3 invariant-loop decreases-loop
 returns-3 c = tt
 
-pub moves-spec : {M : Type 1} → statement M
-moves-spec =
+pub moves_spec : {M : Type 1} → statement M
+moves_spec =
     tie.close
     (tie.spec
     invariant-loop
     decreases-loop
-    laid-requires
+    laid_requires
     returns
     returns-2
-    number-after-requires
+    number_after_requires
     loop-holds
-    sub-left
-    following-requires
-    chosen-requires
-    slice-aggregate-shift
-    slice-aggregate-shift-2
-    slice-aggregate-shift-3
-    slice-aggregate-shift-4
-    array-borrow-prefix-next
-    slice-aggregate-shift-5
-    array-borrow-prefix-prev
-    slice-aggregate-shift-6
-    array-share-prefix-home
-    slice-aggregate-shift-7
-    array-share-prefix-element
-    slice-aggregate-shift-8
-    shift-requires
+    sub_left
+    following_requires
+    chosen_requires
+    slice_aggregate_shift
+    slice_aggregate_shift_2
+    slice_aggregate_shift_3
+    slice_aggregate_shift_4
+    array_borrow_prefix_next
+    slice_aggregate_shift_5
+    array_borrow_prefix_prev
+    slice_aggregate_shift_6
+    array_share_prefix_home
+    slice_aggregate_shift_7
+    array_share_prefix_element
+    slice_aggregate_shift_8
+    shift_requires
     loop-less
     loop-again
-    slice-aggregate-digest
-    array-share-prefix-next
-    slice-aggregate-digest-2
-    array-share-prefix-element-2
-    slice-aggregate-digest-3
-    digest-requires
+    slice_aggregate_digest
+    array_share_prefix_next
+    slice_aggregate_digest_2
+    array_share_prefix_element_2
+    slice_aggregate_digest_3
+    digest_requires
     returns-3)

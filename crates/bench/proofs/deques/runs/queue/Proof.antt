@@ -3,8 +3,8 @@ use Rattle.std.proofs.Common.{get_or, take, sym, subst, lit<}
 use Rattle.deque_rules.specs.Deque.{State, state}
 use Rattle.deque_rules.specs.alone.Ready.{PushReady, NodeReady}
 use Rattle.bench.specs.Ready.{Sized}
-use Rattle.bench.proofs.DequeStanding.{tested-ready, push-asks}
-use Rattle.bench.proofs.DequeParts.{one_less, part-fits, part_length, left-fits, left-length, left-state}
+use Rattle.bench.proofs.DequeStanding.{tested_ready, push_asks}
+use Rattle.bench.proofs.DequeParts.{one_less, part_fits, part_length, left_fits, left_length, left_state}
 use Rattle.bench.proofs.DequeTurns.{pushed_front, popped}
 use Rattle.bench.proofs.deques.runs.queue.Statement.{statement}
 use Rattle.bench.proofs.deques.runs.queue.Tie as tie
@@ -18,8 +18,8 @@ abbrev decreases-loop : tie.decreases-loop
 decreases-loop n count calls first heads₀ tails₀ lens₀ cursors₀ next₀ prev₀ home₀ element₀ spare₀ sum₀ x₀ left₀ heads tails lens cursors next prev home element spare sum x left =
     left
 
-laid-requires : tie.Need-laid-requires invariant-loop decreases-loop
-laid-requires c κs = c.requires
+laid_requires : tie.Need-laid-requires invariant-loop decreases-loop
+laid_requires c κs = c.requires
 
 returns : tie.Need-returns invariant-loop decreases-loop
 returns c = tt
@@ -27,140 +27,140 @@ returns c = tt
 returns-2 : tie.Need-returns-2 invariant-loop decreases-loop
 returns-2 c = tt
 
-number-after-requires : tie.Need-number-after-requires invariant-loop decreases-loop
-number-after-requires c κs = tt
+number_after_requires : tie.Need-number-after-requires invariant-loop decreases-loop
+number_after_requires c κs = tt
 
 loop-holds : tie.Need-loop-init invariant-loop decreases-loop
 loop-holds c =
     let m = c.before.before.before.before.before.before.before.before.before.before.before.before.laid.ensures in
     let z = m.sized in (
-      push-asks _ _ _ (tested-ready _ _ _ m.tested c.before.before.before.before.before.before.before.before.before.before.if1.false)
-          (part_length _ _ z.nodes z.next-len) c.before.if2.false,
+      push_asks _ _ _ (tested_ready _ _ _ m.tested c.before.before.before.before.before.before.before.before.before.before.if1.false)
+          (part_length _ _ z.nodes z.next_len) c.before.if2.false,
       z,
     )
 
-sub-left : tie.Need-overflow-sub-left invariant-loop decreases-loop
-sub-left c = c.loop-test.true
+sub_left : tie.Need-overflow-sub-left invariant-loop decreases-loop
+sub_left c = c.loop-test.true
 
-following-requires : tie.Need-following-requires invariant-loop decreases-loop
-following-requires c κs = tt
+following_requires : tie.Need-following-requires invariant-loop decreases-loop
+following_requires c κs = tt
 
-slice-aggregate-push : tie.Need-slice-aggregate-push invariant-loop decreases-loop
-slice-aggregate-push c = sym c.before.before.before.loop.invariant.1.heads-len
+slice_aggregate_push : tie.Need-slice-aggregate-push invariant-loop decreases-loop
+slice_aggregate_push c = sym c.before.before.before.loop.invariant.1.heads_len
 
-slice-aggregate-push-2 : tie.Need-slice-aggregate-push-2 invariant-loop decreases-loop
-slice-aggregate-push-2 c = sym c.before.before.before.before.loop.invariant.1.tails-len
+slice_aggregate_push_2 : tie.Need-slice-aggregate-push-2 invariant-loop decreases-loop
+slice_aggregate_push_2 c = sym c.before.before.before.before.loop.invariant.1.tails_len
 
-slice-aggregate-push-3 : tie.Need-slice-aggregate-push-3 invariant-loop decreases-loop
-slice-aggregate-push-3 c = sym c.before.before.before.before.before.loop.invariant.1.lens-len
+slice_aggregate_push_3 : tie.Need-slice-aggregate-push-3 invariant-loop decreases-loop
+slice_aggregate_push_3 c = sym c.before.before.before.before.before.loop.invariant.1.lens_len
 
-slice-aggregate-push-4 : tie.Need-slice-aggregate-push-4 invariant-loop decreases-loop
-slice-aggregate-push-4 c = sym c.before.before.before.before.before.before.loop.invariant.1.cursors-len
+slice_aggregate_push_4 : tie.Need-slice-aggregate-push-4 invariant-loop decreases-loop
+slice_aggregate_push_4 c = sym c.before.before.before.before.before.before.loop.invariant.1.cursors_len
 
-array-borrow-prefix-next : tie.Need-array-borrow-prefix-next invariant-loop decreases-loop
-array-borrow-prefix-next c =
-    let l = c.before.before.before.before.before.before.loop in part-fits c.before.before.before.before.before.before.before.before.before.before.before.before.before.before.before.before.before.before.before.before.args.n l.next l.invariant.1.nodes l.invariant.1.next-len
+array_borrow_prefix_next : tie.Need-array-borrow-prefix-next invariant-loop decreases-loop
+array_borrow_prefix_next c =
+    let l = c.before.before.before.before.before.before.loop in part_fits c.before.before.before.before.before.before.before.before.before.before.before.before.before.before.before.before.before.before.before.before.args.n l.next l.invariant.1.nodes l.invariant.1.next_len
 
-slice-aggregate-push-5 : tie.Need-slice-aggregate-push-5 invariant-loop decreases-loop
-slice-aggregate-push-5 c = let z = c.before.before.before.before.before.before.before.loop.invariant.1 in sym (part_length _ _ z.nodes z.next-len)
+slice_aggregate_push_5 : tie.Need-slice-aggregate-push-5 invariant-loop decreases-loop
+slice_aggregate_push_5 c = let z = c.before.before.before.before.before.before.before.loop.invariant.1 in sym (part_length _ _ z.nodes z.next_len)
 
-array-borrow-prefix-prev : tie.Need-array-borrow-prefix-prev invariant-loop decreases-loop
-array-borrow-prefix-prev c =
-    let l = c.before.before.before.before.before.before.before.loop in part-fits c.before.before.before.before.before.before.before.before.before.before.before.before.before.before.before.before.before.before.before.before.before.args.n l.prev l.invariant.1.nodes l.invariant.1.prev-len
+array_borrow_prefix_prev : tie.Need-array-borrow-prefix-prev invariant-loop decreases-loop
+array_borrow_prefix_prev c =
+    let l = c.before.before.before.before.before.before.before.loop in part_fits c.before.before.before.before.before.before.before.before.before.before.before.before.before.before.before.before.before.before.before.before.before.args.n l.prev l.invariant.1.nodes l.invariant.1.prev_len
 
-slice-aggregate-push-6 : tie.Need-slice-aggregate-push-6 invariant-loop decreases-loop
-slice-aggregate-push-6 c =
-    let z = c.before.before.before.before.before.before.before.before.loop.invariant.1 in sym (part_length _ _ z.nodes z.prev-len)
+slice_aggregate_push_6 : tie.Need-slice-aggregate-push-6 invariant-loop decreases-loop
+slice_aggregate_push_6 c =
+    let z = c.before.before.before.before.before.before.before.before.loop.invariant.1 in sym (part_length _ _ z.nodes z.prev_len)
 
-array-borrow-prefix-home : tie.Need-array-borrow-prefix-home invariant-loop decreases-loop
-array-borrow-prefix-home c =
-    let l = c.before.before.before.before.before.before.before.before.loop in part-fits c.before.before.before.before.before.before.before.before.before.before.before.before.before.before.before.before.before.before.before.before.before.before.args.n l.home
-    l.invariant.1.nodes l.invariant.1.home-len
+array_borrow_prefix_home : tie.Need-array-borrow-prefix-home invariant-loop decreases-loop
+array_borrow_prefix_home c =
+    let l = c.before.before.before.before.before.before.before.before.loop in part_fits c.before.before.before.before.before.before.before.before.before.before.before.before.before.before.before.before.before.before.before.before.before.before.args.n l.home
+    l.invariant.1.nodes l.invariant.1.home_len
 
-slice-aggregate-push-7 : tie.Need-slice-aggregate-push-7 invariant-loop decreases-loop
-slice-aggregate-push-7 c =
-    let z = c.before.before.before.before.before.before.before.before.before.loop.invariant.1 in sym (part_length _ _ z.nodes z.home-len)
+slice_aggregate_push_7 : tie.Need-slice-aggregate-push-7 invariant-loop decreases-loop
+slice_aggregate_push_7 c =
+    let z = c.before.before.before.before.before.before.before.before.before.loop.invariant.1 in sym (part_length _ _ z.nodes z.home_len)
 
-array-borrow-prefix-element : tie.Need-array-borrow-prefix-element invariant-loop decreases-loop
-array-borrow-prefix-element c =
-    let l = c.before.before.before.before.before.before.before.before.before.loop in part-fits c.before.before.before.before.before.before.before.before.before.before.before.before.before.before.before.before.before.before.before.before.before.before.before.args.n l.element l.invariant.1.nodes l.invariant.1.element-len
+array_borrow_prefix_element : tie.Need-array-borrow-prefix-element invariant-loop decreases-loop
+array_borrow_prefix_element c =
+    let l = c.before.before.before.before.before.before.before.before.before.loop in part_fits c.before.before.before.before.before.before.before.before.before.before.before.before.before.before.before.before.before.before.before.before.before.before.before.args.n l.element l.invariant.1.nodes l.invariant.1.element_len
 
-slice-aggregate-push-8 : tie.Need-slice-aggregate-push-8 invariant-loop decreases-loop
-slice-aggregate-push-8 c =
-    let z = c.before.before.before.before.before.before.before.before.before.before.loop.invariant.1 in sym (part_length _ _ z.nodes z.element-len)
+slice_aggregate_push_8 : tie.Need-slice-aggregate-push-8 invariant-loop decreases-loop
+slice_aggregate_push_8 c =
+    let z = c.before.before.before.before.before.before.before.before.before.before.loop.invariant.1 in sym (part_length _ _ z.nodes z.element_len)
 
-push-requires : tie.Need-push-requires invariant-loop decreases-loop
-push-requires c κs = c.before.before.before.before.before.before.before.before.before.before.loop.invariant.0
+push_requires : tie.Need-push-requires invariant-loop decreases-loop
+push_requires c κs = c.before.before.before.before.before.before.before.before.before.before.loop.invariant.0
 
-array-read-spare : tie.Need-array-read-spare invariant-loop decreases-loop
-array-read-spare c = lit< tt
+array_read_spare : tie.Need-array-read-spare invariant-loop decreases-loop
+array_read_spare c = lit< tt
 
-slice-aggregate-release : tie.Need-slice-aggregate-release invariant-loop decreases-loop
-slice-aggregate-release c = sym c.before.before.before.before.before.before.before.heads3.given
+slice_aggregate_release : tie.Need-slice-aggregate-release invariant-loop decreases-loop
+slice_aggregate_release c = sym c.before.before.before.before.before.before.before.heads3.given
 
-slice-aggregate-release-2 : tie.Need-slice-aggregate-release-2 invariant-loop decreases-loop
-slice-aggregate-release-2 c = sym c.before.before.before.before.before.before.before.tails3.given
+slice_aggregate_release_2 : tie.Need-slice-aggregate-release-2 invariant-loop decreases-loop
+slice_aggregate_release_2 c = sym c.before.before.before.before.before.before.before.tails3.given
 
-slice-aggregate-release-3 : tie.Need-slice-aggregate-release-3 invariant-loop decreases-loop
-slice-aggregate-release-3 c = sym c.before.before.before.before.before.before.before.lens3.given
+slice_aggregate_release_3 : tie.Need-slice-aggregate-release-3 invariant-loop decreases-loop
+slice_aggregate_release_3 c = sym c.before.before.before.before.before.before.before.lens3.given
 
-slice-aggregate-release-4 : tie.Need-slice-aggregate-release-4 invariant-loop decreases-loop
-slice-aggregate-release-4 c =
-    sym c.before.before.before.before.before.before.before.before.before.before.before.before.before.before.before.before.before.before.before.before.before.before.loop.invariant.1.cursors-len
+slice_aggregate_release_4 : tie.Need-slice-aggregate-release-4 invariant-loop decreases-loop
+slice_aggregate_release_4 c =
+    sym c.before.before.before.before.before.before.before.before.before.before.before.before.before.before.before.before.before.before.before.before.before.before.loop.invariant.1.cursors_len
 
-array-borrow-prefix-next-2 : tie.Need-array-borrow-prefix-next-2 invariant-loop decreases-loop
-array-borrow-prefix-next-2 c =
+array_borrow_prefix_next_2 : tie.Need-array-borrow-prefix-next-2 invariant-loop decreases-loop
+array_borrow_prefix_next_2 c =
     let l = c.before.before.before.before.before.before.before.before.before.before.before.before.before.before.before.before.before.before.before.before.before.before.loop in
-    left-fits c.before.before.before.before.before.before.before.before.before.before.before.before.before.before.before.before.before.before.before.before.before.before.before.before.before.before.before.before.before.before.before.before.before.before.before.before.args.n l.next c.before.before.before.before.before.before.before.before.before.before.before.push.new.1.1.1.1.0
-    c.before.before.before.before.before.before.before.next3.given l.inv.1.nodes l.inv.1.next-len
+    left_fits c.before.before.before.before.before.before.before.before.before.before.before.before.before.before.before.before.before.before.before.before.before.before.before.before.before.before.before.before.before.before.before.before.before.before.before.before.args.n l.next c.before.before.before.before.before.before.before.before.before.before.before.push.new.1.1.1.1.0
+    c.before.before.before.before.before.before.before.next3.given l.inv.1.nodes l.inv.1.next_len
 
-slice-aggregate-release-5 : tie.Need-slice-aggregate-release-5 invariant-loop decreases-loop
-slice-aggregate-release-5 c =
+slice_aggregate_release_5 : tie.Need-slice-aggregate-release-5 invariant-loop decreases-loop
+slice_aggregate_release_5 c =
     let l = c.before.before.before.before.before.before.before.before.before.before.before.before.before.before.before.before.before.before.before.before.before.before.before.loop in
-    sym (left-length c.before.before.before.before.before.before.before.before.before.before.before.before.before.before.before.before.before.before.before.before.before.before.before.before.before.before.before.before.before.before.before.before.before.before.before.before.before.args.n l.next c.before.before.before.before.before.before.before.before.before.before.before.before.push.new.1.1.1.1.0 c.before.before.before.before.before.before.before.before.next3.given l.inv.1.nodes l.inv.1.next-len)
+    sym (left_length c.before.before.before.before.before.before.before.before.before.before.before.before.before.before.before.before.before.before.before.before.before.before.before.before.before.before.before.before.before.before.before.before.before.before.before.before.before.args.n l.next c.before.before.before.before.before.before.before.before.before.before.before.before.push.new.1.1.1.1.0 c.before.before.before.before.before.before.before.before.next3.given l.inv.1.nodes l.inv.1.next_len)
 
-array-borrow-prefix-prev-2 : tie.Need-array-borrow-prefix-prev-2 invariant-loop decreases-loop
-array-borrow-prefix-prev-2 c =
+array_borrow_prefix_prev_2 : tie.Need-array-borrow-prefix-prev-2 invariant-loop decreases-loop
+array_borrow_prefix_prev_2 c =
     let l = c.before.before.before.before.before.before.before.before.before.before.before.before.before.before.before.before.before.before.before.before.before.before.before.loop in
-    left-fits c.before.before.before.before.before.before.before.before.before.before.before.before.before.before.before.before.before.before.before.before.before.before.before.before.before.before.before.before.before.before.before.before.before.before.before.before.before.args.n l.prev c.before.before.before.before.before.before.before.before.before.before.before.before.push.new.1.1.1.1.1.0 c.before.before.before.before.before.before.before.prev3.given l.inv.1.nodes l.inv.1.prev-len
+    left_fits c.before.before.before.before.before.before.before.before.before.before.before.before.before.before.before.before.before.before.before.before.before.before.before.before.before.before.before.before.before.before.before.before.before.before.before.before.before.args.n l.prev c.before.before.before.before.before.before.before.before.before.before.before.before.push.new.1.1.1.1.1.0 c.before.before.before.before.before.before.before.prev3.given l.inv.1.nodes l.inv.1.prev_len
 
-slice-aggregate-release-6 : tie.Need-slice-aggregate-release-6 invariant-loop decreases-loop
-slice-aggregate-release-6 c =
+slice_aggregate_release_6 : tie.Need-slice-aggregate-release-6 invariant-loop decreases-loop
+slice_aggregate_release_6 c =
     let l = c.before.before.before.before.before.before.before.before.before.before.before.before.before.before.before.before.before.before.before.before.before.before.before.before.loop in
-    sym (left-length c.before.before.before.before.before.before.before.before.before.before.before.before.before.before.before.before.before.before.before.before.before.before.before.before.before.before.before.before.before.before.before.before.before.before.before.before.before.before.args.n l.prev c.before.before.before.before.before.before.before.before.before.before.before.before.before.push.new.1.1.1.1.1.0 c.before.before.before.before.before.before.before.before.prev3.given l.inv.1.nodes
-    l.inv.1.prev-len)
+    sym (left_length c.before.before.before.before.before.before.before.before.before.before.before.before.before.before.before.before.before.before.before.before.before.before.before.before.before.before.before.before.before.before.before.before.before.before.before.before.before.before.args.n l.prev c.before.before.before.before.before.before.before.before.before.before.before.before.before.push.new.1.1.1.1.1.0 c.before.before.before.before.before.before.before.before.prev3.given l.inv.1.nodes
+    l.inv.1.prev_len)
 
-array-borrow-prefix-home-2 : tie.Need-array-borrow-prefix-home-2 invariant-loop decreases-loop
-array-borrow-prefix-home-2 c =
+array_borrow_prefix_home_2 : tie.Need-array-borrow-prefix-home-2 invariant-loop decreases-loop
+array_borrow_prefix_home_2 c =
     let l = c.before.before.before.before.before.before.before.before.before.before.before.before.before.before.before.before.before.before.before.before.before.before.before.before.loop in
-    left-fits c.before.before.before.before.before.before.before.before.before.before.before.before.before.before.before.before.before.before.before.before.before.before.before.before.before.before.before.before.before.before.before.before.before.before.before.before.before.before.args.n l.home c.before.before.before.before.before.before.before.before.before.before.before.before.before.push.new.1.1.1.1.1.1.0 c.before.before.before.before.before.before.before.home3.given l.inv.1.nodes l.inv.1.home-len
+    left_fits c.before.before.before.before.before.before.before.before.before.before.before.before.before.before.before.before.before.before.before.before.before.before.before.before.before.before.before.before.before.before.before.before.before.before.before.before.before.before.args.n l.home c.before.before.before.before.before.before.before.before.before.before.before.before.before.push.new.1.1.1.1.1.1.0 c.before.before.before.before.before.before.before.home3.given l.inv.1.nodes l.inv.1.home_len
 
-slice-aggregate-release-7 : tie.Need-slice-aggregate-release-7 invariant-loop decreases-loop
-slice-aggregate-release-7 c =
+slice_aggregate_release_7 : tie.Need-slice-aggregate-release-7 invariant-loop decreases-loop
+slice_aggregate_release_7 c =
     let l = c.before.before.before.before.before.before.before.before.before.before.before.before.before.before.before.before.before.before.before.before.before.before.before.before.before.loop in
-    sym (left-length c.before.before.before.before.before.before.before.before.before.before.before.before.before.before.before.before.before.before.before.before.before.before.before.before.before.before.before.before.before.before.before.before.before.before.before.before.before.before.before.args.n l.home c.before.before.before.before.before.before.before.before.before.before.before.before.before.before.push.new.1.1.1.1.1.1.0 c.before.before.before.before.before.before.before.before.home3.given
-    l.inv.1.nodes l.inv.1.home-len)
+    sym (left_length c.before.before.before.before.before.before.before.before.before.before.before.before.before.before.before.before.before.before.before.before.before.before.before.before.before.before.before.before.before.before.before.before.before.before.before.before.before.before.before.args.n l.home c.before.before.before.before.before.before.before.before.before.before.before.before.before.before.push.new.1.1.1.1.1.1.0 c.before.before.before.before.before.before.before.before.home3.given
+    l.inv.1.nodes l.inv.1.home_len)
 
-array-borrow-prefix-element-2 : tie.Need-array-borrow-prefix-element-2 invariant-loop decreases-loop
-array-borrow-prefix-element-2 c =
+array_borrow_prefix_element_2 : tie.Need-array-borrow-prefix-element-2 invariant-loop decreases-loop
+array_borrow_prefix_element_2 c =
     let l = c.before.before.before.before.before.before.before.before.before.before.before.before.before.before.before.before.before.before.before.before.before.before.before.before.before.loop in
-    left-fits c.before.before.before.before.before.before.before.before.before.before.before.before.before.before.before.before.before.before.before.before.before.before.before.before.before.before.before.before.before.before.before.before.before.before.before.before.before.before.before.args.n l.element c.before.before.before.before.before.before.before.before.before.before.before.before.before.before.push.new.1.1.1.1.1.1.1.0 c.before.before.before.before.before.before.before.element3.given l.inv.1.nodes l.inv.1.element-len
+    left_fits c.before.before.before.before.before.before.before.before.before.before.before.before.before.before.before.before.before.before.before.before.before.before.before.before.before.before.before.before.before.before.before.before.before.before.before.before.before.before.before.args.n l.element c.before.before.before.before.before.before.before.before.before.before.before.before.before.before.push.new.1.1.1.1.1.1.1.0 c.before.before.before.before.before.before.before.element3.given l.inv.1.nodes l.inv.1.element_len
 
-slice-aggregate-release-8 : tie.Need-slice-aggregate-release-8 invariant-loop decreases-loop
-slice-aggregate-release-8 c =
+slice_aggregate_release_8 : tie.Need-slice-aggregate-release-8 invariant-loop decreases-loop
+slice_aggregate_release_8 c =
     let l = c.before.before.before.before.before.before.before.before.before.before.before.before.before.before.before.before.before.before.before.before.before.before.before.before.before.before.loop in
-    sym (left-length c.before.before.before.before.before.before.before.before.before.before.before.before.before.before.before.before.before.before.before.before.before.before.before.before.before.before.before.before.before.before.before.before.before.before.before.before.before.before.before.before.args.n l.element c.before.before.before.before.before.before.before.before.before.before.before.before.before.before.before.push.new.1.1.1.1.1.1.1.0 c.before.before.before.before.before.before.before.before.element3.given l.inv.1.nodes l.inv.1.element-len)
+    sym (left_length c.before.before.before.before.before.before.before.before.before.before.before.before.before.before.before.before.before.before.before.before.before.before.before.before.before.before.before.before.before.before.before.before.before.before.before.before.before.before.before.before.args.n l.element c.before.before.before.before.before.before.before.before.before.before.before.before.before.before.before.push.new.1.1.1.1.1.1.1.0 c.before.before.before.before.before.before.before.before.element3.given l.inv.1.nodes l.inv.1.element_len)
 
-release-requires : tie.Need-release-requires invariant-loop decreases-loop
-release-requires c κs =
+release_requires : tie.Need-release-requires invariant-loop decreases-loop
+release_requires c κs =
     let l = c.before.before.before.before.before.before.before.before.before.before.before.before.before.before.before.before.before.before.before.before.before.before.before.before.before.before.loop.invariant in
     let p = c.before.before.before.before.before.before.before.before.before.before.before.before.before.before.before.push in
-    subst (λ (a : State). NodeReady a p.result 0 (get_or p.new.0 0 0)) (left-state l.1 p.new.1.1.1.1.0 p.new.1.1.1.1.1.0 p.new.1.1.1.1.1.1.0 p.new.1.1.1.1.1.1.1.0 c.before.before.before.before.before.before.before.before.before.before.before.next3.given c.before.before.before.before.before.before.before.before.before.before.prev3.given c.before.before.before.before.before.before.before.before.before.home3.given c.before.before.before.before.before.before.before.before.element3.given
+    subst (λ (a : State). NodeReady a p.result 0 (get_or p.new.0 0 0)) (left_state l.1 p.new.1.1.1.1.0 p.new.1.1.1.1.1.0 p.new.1.1.1.1.1.1.0 p.new.1.1.1.1.1.1.1.0 c.before.before.before.before.before.before.before.before.before.before.before.next3.given c.before.before.before.before.before.before.before.before.before.before.prev3.given c.before.before.before.before.before.before.before.before.before.home3.given c.before.before.before.before.before.before.before.before.element3.given
     _ _ _ _)
     (pushed_front _ _ _ _ _ l.0 p.ensures)
 
-wrapping-add-u64-requires : tie.Need-wrapping-add-u64-requires invariant-loop decreases-loop
-wrapping-add-u64-requires c κs = tt
+wrapping_add_u64_requires : tie.Need-wrapping-add-u64-requires invariant-loop decreases-loop
+wrapping_add_u64_requires c κs = tt
 
 loop-less : tie.Need-loop-smaller invariant-loop decreases-loop
 loop-less c =
@@ -171,83 +171,83 @@ loop-again c =
     let l = c.before.before.before.before.before.before.before.before.before.before.before.before.before.before.before.before.before.before.before.before.before.before.before.before.before.before.before.before.before.before.before.before.before.before.before.before.loop in
     let p = c.before.before.before.before.before.before.before.before.before.before.before.before.before.before.before.before.before.before.before.before.before.before.before.before.before.push in
     let r = c.before.before.before.before.before.before.before.before.before.release in
-    popped l.inv.1 p.last.0 p.last.1.0 p.last.1.1.0 l.cursors p.last.1.1.1.1.0 p.last.1.1.1.1.1.0 p.last.1.1.1.1.1.1.0 p.last.1.1.1.1.1.1.1.0 c.before.before.before.before.before.before.before.before.before.before.before.before.before.before.before.before.before.before.before.before.before.before.before.before.heads3.given c.before.before.before.before.before.before.before.before.before.before.before.before.before.before.before.before.before.before.before.before.before.before.before.tails3.given c.before.before.before.before.before.before.before.before.before.before.before.before.before.before.before.before.before.before.before.before.before.before.lens3.given l.inv.1.cursors-len c.before.before.before.before.before.before.before.before.before.before.before.before.before.before.before.before.before.before.before.before.before.next3.given c.before.before.before.before.before.before.before.before.before.before.before.before.before.before.before.before.before.before.before.before.prev3.given c.before.before.before.before.before.before.before.before.before.before.before.before.before.before.before.before.before.before.before.home3.given c.before.before.before.before.before.before.before.before.before.before.before.before.before.before.before.before.before.before.element3.given r.new.0 r.new.1.0 r.new.1.1.0 r.new.1.1.1.0 r.new.1.1.1.1.0 r.new.1.1.1.1.1.0 r.new.1.1.1.1.1.1.0 r.new.1.1.1.1.1.1.1.0 c.before.before.before.before.before.before.before.before.heads5.given c.before.before.before.before.before.before.before.tails5.given c.before.before.before.before.before.before.lens5.given c.before.before.before.before.before.cursors4.given c.before.before.before.before.next5.given c.before.before.before.prev5.given c.before.before.home5.given c.before.element5.given
-    p.result (get_or p.last.0 0 0) r.result (release-requires c.before.before.before.before.before.before.before.before.before.before r.lifetimes) r.ensures
+    popped l.inv.1 p.last.0 p.last.1.0 p.last.1.1.0 l.cursors p.last.1.1.1.1.0 p.last.1.1.1.1.1.0 p.last.1.1.1.1.1.1.0 p.last.1.1.1.1.1.1.1.0 c.before.before.before.before.before.before.before.before.before.before.before.before.before.before.before.before.before.before.before.before.before.before.before.before.heads3.given c.before.before.before.before.before.before.before.before.before.before.before.before.before.before.before.before.before.before.before.before.before.before.before.tails3.given c.before.before.before.before.before.before.before.before.before.before.before.before.before.before.before.before.before.before.before.before.before.before.lens3.given l.inv.1.cursors_len c.before.before.before.before.before.before.before.before.before.before.before.before.before.before.before.before.before.before.before.before.before.next3.given c.before.before.before.before.before.before.before.before.before.before.before.before.before.before.before.before.before.before.before.before.prev3.given c.before.before.before.before.before.before.before.before.before.before.before.before.before.before.before.before.before.before.before.home3.given c.before.before.before.before.before.before.before.before.before.before.before.before.before.before.before.before.before.before.element3.given r.new.0 r.new.1.0 r.new.1.1.0 r.new.1.1.1.0 r.new.1.1.1.1.0 r.new.1.1.1.1.1.0 r.new.1.1.1.1.1.1.0 r.new.1.1.1.1.1.1.1.0 c.before.before.before.before.before.before.before.before.heads5.given c.before.before.before.before.before.before.before.tails5.given c.before.before.before.before.before.before.lens5.given c.before.before.before.before.before.cursors4.given c.before.before.before.before.next5.given c.before.before.before.prev5.given c.before.before.home5.given c.before.element5.given
+    p.result (get_or p.last.0 0 0) r.result (release_requires c.before.before.before.before.before.before.before.before.before.before r.lifetimes) r.ensures
 
-slice-aggregate-digest : tie.Need-slice-aggregate-digest invariant-loop decreases-loop
-slice-aggregate-digest c = sym c.before.before.loop.invariant.1.heads-len
+slice_aggregate_digest : tie.Need-slice-aggregate-digest invariant-loop decreases-loop
+slice_aggregate_digest c = sym c.before.before.loop.invariant.1.heads_len
 
-array-share-prefix-next : tie.Need-array-share-prefix-next invariant-loop decreases-loop
-array-share-prefix-next c =
-    let l = c.before.before.loop in part-fits c.before.before.before.before.before.before.before.before.before.before.before.before.before.before.before.before.args.n l.next l.invariant.1.nodes l.invariant.1.next-len
+array_share_prefix_next : tie.Need-array-share-prefix-next invariant-loop decreases-loop
+array_share_prefix_next c =
+    let l = c.before.before.loop in part_fits c.before.before.before.before.before.before.before.before.before.before.before.before.before.before.before.before.args.n l.next l.invariant.1.nodes l.invariant.1.next_len
 
-slice-aggregate-digest-2 : tie.Need-slice-aggregate-digest-2 invariant-loop decreases-loop
-slice-aggregate-digest-2 c = let z = c.before.before.before.loop.invariant.1 in sym (part_length _ _ z.nodes z.next-len)
+slice_aggregate_digest_2 : tie.Need-slice-aggregate-digest-2 invariant-loop decreases-loop
+slice_aggregate_digest_2 c = let z = c.before.before.before.loop.invariant.1 in sym (part_length _ _ z.nodes z.next_len)
 
-array-share-prefix-element : tie.Need-array-share-prefix-element invariant-loop decreases-loop
-array-share-prefix-element c =
-    let l = c.before.before.before.loop in part-fits c.before.before.before.before.before.before.before.before.before.before.before.before.before.before.before.before.before.args.n l.element l.invariant.1.nodes l.invariant.1.element-len
+array_share_prefix_element : tie.Need-array-share-prefix-element invariant-loop decreases-loop
+array_share_prefix_element c =
+    let l = c.before.before.before.loop in part_fits c.before.before.before.before.before.before.before.before.before.before.before.before.before.before.before.before.before.args.n l.element l.invariant.1.nodes l.invariant.1.element_len
 
-slice-aggregate-digest-3 : tie.Need-slice-aggregate-digest-3 invariant-loop decreases-loop
-slice-aggregate-digest-3 c = let z = c.before.before.before.before.loop.invariant.1 in sym (part_length _ _ z.nodes z.element-len)
+slice_aggregate_digest_3 : tie.Need-slice-aggregate-digest-3 invariant-loop decreases-loop
+slice_aggregate_digest_3 c = let z = c.before.before.before.before.loop.invariant.1 in sym (part_length _ _ z.nodes z.element_len)
 
-digest-requires : tie.Need-digest-requires invariant-loop decreases-loop
-digest-requires c κs = tt
+digest_requires : tie.Need-digest-requires invariant-loop decreases-loop
+digest_requires c κs = tt
 
-wrapping-add-u64-requires-2 : tie.Need-wrapping-add-u64-requires-2 invariant-loop decreases-loop
-wrapping-add-u64-requires-2 c κs = tt
+wrapping_add_u64_requires_2 : tie.Need-wrapping-add-u64-requires-2 invariant-loop decreases-loop
+wrapping_add_u64_requires_2 c κs = tt
 
 returns-3 : tie.Need-returns-3 invariant-loop decreases-loop
 returns-3 c = tt
 
-pub queue-spec : {M : Type 1} → statement M
-queue-spec =
+pub queue_spec : {M : Type 1} → statement M
+queue_spec =
     tie.close
     (tie.spec
     invariant-loop
     decreases-loop
-    laid-requires
+    laid_requires
     returns
     returns-2
-    number-after-requires
+    number_after_requires
     loop-holds
-    sub-left
-    following-requires
-    slice-aggregate-push
-    slice-aggregate-push-2
-    slice-aggregate-push-3
-    slice-aggregate-push-4
-    array-borrow-prefix-next
-    slice-aggregate-push-5
-    array-borrow-prefix-prev
-    slice-aggregate-push-6
-    array-borrow-prefix-home
-    slice-aggregate-push-7
-    array-borrow-prefix-element
-    slice-aggregate-push-8
-    push-requires
-    array-read-spare
-    slice-aggregate-release
-    slice-aggregate-release-2
-    slice-aggregate-release-3
-    slice-aggregate-release-4
-    array-borrow-prefix-next-2
-    slice-aggregate-release-5
-    array-borrow-prefix-prev-2
-    slice-aggregate-release-6
-    array-borrow-prefix-home-2
-    slice-aggregate-release-7
-    array-borrow-prefix-element-2
-    slice-aggregate-release-8
-    release-requires
-    wrapping-add-u64-requires
+    sub_left
+    following_requires
+    slice_aggregate_push
+    slice_aggregate_push_2
+    slice_aggregate_push_3
+    slice_aggregate_push_4
+    array_borrow_prefix_next
+    slice_aggregate_push_5
+    array_borrow_prefix_prev
+    slice_aggregate_push_6
+    array_borrow_prefix_home
+    slice_aggregate_push_7
+    array_borrow_prefix_element
+    slice_aggregate_push_8
+    push_requires
+    array_read_spare
+    slice_aggregate_release
+    slice_aggregate_release_2
+    slice_aggregate_release_3
+    slice_aggregate_release_4
+    array_borrow_prefix_next_2
+    slice_aggregate_release_5
+    array_borrow_prefix_prev_2
+    slice_aggregate_release_6
+    array_borrow_prefix_home_2
+    slice_aggregate_release_7
+    array_borrow_prefix_element_2
+    slice_aggregate_release_8
+    release_requires
+    wrapping_add_u64_requires
     loop-less
     loop-again
-    slice-aggregate-digest
-    array-share-prefix-next
-    slice-aggregate-digest-2
-    array-share-prefix-element
-    slice-aggregate-digest-3
-    digest-requires
-    wrapping-add-u64-requires-2
+    slice_aggregate_digest
+    array_share_prefix_next
+    slice_aggregate_digest_2
+    array_share_prefix_element
+    slice_aggregate_digest_3
+    digest_requires
+    wrapping_add_u64_requires_2
     returns-3)

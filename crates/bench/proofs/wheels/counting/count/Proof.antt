@@ -12,17 +12,17 @@ decreases-loop heads tails next prev bucket entry generation serial dated deadli
 loop-holds : tie.Need-loop-init invariant-loop decreases-loop
 loop-holds c = search rules
 
-armed-count-requires : tie.Need-armed-count-requires invariant-loop decreases-loop
-armed-count-requires c κs = search rules
+armed_count_requires : tie.Need-armed-count-requires invariant-loop decreases-loop
+armed_count_requires c κs = search rules
 
-number-of-requires : tie.Need-number-of-requires invariant-loop decreases-loop
-number-of-requires c κs = search rules
+number_of_requires : tie.Need-number-of-requires invariant-loop decreases-loop
+number_of_requires c κs = search rules
 
-wrapping-add-u64-requires : tie.Need-wrapping-add-u64-requires invariant-loop decreases-loop
-wrapping-add-u64-requires c κs = search rules
+wrapping_add_u64_requires : tie.Need-wrapping-add-u64-requires invariant-loop decreases-loop
+wrapping_add_u64_requires c κs = search rules
 
-sub-left : tie.Need-overflow-sub-left invariant-loop decreases-loop
-sub-left c = search rules
+sub_left : tie.Need-overflow-sub-left invariant-loop decreases-loop
+sub_left c = search rules
 
 loop-less : tie.Need-loop-smaller invariant-loop decreases-loop
 loop-less c = search rules
@@ -40,10 +40,10 @@ count_spec =
     invariant-loop
     decreases-loop
     loop-holds
-    armed-count-requires
-    number-of-requires
-    wrapping-add-u64-requires
-    sub-left
+    armed_count_requires
+    number_of_requires
+    wrapping_add_u64_requires
+    sub_left
     loop-less
     loop-again
     returns)

@@ -12,11 +12,11 @@ decreases-loop list₀ n i₀ list i = n - i
 loop-holds : tie.Need-loop-init invariant-loop decreases-loop
 loop-holds c = search rules
 
-note-requires : tie.Need-note-requires invariant-loop decreases-loop
-note-requires c κs = search rules
+note_requires : tie.Need-note-requires invariant-loop decreases-loop
+note_requires c κs = search rules
 
-add-i : tie.Need-overflow-add-i invariant-loop decreases-loop
-add-i c = search rules
+add_i : tie.Need-overflow-add-i invariant-loop decreases-loop
+add_i c = search rules
 
 loop-less : tie.Need-loop-smaller invariant-loop decreases-loop
 loop-less c = search rules
@@ -27,7 +27,7 @@ loop-again c = search rules
 returns : tie.Need-returns invariant-loop decreases-loop
 returns c = search rules
 
-pub list-first-spec : {M : Type 1} → statement M
-list-first-spec =
+pub list_first_spec : {M : Type 1} → statement M
+list_first_spec =
     tie.close
-    (tie.spec invariant-loop decreases-loop loop-holds note-requires add-i loop-less loop-again returns)
+    (tie.spec invariant-loop decreases-loop loop-holds note_requires add_i loop-less loop-again returns)

@@ -9,21 +9,21 @@ returns c = record { yes = λ t. let z : ◌≡◌ {A = ℕ} 0 1 = cc in absurd 
 returns-2 : tie.Need-returns-2
 returns-2 c = record { yes = λ t. let z : ◌≡◌ {A = ℕ} 0 1 = cc in absurd (omega (arith, z)) }
 
-mul-result : tie.Need-overflow-mul-result
-mul-result c = search rules
+mul_result : tie.Need-overflow-mul-result
+mul_result c = search rules
 
-shared-slice-read-result : tie.Need-shared-slice-read-result
-shared-slice-read-result c = search rules
+shared_slice_read_result : tie.Need-shared-slice-read-result
+shared_slice_read_result c = search rules
 
 returns-3 : tie.Need-returns-3
 returns-3 c = record { yes = λ t. search rules }
 
-pub is-armed-spec : {M : Type 1} → statement M
-is-armed-spec =
+pub is_armed_spec : {M : Type 1} → statement M
+is_armed_spec =
     tie.close
     (tie.spec
     returns
     returns-2
-    mul-result
-    shared-slice-read-result
+    mul_result
+    shared_slice_read_result
     returns-3)

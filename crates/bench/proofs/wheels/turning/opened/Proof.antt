@@ -6,8 +6,8 @@ use Rattle.bench.proofs.wheels.turning.opened.Tie as tie
 enum_told : tie.Need-enum-told
 enum_told c = c.match.keys1
 
-start-requires : tie.Need-start-requires
-start-requires c κs = tt
+start_requires : tie.Need-start-requires
+start_requires c κs = tt
 
 returns : tie.Need-returns
 returns c = inl c.start.ensures
@@ -15,5 +15,5 @@ returns c = inl c.start.ensures
 returns-2 : tie.Need-returns-2
 returns-2 c = inr refl
 
-pub opened-spec : {M : Type 1} → statement M
-opened-spec = tie.close (tie.spec enum_told start-requires returns returns-2)
+pub opened_spec : {M : Type 1} → statement M
+opened_spec = tie.close (tie.spec enum_told start_requires returns returns-2)

@@ -11,5 +11,5 @@ returns c = no (λ z. omega arith)
 returns-2 : tie.Need-returns-2
 returns-2 c = search ends_by
 
-pub ends-lent-spec : {M : Type 1} → statement M
-ends-lent-spec = tie.close (tie.spec returns returns-2)
+pub ends_lent_spec : {M : Type 1} → statement M
+ends_lent_spec = tie.close (tie.spec returns returns-2)

@@ -14,5 +14,5 @@ returns-2 c = no (λ z. omega arith)
 returns-3 : tie.Need-returns-3
 returns-3 c = search entries_by
 
-pub entries-lent-spec : {M : Type 1} → statement M
-entries-lent-spec = tie.close (tie.spec returns returns-2 returns-3)
+pub entries_lent_spec : {M : Type 1} → statement M
+entries_lent_spec = tie.close (tie.spec returns returns-2 returns-3)

@@ -7,11 +7,11 @@ use Rattle.wheel_rules.proofs.sound.Standing.{clocks}
 returns : tie.Need-returns
 returns c = search clocks
 
-stands-at-requires : tie.Need-stands-at-requires
-stands-at-requires c κs = search rules
+stands_at_requires : tie.Need-stands-at-requires
+stands_at_requires c κs = search rules
 
 returns-2 : tie.Need-returns-2
 returns-2 c = search clocks
 
-pub advance-stands-spec : {M : Type 1} → statement M
-advance-stands-spec = tie.close (tie.spec returns stands-at-requires returns-2)
+pub advance_stands_spec : {M : Type 1} → statement M
+advance_stands_spec = tie.close (tie.spec returns stands_at_requires returns-2)

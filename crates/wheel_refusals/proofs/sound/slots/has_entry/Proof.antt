@@ -9,5 +9,5 @@ returns c = search bound-answers
 returns-2 : tie.Need-returns-2
 returns-2 c = search bound-answers
 
-pub has-entry-spec : {M : Type 1} → statement M
-has-entry-spec = tie.close (tie.spec returns returns-2)
+pub has_entry_spec : {M : Type 1} → statement M
+has_entry_spec = tie.close (tie.spec returns returns-2)

@@ -12,5 +12,5 @@ returns-2 c = search kind-answers
 returns-3 : tie.Need-returns-3
 returns-3 c = search kind-answers
 
-pub has-kind-spec : {M : Type 1} → statement M
-has-kind-spec = tie.close (tie.spec returns returns-2 returns-3)
+pub has_kind_spec : {M : Type 1} → statement M
+has_kind_spec = tie.close (tie.spec returns returns-2 returns-3)

@@ -9,5 +9,5 @@ returns c = search bound-answers
 returns-2 : tie.Need-returns-2
 returns-2 c = search bound-answers
 
-pub has-serial-spec : {M : Type 1} → statement M
-has-serial-spec = tie.close (tie.spec returns returns-2)
+pub has_serial_spec : {M : Type 1} → statement M
+has_serial_spec = tie.close (tie.spec returns returns-2)

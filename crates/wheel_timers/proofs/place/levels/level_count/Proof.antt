@@ -23,5 +23,5 @@ returns-5 c =
     from_last (λ l. 2 ^ size01 l) _ (λ m. refl) c.before.args.level
     c.match.rest.0.0.0.1 c.match.rest.0.0.1 c.match.rest.0.1 c.match.rest.1
 
-pub level-count-spec : {M : Type 1} → statement M
-level-count-spec = tie.close (tie.spec returns returns-2 returns-3 returns-4 returns-5)
+pub level_count_spec : {M : Type 1} → statement M
+level_count_spec = tie.close (tie.spec returns returns-2 returns-3 returns-4 returns-5)

@@ -22,5 +22,5 @@ returns-5 c =
     from_last first01 _ (λ m. refl) c.before.args.level
     c.match.rest.0.0.0.1 c.match.rest.0.0.1 c.match.rest.0.1 c.match.rest.1
 
-pub level-first-spec : {M : Type 1} → statement M
-level-first-spec = tie.close (tie.spec returns returns-2 returns-3 returns-4 returns-5)
+pub level_first_spec : {M : Type 1} → statement M
+level_first_spec = tie.close (tie.spec returns returns-2 returns-3 returns-4 returns-5)

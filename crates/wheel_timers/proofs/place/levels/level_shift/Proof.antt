@@ -22,5 +22,5 @@ returns-5 c =
     from_last shift01 _ (λ m. refl) c.before.args.level
     c.match.rest.0.0.0.1 c.match.rest.0.0.1 c.match.rest.0.1 c.match.rest.1
 
-pub level-shift-spec : {M : Type 1} → statement M
-level-shift-spec = tie.close (tie.spec returns returns-2 returns-3 returns-4 returns-5)
+pub level_shift_spec : {M : Type 1} → statement M
+level_shift_spec = tie.close (tie.spec returns returns-2 returns-3 returns-4 returns-5)

@@ -23,5 +23,5 @@ returns-5 c =
     from_last (λ l. 2 ^ shift01 l) _ (λ m. refl) c.before.args.level
     c.match.rest.0.0.0.1 c.match.rest.0.0.1 c.match.rest.0.1 c.match.rest.1
 
-pub level-span-spec : {M : Type 1} → statement M
-level-span-spec = tie.close (tie.spec returns returns-2 returns-3 returns-4 returns-5)
+pub level_span_spec : {M : Type 1} → statement M
+level_span_spec = tie.close (tie.spec returns returns-2 returns-3 returns-4 returns-5)
