@@ -1,5 +1,7 @@
 // Seeded workloads for the sketch, the deque and the wheel, to be timed: one line of standard input asks for one, and
 // its answer is a digest of what it left.
+#![tactic(auto)]
+
 mod deques;
 mod generator;
 mod requests;

@@ -2,6 +2,8 @@
 // and deque of each slot. For proved code only, unchecked: a caller shows that the records stand for lists, or tests it
 // once with `sound`. Each function promises what it writes, and what that means for whatever lists the records stand
 // for (crate deque_rules).
+#![tactic(auto)]
+
 pub mod change; // push, remove, move to the back, turn until a member is last
 mod free; // take a free slot, give one back
 pub mod layout; // all deques empty, all slots free

@@ -2,6 +2,8 @@
 // to 256 deques (heads, tails, lens, cursors) over 1 to 4,096 nodes (next, prev, home, element), and the first free
 // node, which goes in by value. Every public call answers for every input: what is refused is refused by number, and
 // then every lent record is as found.
+#![tactic(auto)]
+
 pub mod asking; // look front, look back, length, next by cursor, reset cursor
 pub mod freeing; // pop front, unlink and drop
 pub mod layout; // lengths, cursors and elements at making

@@ -1,4 +1,6 @@
 // Speaks the trace format for the deque: calls on standard input, an answer for each on standard output.
+#![tactic(auto)]
+
 mod answers;
 mod parse;
 mod pokes;

@@ -1,6 +1,8 @@
 // The wheel's calls as C functions over lent records. Create answers by value. The result of every other call is the
 // refusal's number, or 0, and its answer is written to five lent numbers (face_rules, specs/Face.antt). Each calls the
 // face's function and writes its answer. No `requires`.
+#![tactic(auto)]
+
 pub mod advancing; // start, pull, abandon
 pub mod counts; // armed count, next due
 pub mod making; // create, enable

@@ -3,6 +3,8 @@
 // changes it. Every call answers for every input: what is refused is refused by number, and then every lent record is
 // as found. No `requires`. Each call but enable reads the nodes into six columns of its own, lends them to its work
 // (crate face_works), and stores back what changed.
+#![tactic(auto)]
+
 pub mod advancing; // start, pull, abandon
 pub mod counts; // armed count, next due
 pub mod making; // enable

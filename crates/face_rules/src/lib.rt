@@ -1,5 +1,7 @@
 // The face: the wheel's calls over lent nodes. Its promises, the theorems about them, and what the calls answer. No
 // code.
+#![tactic(auto)]
+
 use wheel_rules::calls::{Clock, Noted};
 
 // One slot: its links, its bucket (or none), and the timer armed there: entry, generation and serial.

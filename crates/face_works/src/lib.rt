@@ -2,6 +2,8 @@
 // as the first n numbers of six columns; to enable's, which reads none, comes n alone. Where more than 4,096 are lent
 // the columns say nothing of them, and the call is refused. For proved code only, unchecked: it hands over columns of
 // 4,096 numbers or more.
+#![tactic(auto)]
+
 pub mod advancing; // start, abandon
 pub mod answers; // what the calls over columns answer, without the clock
 pub mod counts; // armed count, next due

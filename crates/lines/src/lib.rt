@@ -5,6 +5,8 @@
 // of bytes. A program is a loop: `next_line` puts a line into a buffer of 257 bytes, `requested` says what it asks for
 // (or `kind_of`, `count`, `is_part` and `number_at` take it apart), `tell` notes what is answered, `say` puts its line
 // into another buffer and writes answers out before more is read, and `turns_left` counts the turns; `flush` ends it.
+#![tactic(auto)]
+
 mod answers;
 mod asking;
 mod chains;

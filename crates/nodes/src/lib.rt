@@ -1,6 +1,8 @@
 // The node records as 01 lends them: one array of structs, read into six columns, a field in each, and stored back from
 // them: load and store, unchecked.
 // Nothing is assumed of what the nodes hold.
+#![tactic(auto)]
+
 ghost use Rattle.std.specs.Prelude.{◌≡◌, ◌≤◌};
 ghost use Rattle.face_rules.specs.nodes.Blocks.{end_of};
 ghost use Rattle.face_rules.specs.nodes.Columns.{columns, used_of, Holds, Loads, Stores};

@@ -23,6 +23,7 @@ length_up (suc k) i = ap suc (length_up k (suc i))
 pub up_range : (k i x : ℕ) → In x (up_from k i) → (i ≤ x) × (x < i + k)
 up_range (suc k) i x (inl e) = (omega arith, omega arith)
 up_range (suc k) i x (inr m) = let u = up_range k (suc i) x m in (omega (arith, u.0), omega (arith, u.1))
+up_range zero i x x3 = elim x3 [ ]
 
 pub range_up : (k i x : ℕ) → i ≤ x → x < i + k → In x (up_from k i)
 range_up zero i x h l = absurd (omega (arith, h, l))
@@ -59,6 +60,7 @@ flat_at (q ∷ qs) x m =
     (λ k. (0, omega arith, k))
     (λ k. let u = flat_at qs x k in (suc u.0, omega (arith, u.1), u.2))
     (in_app q (flat qs) x m)
+flat_at [] x m = elim m [ ]
 
 pub at_flat : (qs : List (List ℕ)) (i x : ℕ) → In x (get_or qs i []) → In x (flat qs)
 at_flat [] i x m = m

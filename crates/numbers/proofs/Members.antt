@@ -28,6 +28,7 @@ in_app (y ∷ xs) ys x (inr m) = ⊎_elim (λ k. inl (inr k)) (λ k. inr k) (in_
 pub app_left : (xs ys : List ℕ) (x : ℕ) → In x xs → In x (xs ++ ys)
 app_left (y ∷ xs) ys x (inl e) = inl e
 app_left (y ∷ xs) ys x (inr m) = inr (app_left xs ys x m)
+app_left [] ys x x3 = elim x3 [ ]
 
 pub app_right : (xs ys : List ℕ) (x : ℕ) → In x ys → In x (xs ++ ys)
 app_right [] ys x m = m
@@ -41,6 +42,7 @@ once_app (x ∷ xs) ys o p d =
 pub once_left : (xs ys : List ℕ) → Once (xs ++ ys) → (x : ℕ) → In x xs → In x ys → ⊥
 once_left (y ∷ xs) ys o x (inl e) k = o.0 (in-at (xs ++ ys) e (app_right xs ys x k))
 once_left (y ∷ xs) ys o x (inr m) k = once_left xs ys o.1 x m k
+once_left [] ys o x x5 k = elim x5 [ ]
 
 pub once_right : (xs ys : List ℕ) → Once (xs ++ ys) → Once ys
 once_right [] ys o = o
@@ -67,6 +69,7 @@ removed (y ∷ ys) x s m =
     (λ (e : s ≡ y). inr (simp (eq-eqb s y e) at m))
     (λ (n : s ≡ y → ⊥). ⊎_elim (λ h. inl h) (λ h. inr (removed ys x s h)) (simp (ne_eqb s y n) at m))
     (same? s y)
+removed [] x s m = elim m [ ]
 
 pub kept : (xs : List ℕ) (x s : ℕ) → (x ≡ s → ⊥) → In x xs → In x (remove s xs)
 kept (y ∷ ys) x s d (inl h) = simp (ne_eqb s y (λ (e : s ≡ y). d (h ∙ sym e))) (inl h)
@@ -75,6 +78,7 @@ kept (y ∷ ys) x s d (inr h) =
     (λ (e : s ≡ y). simp (eq-eqb s y e) h)
     (λ (n : s ≡ y → ⊥). simp (ne_eqb s y n) (inr (kept ys x s d h)))
     (same? s y)
+kept [] x s d x4 = elim x4 [ ]
 
 pub gone : (xs : List ℕ) (s : ℕ) → Once xs → In s (remove s xs) → ⊥
 gone (x ∷ xs) s o m =
@@ -82,6 +86,7 @@ gone (x ∷ xs) s o m =
     (λ (e : s ≡ x). o.0 (in-at xs e (simp (eq-eqb s x e) at m)))
     (λ (n : s ≡ x → ⊥). ⊎_elim n (λ k. gone xs s o.1 k) (simp (ne_eqb s x n) at m))
     (same? s x)
+gone [] s o m = elim m [ ]
 
 pub length_remove : (ys : List ℕ) (x : ℕ) → In x ys → suc (length (remove x ys)) ≡ length ys
 length_remove (y ∷ ys) x m =
@@ -89,6 +94,7 @@ length_remove (y ∷ ys) x m =
     (λ (e : x ≡ y). simp (eq-eqb x y e))
     (λ (n : x ≡ y → ⊥). simp (ne_eqb x y n) (ap suc (length_remove ys x (⊎_elim (λ k. absurd (n k)) (λ k. k) m))))
     (same? x y)
+length_remove [] x m = elim m [ ]
 
 -- the first taken out leaves the rest
 pub remove_first : (x : ℕ) (xs : List ℕ) → remove x (x ∷ xs) ≡ xs
@@ -101,6 +107,7 @@ split (x ∷ xs) s m =
     (λ (e : s ≡ x). simp (eq-eqb s x e) (ap (λ (y : ℕ). y ∷ xs) (sym e)))
     (λ (n : s ≡ x → ⊥). simp (ne_eqb s x n) (ap (λ (ys : List ℕ). x ∷ ys) (split xs s (⊎_elim (λ k. absurd (n k)) (λ k. k) m))))
     (same? s x)
+split [] s m = elim m [ ]
 
 pub split_at : (us ws : List ℕ) (s : ℕ) → (In s us → ⊥) → (before s (us ++ (s ∷ ws)) ≡ us) × (after s (us ++ (s ∷ ws)) ≡ ws)
 split_at [] ws s n = (simp (eq-eqb s s refl), simp (eq-eqb s s refl))
@@ -115,6 +122,7 @@ before_in_lem (y ∷ ys) s x m =
     (λ (e : s ≡ y). absurd (simp (eq-eqb s y e) at m))
     (λ (n : s ≡ y → ⊥). ⊎_elim (λ h. inl h) (λ h. inr (before_in_lem ys s x h)) (simp (ne_eqb s y n) at m))
     (same? s y)
+before_in_lem [] s x m = elim m [ ]
 
 pub after_in_lem : (xs : List ℕ) (s x : ℕ) → In x (after s xs) → In x xs
 after_in_lem (y ∷ ys) s x m =
@@ -122,6 +130,7 @@ after_in_lem (y ∷ ys) s x m =
     (λ (e : s ≡ y). inr (simp (eq-eqb s y e) at m))
     (λ (n : s ≡ y → ⊥). inr (after_in_lem ys s x (simp (ne_eqb s y n) at m)))
     (same? s y)
+after_in_lem [] s x m = elim m [ ]
 
 -- ---- the last of a list
 pub last_in : (xs : List ℕ) (b s : ℕ) → last_or b xs ≡ s → (s ≡ b → ⊥) → In s xs

@@ -1,5 +1,7 @@
 // Numbers that several crates share: the wrapping product of 64 bits, the least power of two that is not below a
 // number, and the two that are no slot.
+#![tactic(auto)]
+
 ghost use Rattle.std.specs.Prelude.{◌≡◌, ◌*◌, ◌%◌, ◌^◌};
 ghost use Rattle.numbers.specs.Shared.{power_for, is_power_to};
 

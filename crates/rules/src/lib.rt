@@ -1,2 +1,4 @@
 // No code: the crate holds the rules of the wheel as definitions (specs/), and the laws that follow from them
 // (proofs/).
+#![tactic(auto)]
+

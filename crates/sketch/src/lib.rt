@@ -2,6 +2,8 @@
 // bits each. The table is lent, of any length; the sketch's own record goes in by value and comes back in the answer.
 // No public call has a `requires`: what is not sound, too large or too short is refused by number, and then nothing has
 // changed.
+#![tactic(auto)]
+
 mod calls;
 pub mod counters; // one word as sixteen counters, and the aging of a table
 mod index;

@@ -1,4 +1,6 @@
 // The frequency sketch: definitions, laws, and the types of its record and answers. No code.
+#![tactic(auto)]
+
 
 // The sketch's record: how many words of the lent table are in use (0: none yet), at which size count the table is
 // aged, and the size count, which rises with each increase that raised a counter.

@@ -1,4 +1,6 @@
 // Speaks the trace format for the sketch: calls on standard input, an answer for each on standard output.
+#![tactic(auto)]
+
 mod answers;
 mod calls;
 mod requests;

@@ -1,6 +1,8 @@
 // A story of one timer over the wheel's public calls: armed, other calls, a refused one, an abandoned advance, one that
 // comes too early, a clock stepped back, and the advance that hands it out. Every answer is expected, and each
 // expectation is proved from the calls' promises. No `requires`.
+#![tactic(auto)]
+
 mod answers; // whether an answer is the one that is expected
 mod calls; // the calls on an enabled wheel
 mod chapters;

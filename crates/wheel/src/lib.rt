@@ -2,6 +2,8 @@
 // generation and serial of the slots; dated, deadline and stamp (the generation) of the entries. The clock goes in by
 // value and comes back in the answer where a call changes it; after a refusal the caller's own still holds. Every call
 // answers for every input: what is refused is refused by number, and then every lent record is as found. No `requires`.
+#![tactic(auto)]
+
 pub mod advancing; // start, abandon
 pub mod arming; // schedule
 pub mod counts; // armed count, next due

@@ -1,5 +1,7 @@
 // The advance on records known to be sound, unchecked: for proved code only. A pull takes turns (enter a bucket, pop a
 // node, go on) up to its answer, one event or End.
+#![tactic(auto)]
+
 pub mod pop; // a node popped: freed, handed out or placed anew
 pub mod position; // where the advance goes from a bucket
 pub mod pull; // the turns up to the answer

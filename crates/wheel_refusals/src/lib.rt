@@ -2,6 +2,8 @@
 // before. They read the records (enable the lengths and the clock alone; `around_refusal` is given these as numbers)
 // and change nothing.
 // No `requires`.
+#![tactic(auto)]
+
 ghost use Rattle.wheel_rules.specs.Lent.{before};
 ghost use Rattle.wheel_rules.specs.refusals.Refuse.{IsLast, RefusesEnable, RefusesAround, RefusesCount, RefusesClosed, RefusesOpen, RefusesSet, RefusesSchedule};
 ghost use Rattle.wheel_rules.specs.refusals.Refuse.{RefusesHandle};

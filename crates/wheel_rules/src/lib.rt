@@ -1,4 +1,6 @@
 // The wheel on records: definitions, laws, theorems over histories of calls, and the types. No code.
+#![tactic(auto)]
+
 pub mod calls; // the clock, and what the public calls answer
 pub mod place; // a place
 pub mod popping; // a popped node's turn, and where an advance goes from a bucket

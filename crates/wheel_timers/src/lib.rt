@@ -2,6 +2,8 @@
 // clock's moments; entries set, timers counted, armed, disarmed and rearmed; and the records as enabling lays them out.
 // The records are parallel slices: heads and tails of the buckets; next, prev, bucket, entry, generation and serial of
 // the slots; dated, deadline and generation of the entries. The clock goes in by value and is handed back.
+#![tactic(auto)]
+
 pub mod around; // enabling: all but the node records
 pub mod counts; // armed count, next due
 pub mod layout; // enabling: all the records

@@ -1,4 +1,6 @@
 // Speaks the trace format for the wheel: calls on standard input, an answer for each on standard output.
+#![tactic(auto)]
+
 mod answers; // what the wheel's calls answered, as it is told
 mod asides; // create, place, lend, and lines that are no call
 mod clocks; // the clock as ten numbers
