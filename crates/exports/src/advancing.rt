@@ -1,5 +1,5 @@
 // Start, pull and abandon, answered in numbers. No `requires`. A refused call leaves every record as found.
-ghost use Rattle.face_rules.specs.Face.{Told, before, after};
+ghost use Rattle.face_rules.specs.Face.{Told, records_of};
 ghost use Rattle.rules.specs.Wheel.{start, pull, abandon};
 
 use crate::words::{tell_noted, tell_pulled};
@@ -21,8 +21,8 @@ pub extern "C" fn wheel_start(
     answer: &mut [u64; 5],
 ) -> u64
     ensures { Told (start q)
-        (before heads tails nodes dated deadline stamp clock.old)
-        (after heads tails nodes dated deadline stamp clock.new) answer.new result }
+        (records_of heads.now tails.now nodes.now dated.now deadline.now stamp.now clock.old)
+        (records_of heads.now tails.now nodes.now dated.now deadline.now stamp.now clock.new) answer.new result }
 {
     let told = start(nodes, clock, heads, tails, dated, deadline, stamp, q);
     tell_noted(told, answer)
@@ -41,8 +41,8 @@ pub extern "C" fn wheel_pull(
     answer: &mut [u64; 5],
 ) -> u64
     ensures { Told pull
-        (before heads tails nodes dated deadline stamp clock.old)
-        (after heads tails nodes dated deadline stamp clock.new) answer.new result }
+        (records_of heads.old tails.old nodes.old dated.now deadline.now stamp.now clock.old)
+        (records_of heads.new tails.new nodes.new dated.now deadline.now stamp.now clock.new) answer.new result }
 {
     let told = pull(nodes, clock, heads, tails, dated, deadline, stamp);
     tell_pulled(told, answer)
@@ -61,8 +61,8 @@ pub extern "C" fn wheel_abandon(
     answer: &mut [u64; 5],
 ) -> u64
     ensures { Told abandon
-        (before heads tails nodes dated deadline stamp clock.old)
-        (after heads tails nodes dated deadline stamp clock.new) answer.new result }
+        (records_of heads.now tails.now nodes.now dated.now deadline.now stamp.now clock.old)
+        (records_of heads.now tails.now nodes.now dated.now deadline.now stamp.now clock.new) answer.new result }
 {
     let told = abandon(nodes, clock, heads, tails, dated, deadline, stamp);
     tell_noted(told, answer)

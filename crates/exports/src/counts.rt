@@ -1,5 +1,5 @@
 // Armed count and next due, answered in numbers. They change no record. No `requires`.
-ghost use Rattle.face_rules.specs.Face.{Told, before, after};
+ghost use Rattle.face_rules.specs.Face.{Told, records_of};
 ghost use Rattle.rules.specs.Wheel.{armed_count, next_due};
 
 use crate::words::{tell_counted, tell_due};
@@ -20,8 +20,8 @@ pub extern "C" fn wheel_armed_count(
     answer: &mut [u64; 5],
 ) -> u64
     ensures { Told armed_count
-        (before heads tails nodes dated deadline stamp clock)
-        (after heads tails nodes dated deadline stamp clock) answer.new result }
+        (records_of heads.now tails.now nodes.now dated.now deadline.now stamp.now clock)
+        (records_of heads.now tails.now nodes.now dated.now deadline.now stamp.now clock) answer.new result }
 {
     let told = armed_count(nodes, clock, heads, tails, dated, deadline, stamp);
     tell_counted(told, answer)
@@ -40,8 +40,8 @@ pub extern "C" fn wheel_next_due(
     answer: &mut [u64; 5],
 ) -> u64
     ensures { Told next_due
-        (before heads tails nodes dated deadline stamp clock)
-        (after heads tails nodes dated deadline stamp clock) answer.new result }
+        (records_of heads.now tails.now nodes.now dated.now deadline.now stamp.now clock)
+        (records_of heads.now tails.now nodes.now dated.now deadline.now stamp.now clock) answer.new result }
 {
     let told = next_due(nodes, clock, heads, tails, dated, deadline, stamp);
     tell_due(told, answer)

@@ -1,5 +1,5 @@
 // Create, and enable answered in numbers. No `requires`. A refused call leaves every record as found.
-ghost use Rattle.face_rules.specs.Face.{Told, before, after};
+ghost use Rattle.face_rules.specs.Face.{Told, records_of};
 ghost use Rattle.rules.specs.Wheel.{ok};
 ghost use Rattle.wheel_rules.specs.Promise.{enabling, Begins};
 
@@ -29,9 +29,9 @@ pub extern "C" fn wheel_enable(
     answer: &mut [u64; 5],
 ) -> u64
     ensures { Told
-        (enabling (before heads tails nodes dated deadline stamp clock.old))
-        (before heads tails nodes dated deadline stamp clock.old)
-        (after heads tails nodes dated deadline stamp clock.new) answer.new result }
+        (enabling (records_of heads.old tails.old nodes.old dated.old deadline.old stamp.old clock.old))
+        (records_of heads.old tails.old nodes.old dated.old deadline.old stamp.old clock.old)
+        (records_of heads.new tails.new nodes.new dated.new deadline.new stamp.new clock.new) answer.new result }
 {
     let told = enable(nodes, clock, heads, tails, dated, deadline, stamp);
     tell_noted(told, answer)

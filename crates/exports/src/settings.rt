@@ -1,7 +1,7 @@
 // Set entry, answered in numbers. No `requires`. A refused call leaves every record as found.
 ghost use Rattle.std.specs.Prelude.{cond};
 ghost use Rattle.std.proofs.Math.Option.{none, some};
-ghost use Rattle.face_rules.specs.Face.{Told, before, after};
+ghost use Rattle.face_rules.specs.Face.{Told, records_of};
 ghost use Rattle.rules.specs.Wheel.{set_entry};
 
 use crate::words::tell_noted;
@@ -26,8 +26,8 @@ pub extern "C" fn wheel_set_entry(
     answer: &mut [u64; 5],
 ) -> u64
     ensures { Told (set_entry e (cond has (some due) none) h)
-        (before heads tails nodes dated deadline stamp clock)
-        (after heads tails nodes dated deadline stamp clock) answer.new result }
+        (records_of heads.now tails.now nodes.now dated.old deadline.old stamp.old clock)
+        (records_of heads.now tails.now nodes.now dated.new deadline.new stamp.new clock) answer.new result }
 {
     let told = set_entry(
         nodes, clock, heads, tails, dated, deadline, stamp, e, has, due, h,

@@ -1,5 +1,5 @@
 // Schedule, reschedule and deschedule, answered in numbers. No `requires`. A refused call leaves every record as found.
-ghost use Rattle.face_rules.specs.Face.{Told, before, after};
+ghost use Rattle.face_rules.specs.Face.{Told, records_of};
 ghost use Rattle.rules.specs.Wheel.{schedule, reschedule, deschedule};
 
 use crate::words::{tell_noted, tell_rescheduled, tell_scheduled};
@@ -22,8 +22,8 @@ pub extern "C" fn wheel_schedule(
     answer: &mut [u64; 5],
 ) -> u64
     ensures { Told (schedule e h)
-        (before heads tails nodes dated deadline stamp clock.old)
-        (after heads tails nodes dated deadline stamp clock.new) answer.new result }
+        (records_of heads.old tails.old nodes.old dated.now deadline.now stamp.now clock.old)
+        (records_of heads.new tails.new nodes.new dated.now deadline.now stamp.now clock.new) answer.new result }
 {
     let told = schedule(nodes, clock, heads, tails, dated, deadline, stamp, e, h);
     tell_scheduled(told, answer)
@@ -46,8 +46,8 @@ pub extern "C" fn wheel_reschedule(
     answer: &mut [u64; 5],
 ) -> u64
     ensures { Told (reschedule slot number h)
-        (before heads tails nodes dated deadline stamp clock.old)
-        (after heads tails nodes dated deadline stamp clock.new) answer.new result }
+        (records_of heads.old tails.old nodes.old dated.now deadline.now stamp.now clock.old)
+        (records_of heads.new tails.new nodes.new dated.now deadline.now stamp.now clock.new) answer.new result }
 {
     let told = reschedule(
         nodes, clock, heads, tails, dated, deadline, stamp, slot, number, h,
@@ -71,8 +71,8 @@ pub extern "C" fn wheel_deschedule(
     answer: &mut [u64; 5],
 ) -> u64
     ensures { Told (deschedule slot number h)
-        (before heads tails nodes dated deadline stamp clock.old)
-        (after heads tails nodes dated deadline stamp clock.new) answer.new result }
+        (records_of heads.old tails.old nodes.old dated.now deadline.now stamp.now clock.old)
+        (records_of heads.new tails.new nodes.new dated.now deadline.now stamp.now clock.new) answer.new result }
 {
     let told = deschedule(
         nodes, clock, heads, tails, dated, deadline, stamp, slot, number, h,

@@ -1,5 +1,5 @@
 // Start, pull and abandon over lent nodes. No `requires`. A refused call leaves every record as found.
-ghost use Rattle.face_rules.specs.Face.{pulled_says, before, after};
+ghost use Rattle.face_rules.specs.Face.{pulled_says, records_of};
 ghost use Rattle.rules.specs.Wheel.{start, pull, abandon};
 ghost use Rattle.wheel_rules.specs.Promise.{noted_says, Promised};
 
@@ -21,8 +21,8 @@ pub fn start(
     q: u64,
 ) -> Noted
     ensures { Promised (start q)
-        (before heads tails nodes dated deadline stamp clock.old)
-        (after heads tails nodes dated deadline stamp clock.new) (noted_says result) }
+        (records_of heads.now tails.now nodes.now dated.now deadline.now stamp.now clock.old)
+        (records_of heads.now tails.now nodes.now dated.now deadline.now stamp.now clock.new) (noted_says result) }
 {
     let mut next = [0usize; ROOM];
     let mut prev = [0usize; ROOM];
@@ -70,8 +70,8 @@ pub fn pull(
     stamp: &[u32],
 ) -> Pulled
     ensures { Promised pull
-        (before heads tails nodes dated deadline stamp clock.old)
-        (after heads tails nodes dated deadline stamp clock.new) (pulled_says result) }
+        (records_of heads.old tails.old nodes.old dated.now deadline.now stamp.now clock.old)
+        (records_of heads.new tails.new nodes.new dated.now deadline.now stamp.now clock.new) (pulled_says result) }
 {
     let mut next = [0usize; ROOM];
     let mut prev = [0usize; ROOM];
@@ -119,8 +119,8 @@ pub fn abandon(
     stamp: &[u32],
 ) -> Noted
     ensures { Promised abandon
-        (before heads tails nodes dated deadline stamp clock.old)
-        (after heads tails nodes dated deadline stamp clock.new) (noted_says result) }
+        (records_of heads.now tails.now nodes.now dated.now deadline.now stamp.now clock.old)
+        (records_of heads.now tails.now nodes.now dated.now deadline.now stamp.now clock.new) (noted_says result) }
 {
     let mut next = [0usize; ROOM];
     let mut prev = [0usize; ROOM];

@@ -1,5 +1,5 @@
 // Armed count and next due over lent nodes. They change nothing. No `requires`.
-ghost use Rattle.face_rules.specs.Face.{before, after};
+ghost use Rattle.face_rules.specs.Face.{records_of};
 ghost use Rattle.rules.specs.Wheel.{armed_count, next_due};
 ghost use Rattle.wheel_rules.specs.Promise.{counted_says, due_says, Promised};
 
@@ -19,8 +19,8 @@ pub fn armed_count(
     stamp: &[u32],
 ) -> Counted
     ensures { Promised armed_count
-        (before heads tails nodes dated deadline stamp clock)
-        (after heads tails nodes dated deadline stamp clock) (counted_says result) }
+        (records_of heads.now tails.now nodes.now dated.now deadline.now stamp.now clock)
+        (records_of heads.now tails.now nodes.now dated.now deadline.now stamp.now clock) (counted_says result) }
 {
     let mut next = [0usize; ROOM];
     let mut prev = [0usize; ROOM];
@@ -65,8 +65,8 @@ pub fn next_due(
     stamp: &[u32],
 ) -> Due
     ensures { Promised next_due
-        (before heads tails nodes dated deadline stamp clock)
-        (after heads tails nodes dated deadline stamp clock) (due_says result) }
+        (records_of heads.now tails.now nodes.now dated.now deadline.now stamp.now clock)
+        (records_of heads.now tails.now nodes.now dated.now deadline.now stamp.now clock) (due_says result) }
 {
     let mut next = [0usize; ROOM];
     let mut prev = [0usize; ROOM];

@@ -1,5 +1,5 @@
 // Enable over lent nodes. No `requires`. A refused call leaves every record as found.
-ghost use Rattle.face_rules.specs.Face.{before, after};
+ghost use Rattle.face_rules.specs.Face.{records_of};
 ghost use Rattle.wheel_rules.specs.Promise.{noted_says, enabling, Promised};
 
 use face_rules::Node;
@@ -18,9 +18,9 @@ pub fn enable(
     stamp: &mut [u32],
 ) -> Noted
     ensures { Promised
-        (enabling (before heads tails nodes dated deadline stamp clock.old))
-        (before heads tails nodes dated deadline stamp clock.old)
-        (after heads tails nodes dated deadline stamp clock.new) (noted_says result) }
+        (enabling (records_of heads.old tails.old nodes.old dated.old deadline.old stamp.old clock.old))
+        (records_of heads.old tails.old nodes.old dated.old deadline.old stamp.old clock.old)
+        (records_of heads.new tails.new nodes.new dated.new deadline.new stamp.new clock.new) (noted_says result) }
 {
     let turn = enable_work(nodes.len(), *clock, heads, tails, dated, deadline, stamp);
     *clock = turn.clock;

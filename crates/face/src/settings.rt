@@ -1,7 +1,7 @@
 // Set entry over lent nodes. No `requires`. A refused call leaves every record as found.
 ghost use Rattle.std.specs.Prelude.{cond};
 ghost use Rattle.std.proofs.Math.Option.{none, some};
-ghost use Rattle.face_rules.specs.Face.{before, after};
+ghost use Rattle.face_rules.specs.Face.{records_of};
 ghost use Rattle.rules.specs.Wheel.{set_entry};
 ghost use Rattle.wheel_rules.specs.Promise.{noted_says, Promised};
 
@@ -25,8 +25,8 @@ pub fn set_entry(
     h: u32,
 ) -> Noted
     ensures { Promised (set_entry e (cond has (some due) none) h)
-        (before heads tails nodes dated deadline stamp clock)
-        (after heads tails nodes dated deadline stamp clock) (noted_says result) }
+        (records_of heads.now tails.now nodes.now dated.old deadline.old stamp.old clock)
+        (records_of heads.now tails.now nodes.now dated.new deadline.new stamp.new clock) (noted_says result) }
 {
     let mut next = [0usize; ROOM];
     let mut prev = [0usize; ROOM];

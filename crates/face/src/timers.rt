@@ -1,5 +1,5 @@
 // Schedule, reschedule and deschedule over lent nodes. No `requires`. A refused call leaves every record as found.
-ghost use Rattle.face_rules.specs.Face.{scheduled_says, rescheduled_says, before, after};
+ghost use Rattle.face_rules.specs.Face.{scheduled_says, rescheduled_says, records_of};
 ghost use Rattle.rules.specs.Wheel.{schedule, reschedule, deschedule};
 ghost use Rattle.wheel_rules.specs.Promise.{noted_says, Promised};
 
@@ -21,8 +21,8 @@ pub fn schedule(
     h: u32,
 ) -> Scheduled
     ensures { Promised (schedule e h)
-        (before heads tails nodes dated deadline stamp clock.old)
-        (after heads tails nodes dated deadline stamp clock.new) (scheduled_says result) }
+        (records_of heads.old tails.old nodes.old dated.now deadline.now stamp.now clock.old)
+        (records_of heads.new tails.new nodes.new dated.now deadline.now stamp.now clock.new) (scheduled_says result) }
 {
     let mut next = [0usize; ROOM];
     let mut prev = [0usize; ROOM];
@@ -76,8 +76,8 @@ pub fn reschedule(
     h: u32,
 ) -> Rescheduled
     ensures { Promised (reschedule slot number h)
-        (before heads tails nodes dated deadline stamp clock.old)
-        (after heads tails nodes dated deadline stamp clock.new) (rescheduled_says result) }
+        (records_of heads.old tails.old nodes.old dated.now deadline.now stamp.now clock.old)
+        (records_of heads.new tails.new nodes.new dated.now deadline.now stamp.now clock.new) (rescheduled_says result) }
 {
     let mut next = [0usize; ROOM];
     let mut prev = [0usize; ROOM];
@@ -131,8 +131,8 @@ pub fn deschedule(
     h: u32,
 ) -> Noted
     ensures { Promised (deschedule slot number h)
-        (before heads tails nodes dated deadline stamp clock.old)
-        (after heads tails nodes dated deadline stamp clock.new) (noted_says result) }
+        (records_of heads.old tails.old nodes.old dated.now deadline.now stamp.now clock.old)
+        (records_of heads.new tails.new nodes.new dated.now deadline.now stamp.now clock.new) (noted_says result) }
 {
     let mut next = [0usize; ROOM];
     let mut prev = [0usize; ROOM];

@@ -2,8 +2,6 @@
 -- say, answers as five numbers, and the promise and the histories of the C functions.
 use Rattle.std.specs.Prelude.{ℕ, Bool, List, map, [], ◌∷◌, ◌≡◌, get_or}
 use Rattle.std.proofs.Math.Option.{none, some}
-use Rattle.std.specs.Borrow.{Bor}
-use denote.Triple.Both.{Both}
 use Rattle.face_rules.specs.declared.Pulled.{Pulled}
 use Rattle.face_rules.specs.declared.Pulled.TheVariants.{Expired, Rescheduled as Placed, End, Refused as PulledRefused}
 use Rattle.face_rules.specs.declared.Rescheduled.{Rescheduled}
@@ -11,7 +9,6 @@ use Rattle.face_rules.specs.declared.Rescheduled.TheVariants.{Moved, Removed, Re
 use Rattle.face_rules.specs.declared.Scheduled.{Scheduled}
 use Rattle.face_rules.specs.declared.Scheduled.TheVariants.{Armed, Refused as ScheduledRefused}
 use Rattle.face_rules.specs.declared.Node.{Node}
-use Rattle.numbers.specs.Shared.{Numbers, Flags}
 use Rattle.rules.specs.Wheel.{Answer, refused, handle, ok, removed, end, expired, rescheduled, number, due, Call, create}
 use Rattle.wheel_rules.specs.Promise.{Promised}
 use Rattle.wheel_rules.specs.Lent.{Records, lent}
@@ -42,16 +39,6 @@ serials = map (λ (v : Node). v.serial)
 -- nodes; dated, deadline, stamp; clock
 abbrev pub records_of : List ℕ → List ℕ → List Node → List Bool → List ℕ → List ℕ → Clock → Records
 records_of h t ns d l m c = lent h t (next_slots ns) (prev_slots ns) (bucket_numbers ns) (entry_numbers ns) (generations ns) (serials ns) d l m c
-
--- what is lent, before a call and after it: heads, tails; nodes; dated, deadline, stamp; clock
-abbrev pub NodeSlice : Type 0
-NodeSlice = Both (Bor (List Node)) (Bor (List Node))
-
-abbrev pub before : Numbers → Numbers → NodeSlice → Flags → Numbers → Numbers → Clock → Records
-before h t ns d l m c = records_of h.entry.now t.entry.now ns.entry.now d.entry.now l.entry.now m.entry.now c
-
-abbrev pub after : Numbers → Numbers → NodeSlice → Flags → Numbers → Numbers → Clock → Records
-after h t ns d l m c = records_of h.exit.now t.exit.now ns.exit.now d.exit.now l.exit.now m.exit.now c
 
 -- ======== answers
 

@@ -2,4 +2,3 @@
 pub mod Columns
 pub mod Laid
 pub mod Blocks
-pub mod Lending

@@ -1,7 +1,6 @@
 // The work of start and abandon. For proved code only, unchecked: it hands over columns that are long enough.
 ghost use Rattle.face_rules.specs.Works.{Loaded};
 ghost use Rattle.face_rules.specs.nodes.Columns.{Holds, columns};
-ghost use Rattle.face_rules.specs.nodes.Lending.{columns_before};
 ghost use Rattle.rules.specs.Wheel.{start, abandon};
 ghost use Rattle.wheel_rules.specs.Promise.{noted_says};
 
@@ -29,7 +28,7 @@ pub fn start_work(
 ) -> NotedTurn
     requires { Holds 4096 (columns next.now prev.now bucket.now entry.now generation.now serial.now) }
     ensures { Loaded (start q)
-        (columns_before next prev bucket entry generation serial) n clock result.clock heads.now tails.now
+        (columns next.now prev.now bucket.now entry.now generation.now serial.now) n clock result.clock heads.now tails.now
         dated.now dated.now deadline.now stamp.now deadline.now
         stamp.now (noted_says result.answer) }
 {
@@ -76,7 +75,7 @@ pub fn abandon_work(
 ) -> NotedTurn
     requires { Holds 4096 (columns next.now prev.now bucket.now entry.now generation.now serial.now) }
     ensures { Loaded abandon
-        (columns_before next prev bucket entry generation serial) n clock result.clock heads.now tails.now
+        (columns next.now prev.now bucket.now entry.now generation.now serial.now) n clock result.clock heads.now tails.now
         dated.now dated.now deadline.now stamp.now deadline.now
         stamp.now (noted_says result.answer) }
 {

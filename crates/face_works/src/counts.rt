@@ -1,7 +1,6 @@
 // The work of armed count and next due. For proved code only, unchecked: it hands over columns that are long enough.
 ghost use Rattle.face_rules.specs.Works.{Loaded};
 ghost use Rattle.face_rules.specs.nodes.Columns.{Holds, columns};
-ghost use Rattle.face_rules.specs.nodes.Lending.{columns_before};
 ghost use Rattle.rules.specs.Wheel.{armed_count, next_due};
 ghost use Rattle.wheel_rules.specs.Promise.{counted_says, due_says};
 
@@ -26,7 +25,7 @@ pub fn armed_count_work(
 ) -> Counted
     requires { Holds 4096 (columns next.now prev.now bucket.now entry.now generation.now serial.now) }
     ensures { Loaded armed_count
-        (columns_before next prev bucket entry generation serial) n clock clock heads.now tails.now
+        (columns next.now prev.now bucket.now entry.now generation.now serial.now) n clock clock heads.now tails.now
         dated.now dated.now deadline.now stamp.now deadline.now
         stamp.now (counted_says result) }
 {
@@ -68,7 +67,7 @@ pub fn next_due_work(
 ) -> Due
     requires { Holds 4096 (columns next.now prev.now bucket.now entry.now generation.now serial.now) }
     ensures { Loaded next_due
-        (columns_before next prev bucket entry generation serial) n clock clock heads.now tails.now
+        (columns next.now prev.now bucket.now entry.now generation.now serial.now) n clock clock heads.now tails.now
         dated.now dated.now deadline.now stamp.now deadline.now
         stamp.now (due_says result) }
 {

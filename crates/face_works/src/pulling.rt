@@ -2,7 +2,6 @@
 ghost use Rattle.face_rules.specs.Face.{pulled_says};
 ghost use Rattle.face_rules.specs.Works.{Stored};
 ghost use Rattle.face_rules.specs.nodes.Columns.{Holds, columns};
-ghost use Rattle.face_rules.specs.nodes.Lending.{columns_before, columns_after};
 ghost use Rattle.rules.specs.Wheel.{pull};
 
 use crate::answers::pulled;
@@ -28,8 +27,8 @@ pub fn pull_work(
 ) -> PulledTurn
     requires { Holds 4096 (columns next.old prev.old bucket.old entry.old generation.old serial.old) }
     ensures { Stored pull
-        (columns_before next prev bucket entry generation serial)
-        (columns_after next prev bucket entry generation serial) n clock result.clock heads.old
+        (columns next.old prev.old bucket.old entry.old generation.old serial.old)
+        (columns next.new prev.new bucket.new entry.new generation.new serial.new) n clock result.clock heads.old
         tails.old heads.new tails.new dated.now deadline.now
         stamp.now (pulled_says result.answer) }
 {

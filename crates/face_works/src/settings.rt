@@ -3,7 +3,6 @@ ghost use Rattle.std.specs.Prelude.{cond};
 ghost use Rattle.std.proofs.Math.Option.{none, some};
 ghost use Rattle.face_rules.specs.Works.{Loaded};
 ghost use Rattle.face_rules.specs.nodes.Columns.{Holds, columns};
-ghost use Rattle.face_rules.specs.nodes.Lending.{columns_before};
 ghost use Rattle.rules.specs.Wheel.{set_entry};
 ghost use Rattle.wheel_rules.specs.Promise.{noted_says};
 
@@ -32,7 +31,7 @@ pub fn set_entry_work(
 ) -> Noted
     requires { Holds 4096 (columns next.now prev.now bucket.now entry.now generation.now serial.now) }
     ensures { Loaded (set_entry e (cond has (some due) none) h)
-        (columns_before next prev bucket entry generation serial) n clock clock heads.now tails.now
+        (columns next.now prev.now bucket.now entry.now generation.now serial.now) n clock clock heads.now tails.now
         dated.old dated.new deadline.old stamp.old deadline.new
         stamp.new (noted_says result) }
 {

@@ -3,7 +3,6 @@
 ghost use Rattle.face_rules.specs.Face.{scheduled_says, rescheduled_says};
 ghost use Rattle.face_rules.specs.Works.{Stored};
 ghost use Rattle.face_rules.specs.nodes.Columns.{Holds, columns};
-ghost use Rattle.face_rules.specs.nodes.Lending.{columns_before, columns_after};
 ghost use Rattle.rules.specs.Wheel.{schedule, reschedule, deschedule};
 ghost use Rattle.wheel_rules.specs.Promise.{noted_says};
 
@@ -32,8 +31,8 @@ pub fn schedule_work(
 ) -> ScheduledTurn
     requires { Holds 4096 (columns next.old prev.old bucket.old entry.old generation.old serial.old) }
     ensures { Stored (schedule e h)
-        (columns_before next prev bucket entry generation serial)
-        (columns_after next prev bucket entry generation serial) n clock result.clock heads.old
+        (columns next.old prev.old bucket.old entry.old generation.old serial.old)
+        (columns next.new prev.new bucket.new entry.new generation.new serial.new) n clock result.clock heads.old
         tails.old heads.new tails.new dated.now deadline.now
         stamp.now (scheduled_says result.answer) }
 {
@@ -85,8 +84,8 @@ pub fn reschedule_work(
 ) -> RescheduledTurn
     requires { Holds 4096 (columns next.old prev.old bucket.old entry.old generation.old serial.old) }
     ensures { Stored (reschedule slot number h)
-        (columns_before next prev bucket entry generation serial)
-        (columns_after next prev bucket entry generation serial) n clock result.clock heads.old
+        (columns next.old prev.old bucket.old entry.old generation.old serial.old)
+        (columns next.new prev.new bucket.new entry.new generation.new serial.new) n clock result.clock heads.old
         tails.old heads.new tails.new dated.now deadline.now
         stamp.now (rescheduled_says result.answer) }
 {
@@ -139,8 +138,8 @@ pub fn deschedule_work(
 ) -> NotedTurn
     requires { Holds 4096 (columns next.old prev.old bucket.old entry.old generation.old serial.old) }
     ensures { Stored (deschedule slot number h)
-        (columns_before next prev bucket entry generation serial)
-        (columns_after next prev bucket entry generation serial) n clock result.clock heads.old
+        (columns next.old prev.old bucket.old entry.old generation.old serial.old)
+        (columns next.new prev.new bucket.new entry.new generation.new serial.new) n clock result.clock heads.old
         tails.old heads.new tails.new dated.now deadline.now
         stamp.now (noted_says result.answer) }
 {

@@ -6,7 +6,6 @@
 ghost use Rattle.std.specs.Prelude.{◌≡◌, ◌≤◌};
 ghost use Rattle.face_rules.specs.nodes.Blocks.{end_of};
 ghost use Rattle.face_rules.specs.nodes.Columns.{columns, used_of, Holds, Loads, Stores};
-ghost use Rattle.face_rules.specs.nodes.Lending.{columns_before, columns_after};
 
 mod fields;
 pub mod laying; // the nodes as enabling lays them out, written in place
@@ -46,7 +45,7 @@ pub fn load(
     serial: &mut [u64],
 )
     requires { Holds 4096 (columns next.old prev.old bucket.old entry.old generation.old serial.old) }
-    ensures { Loads nodes.now (columns_after next prev bucket entry generation serial) }
+    ensures { Loads nodes.now (columns next.new prev.new bucket.new entry.new generation.new serial.new) }
 {
     let n = used(nodes.len());
     let mut i = 0;
@@ -73,7 +72,7 @@ pub fn store(
     serial: &[u64],
 )
     requires { Holds 4096 (columns next.now prev.now bucket.now entry.now generation.now serial.now) }
-    ensures { Stores nodes.old (columns_before next prev bucket entry generation serial) nodes.new }
+    ensures { Stores nodes.old (columns next.now prev.now bucket.now entry.now generation.now serial.now) nodes.new }
 {
     let n = used(nodes.len());
     let mut i = 0;

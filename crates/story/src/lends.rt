@@ -3,9 +3,8 @@
 ghost use Rattle.std.specs.Prelude.{cond};
 ghost use Rattle.std.proofs.Math.Option.{none, some};
 ghost use Rattle.rules.specs.Wheel.{set_entry, schedule, deschedule, start, pull, abandon, armed_count};
-ghost use Rattle.face_rules.specs.Face.{scheduled_says, pulled_says};
+ghost use Rattle.face_rules.specs.Face.{scheduled_says, pulled_says, records_of};
 ghost use Rattle.wheel_rules.specs.Promise.{enabling, noted_says, counted_says, Promised};
-ghost use Rattle.story.specs.Held.{before, after};
 
 use face::{Clock, Counted, Node, Noted, Pulled, Scheduled};
 
@@ -47,9 +46,9 @@ pub fn enable(
     deadline: &mut [u64],
     stamp: &mut [u32],
 ) -> NotedLeft
-    ensures { Promised (enabling (before heads tails nodes dated deadline stamp clock))
-        (before heads tails nodes dated deadline stamp clock)
-        (after heads tails result.nodes dated deadline stamp result.clock) (noted_says result.answer) }
+    ensures { Promised (enabling (records_of heads.old tails.old nodes dated.old deadline.old stamp.old clock))
+        (records_of heads.old tails.old nodes dated.old deadline.old stamp.old clock)
+        (records_of heads.new tails.new result.nodes dated.new deadline.new stamp.new result.clock) (noted_says result.answer) }
 {
     let answer = face::enable(&mut nodes, &mut clock, heads, tails, dated, deadline, stamp);
     NotedLeft {
@@ -73,8 +72,8 @@ pub fn set_entry(
     h: u32,
 ) -> Noted
     ensures { Promised (set_entry e (cond has (some due) none) h)
-        (before heads tails nodes dated deadline stamp clock)
-        (after heads tails nodes dated deadline stamp clock) (noted_says result) }
+        (records_of heads.now tails.now nodes dated.old deadline.old stamp.old clock)
+        (records_of heads.now tails.now nodes dated.new deadline.new stamp.new clock) (noted_says result) }
 {
     face::set_entry(
         &nodes, clock, heads, tails, dated, deadline, stamp, e, has, due, h,
@@ -93,8 +92,8 @@ pub fn schedule(
     h: u32,
 ) -> ScheduledLeft
     ensures { Promised (schedule e h)
-        (before heads tails nodes dated deadline stamp clock)
-        (after heads tails result.nodes dated deadline stamp result.clock) (scheduled_says result.answer) }
+        (records_of heads.old tails.old nodes dated.now deadline.now stamp.now clock)
+        (records_of heads.new tails.new result.nodes dated.now deadline.now stamp.now result.clock) (scheduled_says result.answer) }
 {
     let answer = face::schedule(
         &mut nodes, &mut clock, heads, tails, dated, deadline, stamp, e, h,
@@ -119,8 +118,8 @@ pub fn deschedule(
     h: u32,
 ) -> NotedLeft
     ensures { Promised (deschedule slot number h)
-        (before heads tails nodes dated deadline stamp clock)
-        (after heads tails result.nodes dated deadline stamp result.clock) (noted_says result.answer) }
+        (records_of heads.old tails.old nodes dated.now deadline.now stamp.now clock)
+        (records_of heads.new tails.new result.nodes dated.now deadline.now stamp.now result.clock) (noted_says result.answer) }
 {
     let answer = face::deschedule(
         &mut nodes, &mut clock, heads, tails, dated, deadline, stamp, slot, number, h,
@@ -143,8 +142,8 @@ pub fn start(
     q: u64,
 ) -> ClockLeft
     ensures { Promised (start q)
-        (before heads tails nodes dated deadline stamp clock)
-        (after heads tails nodes dated deadline stamp result.clock) (noted_says result.answer) }
+        (records_of heads.now tails.now nodes dated.now deadline.now stamp.now clock)
+        (records_of heads.now tails.now nodes dated.now deadline.now stamp.now result.clock) (noted_says result.answer) }
 {
     let answer = face::start(&nodes, &mut clock, heads, tails, dated, deadline, stamp, q);
     ClockLeft { clock, answer }
@@ -160,8 +159,8 @@ pub fn pull(
     stamp: &[u32],
 ) -> PulledLeft
     ensures { Promised pull
-        (before heads tails nodes dated deadline stamp clock)
-        (after heads tails result.nodes dated deadline stamp result.clock) (pulled_says result.answer) }
+        (records_of heads.old tails.old nodes dated.now deadline.now stamp.now clock)
+        (records_of heads.new tails.new result.nodes dated.now deadline.now stamp.now result.clock) (pulled_says result.answer) }
 {
     let answer = face::pull(&mut nodes, &mut clock, heads, tails, dated, deadline, stamp);
     PulledLeft {
@@ -181,8 +180,8 @@ pub fn abandon(
     stamp: &[u32],
 ) -> ClockLeft
     ensures { Promised abandon
-        (before heads tails nodes dated deadline stamp clock)
-        (after heads tails nodes dated deadline stamp result.clock) (noted_says result.answer) }
+        (records_of heads.now tails.now nodes dated.now deadline.now stamp.now clock)
+        (records_of heads.now tails.now nodes dated.now deadline.now stamp.now result.clock) (noted_says result.answer) }
 {
     let answer = face::abandon(&nodes, &mut clock, heads, tails, dated, deadline, stamp);
     ClockLeft { clock, answer }
@@ -198,8 +197,8 @@ pub fn armed_count(
     stamp: &[u32],
 ) -> Counted
     ensures { Promised armed_count
-        (before heads tails nodes dated deadline stamp clock)
-        (after heads tails nodes dated deadline stamp clock) (counted_says result) }
+        (records_of heads.now tails.now nodes dated.now deadline.now stamp.now clock)
+        (records_of heads.now tails.now nodes dated.now deadline.now stamp.now clock) (counted_says result) }
 {
     face::armed_count(&nodes, clock, heads, tails, dated, deadline, stamp)
 }

@@ -2,7 +2,7 @@
 // record as found.
 ghost use Rattle.rules.specs.Wheel.{start, abandon};
 ghost use Rattle.wheel_rules.specs.Promise.{timed_clock, timed_says, Promised};
-ghost use Rattle.wheel_rules.specs.Lent.{before, after};
+ghost use Rattle.wheel_rules.specs.Lent.{lent};
 
 use wheel_refusals::{closed_refusal, open_refusal};
 use wheel_rules::calls::{Clock, Timed};
@@ -25,8 +25,8 @@ pub fn start(
     q: u64,
 ) -> Timed
     ensures { Promised (start q)
-        (before heads tails next prev bucket entry generation serial dated deadline stamp clock)
-        (after heads tails next prev bucket entry generation serial dated deadline stamp (timed_clock clock result))
+        (lent heads.now tails.now next.now prev.now bucket.now entry.now generation.now serial.now dated.now deadline.now stamp.now clock)
+        (lent heads.now tails.now next.now prev.now bucket.now entry.now generation.now serial.now dated.now deadline.now stamp.now (timed_clock clock result))
         (timed_says result) }
 {
     let no = closed_refusal(
@@ -56,8 +56,8 @@ pub fn abandon(
     clock: Clock,
 ) -> Timed
     ensures { Promised abandon
-        (before heads tails next prev bucket entry generation serial dated deadline stamp clock)
-        (after heads tails next prev bucket entry generation serial dated deadline stamp (timed_clock clock result))
+        (lent heads.now tails.now next.now prev.now bucket.now entry.now generation.now serial.now dated.now deadline.now stamp.now clock)
+        (lent heads.now tails.now next.now prev.now bucket.now entry.now generation.now serial.now dated.now deadline.now stamp.now (timed_clock clock result))
         (timed_says result) }
 {
     let no = open_refusal(

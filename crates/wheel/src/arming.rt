@@ -1,7 +1,7 @@
 // Schedule: refusals in order, then the work. No `requires`. A refused call leaves every record as found.
 ghost use Rattle.rules.specs.Wheel.{schedule};
 ghost use Rattle.wheel_rules.specs.Promise.{scheduled_clock, scheduled_says, Promised};
-ghost use Rattle.wheel_rules.specs.Lent.{before, after};
+ghost use Rattle.wheel_rules.specs.Lent.{lent};
 
 use wheel_refusals::schedule_refusal;
 use wheel_rules::calls::{Clock, Scheduled};
@@ -26,8 +26,8 @@ pub fn schedule(
     h: u32,
 ) -> Scheduled
     ensures { Promised (schedule e h)
-        (before heads tails next prev bucket entry generation serial dated deadline stamp clock)
-        (after heads tails next prev bucket entry generation serial dated deadline stamp (scheduled_clock clock result))
+        (lent heads.old tails.old next.old prev.old bucket.old entry.old generation.old serial.old dated.now deadline.now stamp.now clock)
+        (lent heads.new tails.new next.new prev.new bucket.new entry.new generation.new serial.new dated.now deadline.now stamp.now (scheduled_clock clock result))
         (scheduled_says result) }
 {
     let no = schedule_refusal(

@@ -1,7 +1,7 @@
 // Armed count and next due: refusals in order, then the count. They change nothing. No `requires`.
 ghost use Rattle.rules.specs.Wheel.{armed_count, next_due};
 ghost use Rattle.wheel_rules.specs.Promise.{counted_says, due_says, Promised};
-ghost use Rattle.wheel_rules.specs.Lent.{before, after};
+ghost use Rattle.wheel_rules.specs.Lent.{lent};
 ghost use Rattle.wheel_rules.specs.calls.Answers.{TellsDue};
 
 use wheel_refusals::{closed_refusal, standing_refusal};
@@ -34,8 +34,8 @@ pub fn armed_count(
     clock: Clock,
 ) -> Counted
     ensures { Promised armed_count
-        (before heads tails next prev bucket entry generation serial dated deadline stamp clock)
-        (after heads tails next prev bucket entry generation serial dated deadline stamp clock) (counted_says result) }
+        (lent heads.now tails.now next.now prev.now bucket.now entry.now generation.now serial.now dated.now deadline.now stamp.now clock)
+        (lent heads.now tails.now next.now prev.now bucket.now entry.now generation.now serial.now dated.now deadline.now stamp.now clock) (counted_says result) }
 {
     let no = standing_refusal(
         heads, tails, next, prev, bucket, entry, generation, serial, dated, deadline, stamp, clock,
@@ -63,8 +63,8 @@ pub fn next_due(
     clock: Clock,
 ) -> Due
     ensures { Promised next_due
-        (before heads tails next prev bucket entry generation serial dated deadline stamp clock)
-        (after heads tails next prev bucket entry generation serial dated deadline stamp clock) (due_says result) }
+        (lent heads.now tails.now next.now prev.now bucket.now entry.now generation.now serial.now dated.now deadline.now stamp.now clock)
+        (lent heads.now tails.now next.now prev.now bucket.now entry.now generation.now serial.now dated.now deadline.now stamp.now clock) (due_says result) }
 {
     let no = closed_refusal(
         heads, tails, next, prev, bucket, entry, generation, serial, dated, deadline, stamp, clock,

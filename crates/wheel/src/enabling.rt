@@ -1,6 +1,6 @@
 // Enable: refusals in order, then the work. No `requires`. A refused call leaves every record as found.
 ghost use Rattle.wheel_rules.specs.Promise.{timed_clock, timed_says, enabling, Promised};
-ghost use Rattle.wheel_rules.specs.Lent.{before, after};
+ghost use Rattle.wheel_rules.specs.Lent.{lent};
 
 use wheel_refusals::enable_refusal;
 use wheel_rules::calls::{Clock, Timed};
@@ -24,9 +24,9 @@ pub fn enable(
     clock: Clock,
 ) -> Timed
     ensures { Promised
-        (enabling (before heads tails next prev bucket entry generation serial dated deadline stamp clock))
-        (before heads tails next prev bucket entry generation serial dated deadline stamp clock)
-        (after heads tails next prev bucket entry generation serial dated deadline stamp (timed_clock clock result))
+        (enabling (lent heads.old tails.old next.old prev.old bucket.old entry.old generation.old serial.old dated.old deadline.old stamp.old clock))
+        (lent heads.old tails.old next.old prev.old bucket.old entry.old generation.old serial.old dated.old deadline.old stamp.old clock)
+        (lent heads.new tails.new next.new prev.new bucket.new entry.new generation.new serial.new dated.new deadline.new stamp.new (timed_clock clock result))
         (timed_says result) }
 {
     let no = enable_refusal(

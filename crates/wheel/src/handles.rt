@@ -2,7 +2,7 @@
 // leaves every record as found.
 ghost use Rattle.rules.specs.Wheel.{reschedule, deschedule};
 ghost use Rattle.wheel_rules.specs.Promise.{rescheduled_clock, timed_clock, rescheduled_says, timed_says, Promised};
-ghost use Rattle.wheel_rules.specs.Lent.{before, after};
+ghost use Rattle.wheel_rules.specs.Lent.{lent};
 
 use wheel_refusals::handle_refusal;
 use wheel_rules::calls::{Clock, Rescheduled, Timed};
@@ -28,8 +28,8 @@ pub fn reschedule(
     h: u32,
 ) -> Rescheduled
     ensures { Promised (reschedule slot number h)
-        (before heads tails next prev bucket entry generation serial dated deadline stamp clock)
-        (after heads tails next prev bucket entry generation serial dated deadline stamp (rescheduled_clock clock result))
+        (lent heads.old tails.old next.old prev.old bucket.old entry.old generation.old serial.old dated.now deadline.now stamp.now clock)
+        (lent heads.new tails.new next.new prev.new bucket.new entry.new generation.new serial.new dated.now deadline.now stamp.now (rescheduled_clock clock result))
         (rescheduled_says result) }
 {
     let no = handle_refusal(
@@ -70,8 +70,8 @@ pub fn deschedule(
     h: u32,
 ) -> Timed
     ensures { Promised (deschedule slot number h)
-        (before heads tails next prev bucket entry generation serial dated deadline stamp clock)
-        (after heads tails next prev bucket entry generation serial dated deadline stamp (timed_clock clock result))
+        (lent heads.old tails.old next.old prev.old bucket.old entry.old generation.old serial.old dated.now deadline.now stamp.now clock)
+        (lent heads.new tails.new next.new prev.new bucket.new entry.new generation.new serial.new dated.now deadline.now stamp.now (timed_clock clock result))
         (timed_says result) }
 {
     let no = handle_refusal(

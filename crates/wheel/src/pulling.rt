@@ -1,7 +1,7 @@
 // Pull: refusals in order, then the work. No `requires`. A refused call leaves every record as found.
 ghost use Rattle.rules.specs.Wheel.{pull};
 ghost use Rattle.wheel_rules.specs.Promise.{pulled_clock, pulled_says, Promised};
-ghost use Rattle.wheel_rules.specs.Lent.{before, after};
+ghost use Rattle.wheel_rules.specs.Lent.{lent};
 ghost use Rattle.wheel_rules.specs.calls.Answers.{TellsEvent};
 
 use wheel_advance::{pop, pull};
@@ -54,8 +54,8 @@ pub fn pull(
     clock: Clock,
 ) -> Pulled
     ensures { Promised pull
-        (before heads tails next prev bucket entry generation serial dated deadline stamp clock)
-        (after heads tails next prev bucket entry generation serial dated deadline stamp (pulled_clock clock result))
+        (lent heads.old tails.old next.old prev.old bucket.old entry.old generation.old serial.old dated.now deadline.now stamp.now clock)
+        (lent heads.new tails.new next.new prev.new bucket.new entry.new generation.new serial.new dated.now deadline.now stamp.now (pulled_clock clock result))
         (pulled_says result) }
 {
     let no = open_refusal(

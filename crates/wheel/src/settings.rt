@@ -3,7 +3,7 @@ ghost use Rattle.std.specs.Prelude.{◌≡◌, cond};
 ghost use Rattle.std.proofs.Math.Option.{none, some};
 ghost use Rattle.rules.specs.Wheel.{set_entry};
 ghost use Rattle.wheel_rules.specs.Promise.{noted_says, Promised};
-ghost use Rattle.wheel_rules.specs.Lent.{before, after};
+ghost use Rattle.wheel_rules.specs.Lent.{lent};
 
 use wheel_refusals::entry_refusal;
 use wheel_rules::calls::{Clock, Noted};
@@ -36,8 +36,8 @@ pub fn set_entry(
     h: u32,
 ) -> Noted
     ensures { Promised (set_entry e (cond has (some due) none) h)
-        (before heads tails next prev bucket entry generation serial dated deadline stamp clock)
-        (after heads tails next prev bucket entry generation serial dated deadline stamp clock) (noted_says result) }
+        (lent heads.now tails.now next.now prev.now bucket.now entry.now generation.now serial.now dated.old deadline.old stamp.old clock)
+        (lent heads.now tails.now next.now prev.now bucket.now entry.now generation.now serial.now dated.new deadline.new stamp.new clock) (noted_says result) }
 {
     let no = entry_refusal(
         heads, tails, next, prev, bucket, entry, generation, serial, dated, deadline, stamp, clock,

@@ -1,6 +1,6 @@
 // For proved code only, unchecked: what a pull answers, and the turn of a pull that pops one node.
 ghost use Rattle.rules.specs.Places.{wheel01};
-ghost use Rattle.wheel_rules.specs.Lent.{nodes, nodes_before, nodes_after};
+ghost use Rattle.wheel_rules.specs.Lent.{nodes};
 ghost use Rattle.wheel_rules.specs.popping.Pop.{PopReady, Pops};
 
 use wheel_rules::calls::Clock;
@@ -30,9 +30,9 @@ pub fn pop(
         dated.now deadline.now clock x }
     ensures { Pops
         wheel01
-        (nodes_before heads tails next prev bucket entry generation serial) dated.now deadline.now
+        (nodes heads.old tails.old next.old prev.old bucket.old entry.old generation.old serial.old) dated.now deadline.now
         clock x
-        (nodes_after heads tails next prev bucket entry generation serial) result }
+        (nodes heads.new tails.new next.new prev.new bucket.new entry.new generation.new serial.new) result }
 {
     let e = entry[x];
     let n = serial[x];

@@ -1,6 +1,6 @@
 // For proved code only, unchecked: a pull. It does no more than reach its answer.
 ghost use Rattle.rules.specs.Places.{wheel01};
-ghost use Rattle.wheel_rules.specs.Lent.{nodes, nodes_before, nodes_after};
+ghost use Rattle.wheel_rules.specs.Lent.{nodes};
 ghost use Rattle.wheel_rules.specs.popping.Pop.{TurnReady};
 ghost use Rattle.wheel_rules.specs.pull.Pull.{Pulls};
 
@@ -29,9 +29,9 @@ pub fn pull(
         dated.now deadline.now clock }
     ensures { Pulls
         wheel01
-        (nodes_before heads tails next prev bucket entry generation serial) dated.now deadline.now
+        (nodes heads.old tails.old next.old prev.old bucket.old entry.old generation.old serial.old) dated.now deadline.now
         clock
-        (nodes_after heads tails next prev bucket entry generation serial) result.clock result.event }
+        (nodes heads.new tails.new next.new prev.new bucket.new entry.new generation.new serial.new) result.clock result.event }
 {
     let mut c = clock;
     loop {

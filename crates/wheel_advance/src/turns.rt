@@ -1,9 +1,8 @@
 // For proved code only, unchecked: the turns of a pull. Each does one thing: enter the next bucket, pop one node, or
 // end.
-ghost use Rattle.deque_rules.specs.Lending.{links_before, links_after};
 ghost use Rattle.deque_rules.specs.Links.{links};
 ghost use Rattle.rules.specs.Places.{wheel01};
-ghost use Rattle.wheel_rules.specs.Lent.{nodes, nodes_before, nodes_after};
+ghost use Rattle.wheel_rules.specs.Lent.{nodes};
 ghost use Rattle.wheel_rules.specs.popping.Pop.{TurnReady};
 ghost use Rattle.wheel_rules.specs.turns.Turns.{WaitReady, Waits, OnReady, GoesOn, Turned};
 
@@ -42,7 +41,7 @@ fn go_on(
     clock: Clock,
 ) -> Turn
     requires { OnReady wheel01 (links heads.old tails.old next.old prev.old bucket.now) clock }
-    ensures { GoesOn wheel01 (links_before heads tails next prev bucket) clock (links_after heads tails next prev bucket) result }
+    ensures { GoesOn wheel01 (links heads.old tails.old next.old prev.old bucket.now) clock (links heads.new tails.new next.new prev.new bucket.now) result }
 {
     let to = next_position(clock.previous, clock.reading, clock.level, clock.step);
     if !to.more {
@@ -85,9 +84,9 @@ pub fn take_turn(
         dated.now deadline.now clock }
     ensures { Turned
         wheel01
-        (nodes_before heads tails next prev bucket entry generation serial) dated.now deadline.now
+        (nodes heads.old tails.old next.old prev.old bucket.old entry.old generation.old serial.old) dated.now deadline.now
         clock
-        (nodes_after heads tails next prev bucket entry generation serial) result }
+        (nodes heads.new tails.new next.new prev.new bucket.new entry.new generation.new serial.new) result }
 {
     let x = waiting(heads, clock);
     if x < next.len() {

@@ -4,7 +4,7 @@
 // No `requires`.
 #![tactic(auto)]
 
-ghost use Rattle.wheel_rules.specs.Lent.{before};
+ghost use Rattle.wheel_rules.specs.Lent.{lent};
 ghost use Rattle.wheel_rules.specs.refusals.Refuse.{IsLast, RefusesEnable, RefusesAround, RefusesCount, RefusesClosed, RefusesOpen, RefusesSet, RefusesSchedule};
 ghost use Rattle.wheel_rules.specs.refusals.Refuse.{RefusesHandle};
 
@@ -42,7 +42,7 @@ pub fn standing_refusal(
     stamp: &[u32],
     clock: Clock,
 ) -> u64
-    ensures { RefusesCount (before heads tails next prev bucket entry generation serial dated deadline stamp clock) result }
+    ensures { RefusesCount (lent heads.now tails.now next.now prev.now bucket.now entry.now generation.now serial.now dated.now deadline.now stamp.now clock) result }
 {
     if !clock.enabled {
         return 1;
@@ -71,7 +71,7 @@ pub fn closed_refusal(
     stamp: &[u32],
     clock: Clock,
 ) -> u64
-    ensures { RefusesClosed (before heads tails next prev bucket entry generation serial dated deadline stamp clock) result }
+    ensures { RefusesClosed (lent heads.now tails.now next.now prev.now bucket.now entry.now generation.now serial.now dated.now deadline.now stamp.now clock) result }
 {
     let no = standing_refusal(
         heads, tails, next, prev, bucket, entry, generation, serial, dated, deadline, stamp, clock,
@@ -100,7 +100,7 @@ pub fn open_refusal(
     stamp: &[u32],
     clock: Clock,
 ) -> u64
-    ensures { RefusesOpen (before heads tails next prev bucket entry generation serial dated deadline stamp clock) result }
+    ensures { RefusesOpen (lent heads.now tails.now next.now prev.now bucket.now entry.now generation.now serial.now dated.now deadline.now stamp.now clock) result }
 {
     let no = standing_refusal(
         heads, tails, next, prev, bucket, entry, generation, serial, dated, deadline, stamp, clock,
@@ -130,7 +130,7 @@ pub fn entry_refusal(
     clock: Clock,
     e: usize,
 ) -> u64
-    ensures { RefusesSet (before heads tails next prev bucket entry generation serial dated deadline stamp clock) e result }
+    ensures { RefusesSet (lent heads.now tails.now next.now prev.now bucket.now entry.now generation.now serial.now dated.now deadline.now stamp.now clock) e result }
 {
     let no = closed_refusal(
         heads, tails, next, prev, bucket, entry, generation, serial, dated, deadline, stamp, clock,
@@ -161,7 +161,7 @@ pub fn schedule_refusal(
     e: usize,
     h: u32,
 ) -> u64
-    ensures { RefusesSchedule (before heads tails next prev bucket entry generation serial dated deadline stamp clock) e h result }
+    ensures { RefusesSchedule (lent heads.now tails.now next.now prev.now bucket.now entry.now generation.now serial.now dated.now deadline.now stamp.now clock) e h result }
 {
     let no = entry_refusal(
         heads, tails, next, prev, bucket, entry, generation, serial, dated, deadline, stamp, clock,
@@ -203,7 +203,7 @@ pub fn handle_refusal(
     number: u64,
     h: u32,
 ) -> u64
-    ensures { RefusesHandle (before heads tails next prev bucket entry generation serial dated deadline stamp clock) slot number h result }
+    ensures { RefusesHandle (lent heads.now tails.now next.now prev.now bucket.now entry.now generation.now serial.now dated.now deadline.now stamp.now clock) slot number h result }
 {
     let no = closed_refusal(
         heads, tails, next, prev, bucket, entry, generation, serial, dated, deadline, stamp, clock,
@@ -271,7 +271,7 @@ pub fn enable_refusal(
     stamp: &[u32],
     clock: Clock,
 ) -> u64
-    ensures { RefusesEnable (before heads tails next prev bucket entry generation serial dated deadline stamp clock) result }
+    ensures { RefusesEnable (lent heads.now tails.now next.now prev.now bucket.now entry.now generation.now serial.now dated.now deadline.now stamp.now clock) result }
 {
     let no = around_refusal(
         clock.enabled,

@@ -3,7 +3,7 @@
 // The test assumes nothing of what the records hold, goes over the records a fixed number of times where serials are
 // near each other, and ends on any records.
 // No `requires`.
-ghost use Rattle.wheel_rules.specs.Lent.{entries, records, nodes_before};
+ghost use Rattle.wheel_rules.specs.Lent.{entries, records, nodes};
 ghost use Rattle.wheel_rules.specs.sound.Sound.{Verdict};
 
 pub mod lengths; // whether the lent lengths are those at enabling
@@ -37,7 +37,7 @@ pub fn is_sound(
 ) -> bool
     ensures { Verdict
         total
-        (records (nodes_before heads tails next prev bucket entry generation serial) (entries dated.now deadline.now stamp.now) clock)
+        (records (nodes heads.now tails.now next.now prev.now bucket.now entry.now generation.now serial.now) (entries dated.now deadline.now stamp.now) clock)
         result }
 {
     if !lengths_kept(

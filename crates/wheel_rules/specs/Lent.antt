@@ -2,7 +2,7 @@
 use Rattle.std.specs.Prelude.{ℕ, ◌≤◌, ◌<◌, suc, zero, Bool, true, false, cond, List, [], ◌⊎◌, ◌≡◌, ltb, length, get_or}
 use Rattle.std.proofs.Math.Option.{none, some}
 use Rattle.deque_rules.specs.Links.{Links, links, Whole, home_of, first, Deques, deq, Rep, listed}
-use Rattle.numbers.specs.Shared.{Numbers, Flags, no_slot, before_in, after_in}
+use Rattle.numbers.specs.Shared.{no_slot, before_in, after_in}
 use Rattle.rules.specs.Places.{Geometry, SoundPosition, buckets, visits, visited_at, bucket_at, ahead}
 use Rattle.rules.specs.Wheel.{Slot, Entry, Advance, closed, poised, within, whole, Wheel, Bucket}
 use Rattle.wheel_rules.specs.declared.calls.Clock.{Clock}
@@ -36,25 +36,6 @@ pub record Records : Type 0 where
 
 abbrev pub records : Nodes → Entries → Clock → Records
 records n e c = record { nodes = n; entries = e; clock = c }
-
--- ======== lent slices
-
--- the records that lent slices and a clock are, before a call and after it, in the order in which every call takes
--- them: heads, tails; next, prev, bucket, entry, generation, serial; dated, deadline, stamp (an entry's generation);
--- clock
-abbrev pub nodes_before : Numbers → Numbers → Numbers → Numbers → Numbers → Numbers → Numbers → Numbers → Nodes
-nodes_before h t n p b e g s =
-    nodes h.entry.now t.entry.now n.entry.now p.entry.now b.entry.now e.entry.now g.entry.now s.entry.now
-
-abbrev pub nodes_after : Numbers → Numbers → Numbers → Numbers → Numbers → Numbers → Numbers → Numbers → Nodes
-nodes_after h t n p b e g s =
-    nodes h.exit.now t.exit.now n.exit.now p.exit.now b.exit.now e.exit.now g.exit.now s.exit.now
-
-abbrev pub before : Numbers → Numbers → Numbers → Numbers → Numbers → Numbers → Numbers → Numbers → Flags → Numbers → Numbers → Clock → Records
-before h t n p b e g s d l m c = records (nodes_before h t n p b e g s) (entries d.entry.now l.entry.now m.entry.now) c
-
-abbrev pub after : Numbers → Numbers → Numbers → Numbers → Numbers → Numbers → Numbers → Numbers → Flags → Numbers → Numbers → Clock → Records
-after h t n p b e g s d l m c = records (nodes_after h t n p b e g s) (entries d.exit.now l.exit.now m.exit.now) c
 
 -- the answer r is true exactly where P holds
 pub record Decides (P : Type 0) (r : Bool) : Type 0 where

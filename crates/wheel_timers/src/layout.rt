@@ -1,9 +1,8 @@
 // For proved code only, unchecked: the records as enabling lays them out, whatever they held.
 ghost use Rattle.std.specs.Prelude.{◌≡◌, length};
-ghost use Rattle.deque_rules.specs.Lending.{links_before, links_after};
 ghost use Rattle.deque_rules.specs.Links.{links};
 ghost use Rattle.rules.specs.Places.{wheel01};
-ghost use Rattle.wheel_rules.specs.Lent.{nodes, entries, nodes_before, nodes_after};
+ghost use Rattle.wheel_rules.specs.Lent.{nodes, entries};
 ghost use Rattle.wheel_rules.specs.layout.Layout.{enabled_with, SeatReady, Seats, Clears, ClearsEntries, LayReady, Lays};
 
 use crate::moments::end;
@@ -19,7 +18,7 @@ fn seat(
     bucket: &mut [usize],
 )
     requires { SeatReady (links heads.old tails.old next.old prev.old bucket.old) }
-    ensures { Seats (links_before heads tails next prev bucket) (links_after heads tails next prev bucket) }
+    ensures { Seats (links heads.old tails.old next.old prev.old bucket.old) (links heads.new tails.new next.new prev.new bucket.new) }
 {
     let mut free = deque::layout::lay_out(heads, tails, next, prev, bucket);
     let mut b: usize = 0;
@@ -94,9 +93,9 @@ pub fn lay_out(
         (entries dated.old deadline.old age.old) }
     ensures { Lays
         wheel01
-        (nodes_before heads tails next prev bucket entry generation serial)
+        (nodes heads.old tails.old next.old prev.old bucket.old entry.old generation.old serial.old)
         (entries dated.old deadline.old age.old) clock
-        (nodes_after heads tails next prev bucket entry generation serial)
+        (nodes heads.new tails.new next.new prev.new bucket.new entry.new generation.new serial.new)
         (entries dated.new deadline.new age.new) result }
 {
     let after = enabled(clock, heads.len(), next.len(), dated.len());

@@ -1,8 +1,7 @@
 // For proved code only, unchecked: arming, disarming and rearming a timer, on records known to be sound.
-ghost use Rattle.deque_rules.specs.Lending.{links_before, links_after};
 ghost use Rattle.deque_rules.specs.Links.{links};
 ghost use Rattle.rules.specs.Places.{wheel01};
-ghost use Rattle.wheel_rules.specs.Lent.{nodes, nodes_before, nodes_after};
+ghost use Rattle.wheel_rules.specs.Lent.{nodes};
 ghost use Rattle.wheel_rules.specs.timers.Timers.{ArmReady, SlotReady, MoveReady, Arms, Disarms, Rearms};
 
 use crate::payload::write;
@@ -29,8 +28,8 @@ pub fn arm(
     requires { ArmReady wheel01 (nodes heads.old tails.old next.old prev.old bucket.old entry.old generation.old serial.old) clock }
     ensures { Arms
         wheel01
-        (nodes_before heads tails next prev bucket entry generation serial) clock
-        (nodes_after heads tails next prev bucket entry generation serial) result e h deadline }
+        (nodes heads.old tails.old next.old prev.old bucket.old entry.old generation.old serial.old) clock
+        (nodes heads.new tails.new next.new prev.new bucket.new entry.new generation.new serial.new) result e h deadline }
 {
     let slot = clock.free;
     let n = clock.serial;
@@ -62,8 +61,8 @@ pub fn disarm(
     requires { SlotReady wheel01 (nodes heads.old tails.old next.old prev.old bucket.old entry.old generation.old serial.old) clock x }
     ensures { Disarms
         wheel01
-        (nodes_before heads tails next prev bucket entry generation serial) clock
-        (nodes_after heads tails next prev bucket entry generation serial) result x }
+        (nodes heads.old tails.old next.old prev.old bucket.old entry.old generation.old serial.old) clock
+        (nodes heads.new tails.new next.new prev.new bucket.new entry.new generation.new serial.new) result x }
 {
     remove(heads, tails, next, prev, bucket, clock.free, x);
     write(entry, generation, serial, x, 0, 0, 0);
@@ -84,7 +83,7 @@ pub fn rearm(
     deadline: u64,
 )
     requires { MoveReady wheel01 (links heads.old tails.old next.old prev.old bucket.old) reading x }
-    ensures { Rearms wheel01 (links_before heads tails next prev bucket) (links_after heads tails next prev bucket) reading x deadline }
+    ensures { Rearms wheel01 (links heads.old tails.old next.old prev.old bucket.old) (links heads.new tails.new next.new prev.new bucket.new) reading x deadline }
 {
     let b = bucket_of(reading, deadline);
     move_back(heads, tails, next, prev, bucket, b, x);

@@ -1,5 +1,5 @@
 // Whether the lent lengths are those at enabling, and these in their ranges. No `requires`.
-ghost use Rattle.wheel_rules.specs.Lent.{Decides, nodes, entries, records, Ranges, EndsLengths, NodesLengths, EntriesLengths, Lengths, nodes_before};
+ghost use Rattle.wheel_rules.specs.Lent.{Decides, nodes, entries, records, Ranges, EndsLengths, NodesLengths, EntriesLengths, Lengths};
 
 use wheel_rules::calls::Clock;
 
@@ -92,7 +92,7 @@ pub fn lengths_kept(
     total: usize,
 ) -> bool
     ensures { Decides
-        (Lengths total (records (nodes_before heads tails next prev bucket entry generation serial) (entries dated.now deadline.now stamp.now) clock))
+        (Lengths total (records (nodes heads.now tails.now next.now prev.now bucket.now entry.now generation.now serial.now) (entries dated.now deadline.now stamp.now) clock))
         result }
 {
     if !ranged(total, clock.nodes, clock.entries) {
