@@ -2,7 +2,6 @@
 // time.
 ghost use Rattle.deque_rules.specs.Change.{CanPut, Puts, Linkable, LinksBack, Held, CutsOut, Pushable, PushesBack, Removes, Movable, MovesBack, HeldBy, Ahead};
 ghost use Rattle.deque_rules.specs.Change.{Turns};
-ghost use Rattle.deque_rules.specs.Lending.{links_before, links_after};
 ghost use Rattle.deque_rules.specs.Links.{links};
 
 use crate::NONE;
@@ -31,7 +30,7 @@ fn link_back(
     s: usize,
 )
     requires { Linkable (links heads.old tails.old next.old prev.old home.old) d s }
-    ensures { LinksBack (links_before heads tails next prev home) (links_after heads tails next prev home) d s }
+    ensures { LinksBack (links heads.old tails.old next.old prev.old home.old) (links heads.new tails.new next.new prev.new home.new) d s }
 {
     let t = tails[d];
     tails[d] = s;
@@ -51,7 +50,7 @@ fn unlink(
     s: usize,
 )
     requires { Held (links heads.old tails.old next.old prev.old home.old) s }
-    ensures { CutsOut (links_before heads tails next prev home) (links_after heads tails next prev home) s }
+    ensures { CutsOut (links heads.old tails.old next.old prev.old home.old) (links heads.new tails.new next.new prev.new home.new) s }
 {
     let d = home[s];
     let p = prev[s];
@@ -72,7 +71,7 @@ pub fn push(
     d: usize,
 ) -> usize
     requires { Pushable (links heads.old tails.old next.old prev.old home.old) free d }
-    ensures { PushesBack (links_before heads tails next prev home) (links_after heads tails next prev home) free d result }
+    ensures { PushesBack (links heads.old tails.old next.old prev.old home.old) (links heads.new tails.new next.new prev.new home.new) free d result }
 {
     let rest = take(next, free);
     link_back(heads, tails, next, prev, home, d, free);
@@ -90,7 +89,7 @@ pub fn remove(
     s: usize,
 )
     requires { Held (links heads.old tails.old next.old prev.old home.old) s }
-    ensures { Removes (links_before heads tails next prev home) (links_after heads tails next prev home) free s }
+    ensures { Removes (links heads.old tails.old next.old prev.old home.old) (links heads.new tails.new next.new prev.new home.new) free s }
 {
     unlink(heads, tails, next, prev, home, s);
     give_back(next, prev, s, free);
@@ -107,7 +106,7 @@ pub fn move_back(
     s: usize,
 )
     requires { Movable (links heads.old tails.old next.old prev.old home.old) d s }
-    ensures { MovesBack (links_before heads tails next prev home) (links_after heads tails next prev home) d s }
+    ensures { MovesBack (links heads.old tails.old next.old prev.old home.old) (links heads.new tails.new next.new prev.new home.new) d s }
 {
     unlink(heads, tails, next, prev, home, s);
     link_back(heads, tails, next, prev, home, d, s);
@@ -125,7 +124,7 @@ pub fn move_to_back(
     s: usize,
 )
     requires { Ahead (links heads.old tails.old next.old prev.old home.now) d s }
-    ensures { MovesBack (links_before heads tails next prev home) (links_after heads tails next prev home) d s }
+    ensures { MovesBack (links heads.old tails.old next.old prev.old home.now) (links heads.new tails.new next.new prev.new home.now) d s }
 {
     let p = prev[s];
     let q = next[s];
@@ -150,7 +149,7 @@ pub fn turn(
     s: usize,
 )
     requires { HeldBy (links heads.old tails.old next.old prev.old home.now) d s }
-    ensures { Turns (links_before heads tails next prev home) (links_after heads tails next prev home) d s }
+    ensures { Turns (links heads.old tails.old next.old prev.old home.now) (links heads.new tails.new next.new prev.new home.now) d s }
 {
     let q = next[s];
     if next.len() <= q {

@@ -1,6 +1,5 @@
 // For proved code only, unchecked: lays the records out, whatever they held.
 ghost use Rattle.deque_rules.specs.Layout.{Sizes, LaysOut, Empties, Strings};
-ghost use Rattle.deque_rules.specs.Lending.{links_before, links_after};
 ghost use Rattle.deque_rules.specs.Links.{links};
 ghost use Rattle.std.specs.Prelude.{◌≡◌, length};
 
@@ -45,7 +44,7 @@ pub fn lay_out(
     home: &mut [usize],
 ) -> usize
     requires { Sizes (links heads.old tails.old next.old prev.old home.old) }
-    ensures { LaysOut (links_before heads tails next prev home) (links_after heads tails next prev home) result }
+    ensures { LaysOut (links heads.old tails.old next.old prev.old home.old) (links heads.new tails.new next.new prev.new home.new) result }
 {
     empty(heads, tails);
     string(next, prev, home)

@@ -1,5 +1,5 @@
 // The test of links and free chain. It assumes nothing, looks at each slot once, and ends on any links.
-ghost use Rattle.deque_rules.specs.Lending.{links_before};
+ghost use Rattle.deque_rules.specs.Links.{links};
 ghost use Rattle.deque_rules.specs.Sound.{Verdict, Sized};
 
 use crate::NONE;
@@ -14,7 +14,7 @@ pub fn sound(
     home: &[usize],
     free: usize,
 ) -> bool
-    ensures { Verdict (links_before heads tails next prev home) free result }
+    ensures { Verdict (links heads.now tails.now next.now prev.now home.now) free result }
 {
     if !sized(heads, tails, next, prev, home) {
         return false;
@@ -44,7 +44,7 @@ pub fn sized(
     prev: &[usize],
     home: &[usize],
 ) -> bool
-    ensures { Sized (links_before heads tails next prev home) result }
+    ensures { Sized (links heads.now tails.now next.now prev.now home.now) result }
 {
     if NONE < heads.len() {
         return false;

@@ -3,7 +3,6 @@
 // made of them.
 ghost use Rattle.std.specs.Prelude.{◌<◌, length};
 ghost use Rattle.deque_rules.specs.Layout.{Sizes};
-ghost use Rattle.deque_rules.specs.Lending.{links_before};
 ghost use Rattle.deque_rules.specs.Links.{links};
 ghost use Rattle.deque_rules.specs.Sound.{Walked, WalkedFree, SizesFree};
 
@@ -23,7 +22,7 @@ pub fn walk(
     d: usize,
 ) -> usize
     requires { Sizes (links heads.now tails.now next.now prev.now home.now) × (d < length heads.now) }
-    ensures { Walked (links_before heads tails next prev home) d result }
+    ensures { Walked (links heads.now tails.now next.now prev.now home.now) d result }
 {
     let n = next.len();
     let mut b = NONE;

@@ -1,6 +1,6 @@
 // The public calls that look, count or move a cursor: refusals in order, then the work. None asks anything of its
 // input. A refused call leaves every record as found.
-ghost use Rattle.deque_rules.specs.Deque.{DequePromised, look_front, look_back, length_of, next_by_cursor, reset_cursor, before, after};
+ghost use Rattle.deque_rules.specs.Deque.{DequePromised, look_front, look_back, length_of, next_by_cursor, reset_cursor, state};
 
 use crate::NONE;
 use crate::looks::{back, front, step};
@@ -21,8 +21,8 @@ pub fn look_front(
     d: usize,
 ) -> Looked
     ensures { DequePromised (look_front d)
-        (before heads tails lens cursors next prev home element) free
-        (after heads tails lens cursors next prev home element) result }
+        (state heads.now tails.now lens.now cursors.now next.now prev.now home.now element.now) free
+        (state heads.now tails.now lens.now cursors.now next.now prev.now home.now element.now) result }
 {
     let no = deque_refusal(
         heads, tails, lens, cursors, next, prev, home, element, free, d,
@@ -49,8 +49,8 @@ pub fn look_back(
     d: usize,
 ) -> Looked
     ensures { DequePromised (look_back d)
-        (before heads tails lens cursors next prev home element) free
-        (after heads tails lens cursors next prev home element) result }
+        (state heads.now tails.now lens.now cursors.now next.now prev.now home.now element.now) free
+        (state heads.now tails.now lens.now cursors.now next.now prev.now home.now element.now) result }
 {
     let no = deque_refusal(
         heads, tails, lens, cursors, next, prev, home, element, free, d,
@@ -77,8 +77,8 @@ pub fn length_of(
     d: usize,
 ) -> Measured
     ensures { DequePromised (length_of d)
-        (before heads tails lens cursors next prev home element) free
-        (after heads tails lens cursors next prev home element) result }
+        (state heads.now tails.now lens.now cursors.now next.now prev.now home.now element.now) free
+        (state heads.now tails.now lens.now cursors.now next.now prev.now home.now element.now) result }
 {
     let no = deque_refusal(
         heads, tails, lens, cursors, next, prev, home, element, free, d,
@@ -105,8 +105,8 @@ pub fn next_by_cursor(
     d: usize,
 ) -> Looked
     ensures { DequePromised (next_by_cursor d)
-        (before heads tails lens cursors next prev home element) free
-        (after heads tails lens cursors next prev home element) result }
+        (state heads.now tails.now lens.now cursors.old next.now prev.now home.now element.now) free
+        (state heads.now tails.now lens.now cursors.new next.now prev.now home.now element.now) result }
 {
     let no = deque_refusal(
         heads, tails, lens, cursors, next, prev, home, element, free, d,
@@ -133,8 +133,8 @@ pub fn reset_cursor(
     d: usize,
 ) -> Done
     ensures { DequePromised (reset_cursor d)
-        (before heads tails lens cursors next prev home element) free
-        (after heads tails lens cursors next prev home element) result }
+        (state heads.now tails.now lens.now cursors.old next.now prev.now home.now element.now) free
+        (state heads.now tails.now lens.now cursors.new next.now prev.now home.now element.now) result }
 {
     let no = deque_refusal(
         heads, tails, lens, cursors, next, prev, home, element, free, d,

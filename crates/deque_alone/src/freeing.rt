@@ -1,6 +1,6 @@
 // The public calls that take a node out and free it: refusals in order, then the work. None asks anything of its input.
 // A refused call leaves every record as found.
-ghost use Rattle.deque_rules.specs.Deque.{DequePromised, pop_front, unlink_and_drop, before, after};
+ghost use Rattle.deque_rules.specs.Deque.{DequePromised, pop_front, unlink_and_drop, state};
 
 use crate::refuse::{deque_refusal, node_refusal};
 use crate::unchecked::{pop, release};
@@ -21,8 +21,8 @@ pub fn pop_front(
     d: usize,
 ) -> Popped
     ensures { DequePromised (pop_front d)
-        (before heads tails lens cursors next prev home element) free
-        (after heads tails lens cursors next prev home element) result }
+        (state heads.old tails.old lens.old cursors.old next.old prev.old home.old element.old) free
+        (state heads.new tails.new lens.new cursors.new next.new prev.new home.new element.new) result }
 {
     let no = deque_refusal(
         heads, tails, lens, cursors, next, prev, home, element, free, d,
@@ -50,8 +50,8 @@ pub fn unlink_and_drop(
     s: usize,
 ) -> Dropped
     ensures { DequePromised (unlink_and_drop d s)
-        (before heads tails lens cursors next prev home element) free
-        (after heads tails lens cursors next prev home element) result }
+        (state heads.old tails.old lens.old cursors.old next.old prev.old home.old element.old) free
+        (state heads.new tails.new lens.new cursors.new next.new prev.new home.new element.new) result }
 {
     let no = node_refusal(
         heads, tails, lens, cursors, next, prev, home, element, free, d, s,

@@ -1,6 +1,6 @@
 // The public calls that put a node at the back: refusals in order, then the work. None asks anything of its input. A
 // refused call leaves every record as found.
-ghost use Rattle.deque_rules.specs.Deque.{DequePromised, push_back, move_to_back, before, after};
+ghost use Rattle.deque_rules.specs.Deque.{DequePromised, push_back, move_to_back, state};
 
 use crate::refuse::{node_refusal, push_refusal};
 use crate::unchecked::{push, shift};
@@ -21,8 +21,8 @@ pub fn push_back(
     e: u64,
 ) -> Pushed
     ensures { DequePromised (push_back d e)
-        (before heads tails lens cursors next prev home element) free
-        (after heads tails lens cursors next prev home element) result }
+        (state heads.old tails.old lens.old cursors.old next.old prev.old home.old element.old) free
+        (state heads.new tails.new lens.new cursors.new next.new prev.new home.new element.new) result }
 {
     let no = push_refusal(
         heads, tails, lens, cursors, next, prev, home, element, free, d,
@@ -54,8 +54,8 @@ pub fn move_to_back(
     s: usize,
 ) -> Done
     ensures { DequePromised (move_to_back d s)
-        (before heads tails lens cursors next prev home element) free
-        (after heads tails lens cursors next prev home element) result }
+        (state heads.old tails.old lens.now cursors.old next.old prev.old home.old element.now) free
+        (state heads.new tails.new lens.now cursors.new next.new prev.new home.new element.now) result }
 {
     let no = node_refusal(
         heads, tails, lens, cursors, next, prev, home, element, free, d, s,

@@ -1,7 +1,7 @@
 // For proved code only, unchecked: looks at the ends and the cursor, on records known to be sound. A caller shows that
 // the records are sound (or tests it once).
 ghost use Rattle.std.specs.Prelude.{◌<◌, ◌≡◌, length};
-ghost use Rattle.deque_rules.specs.Deque.{state, moved_on, start_at, before, after};
+ghost use Rattle.deque_rules.specs.Deque.{state, moved_on, start_at};
 ghost use Rattle.deque_rules.specs.alone.Ready.{DequeReady};
 ghost use Rattle.deque_rules.specs.alone.Work.{LooksFront, LooksBack, Steps};
 
@@ -34,7 +34,7 @@ pub fn front(
     d: usize,
 ) -> Looked
     requires { DequeReady (state heads.now tails.now lens.now cursors.now next.now prev.now home.now element.now) free d }
-    ensures { LooksFront (before heads tails lens cursors next prev home element) d result }
+    ensures { LooksFront (state heads.now tails.now lens.now cursors.now next.now prev.now home.now element.now) d result }
 {
     let x = heads[d];
     if next.len() <= x {
@@ -60,7 +60,7 @@ pub fn back(
     d: usize,
 ) -> Looked
     requires { DequeReady (state heads.now tails.now lens.now cursors.now next.now prev.now home.now element.now) free d }
-    ensures { LooksBack (before heads tails lens cursors next prev home element) d result }
+    ensures { LooksBack (state heads.now tails.now lens.now cursors.now next.now prev.now home.now element.now) d result }
 {
     let x = tails[d];
     if next.len() <= x {
@@ -100,7 +100,7 @@ pub fn step(
     d: usize,
 ) -> Looked
     requires { DequeReady (state heads.now tails.now lens.now cursors.old next.now prev.now home.now element.now) free d }
-    ensures { Steps (before heads tails lens cursors next prev home element) (after heads tails lens cursors next prev home element) d result }
+    ensures { Steps (state heads.now tails.now lens.now cursors.old next.now prev.now home.now element.now) (state heads.now tails.now lens.now cursors.new next.now prev.now home.now element.now) d result }
 {
     let s = start(heads, cursors, d);
     if next.len() <= s {

@@ -1,6 +1,6 @@
 // Making: the refusal, then the work. It asks nothing of its input. A refused call leaves every record as found.
 ghost use Rattle.std.specs.Prelude.{ℕ};
-ghost use Rattle.deque_rules.specs.Deque.{DequePromised, make, before, after};
+ghost use Rattle.deque_rules.specs.Deque.{DequePromised, make, state};
 
 use crate::layout::{clear, zero};
 use crate::sound::lent;
@@ -20,8 +20,8 @@ pub fn make(
     element: &mut [u64],
 ) -> Made
     ensures { (free : ℕ) → DequePromised make
-        (before heads tails lens cursors next prev home element) free
-        (after heads tails lens cursors next prev home element) result }
+        (state heads.old tails.old lens.old cursors.old next.old prev.old home.old element.old) free
+        (state heads.new tails.new lens.new cursors.new next.new prev.new home.new element.new) result }
 {
     if !lent(heads, tails, lens, cursors, next, prev, home, element) {
         return Made::Refused(3);

@@ -1,5 +1,5 @@
 // Which refusal applies: the lowest number of 01 whose row holds, or 0. Each reads the records and changes nothing.
-ghost use Rattle.deque_rules.specs.Deque.{before};
+ghost use Rattle.deque_rules.specs.Deque.{state};
 ghost use Rattle.deque_rules.specs.alone.Refuse.{RefusesDeque, RefusesPush, RefusesNode};
 
 use crate::NONE;
@@ -18,7 +18,7 @@ pub fn deque_refusal(
     free: usize,
     d: usize,
 ) -> u32
-    ensures { RefusesDeque (before heads tails lens cursors next prev home element) free d result }
+    ensures { RefusesDeque (state heads.now tails.now lens.now cursors.now next.now prev.now home.now element.now) free d result }
 {
     if !sound(heads, tails, lens, cursors, next, prev, home, element, free) {
         return 4;
@@ -42,7 +42,7 @@ pub fn push_refusal(
     free: usize,
     d: usize,
 ) -> u32
-    ensures { RefusesPush (before heads tails lens cursors next prev home element) free d result }
+    ensures { RefusesPush (state heads.now tails.now lens.now cursors.now next.now prev.now home.now element.now) free d result }
 {
     if !sound(heads, tails, lens, cursors, next, prev, home, element, free) {
         return 4;
@@ -70,7 +70,7 @@ pub fn node_refusal(
     d: usize,
     s: usize,
 ) -> u32
-    ensures { RefusesNode (before heads tails lens cursors next prev home element) free d s result }
+    ensures { RefusesNode (state heads.now tails.now lens.now cursors.now next.now prev.now home.now element.now) free d s result }
 {
     if !sound(heads, tails, lens, cursors, next, prev, home, element, free) {
         return 4;

@@ -1,6 +1,6 @@
 // The soundness test. It assumes nothing of what the records hold, looks at each node once, and ends on any links.
 ghost use Rattle.std.specs.Prelude.{◌<◌};
-ghost use Rattle.deque_rules.specs.Deque.{before};
+ghost use Rattle.deque_rules.specs.Deque.{state};
 ghost use Rattle.deque_rules.specs.alone.Sound.{DequesOk, NodesOk, IsLent, StandsOk, Judged};
 
 use crate::{NONE, PAST_END};
@@ -17,7 +17,7 @@ pub fn lent(
     home: &[usize],
     element: &[u64],
 ) -> bool
-    ensures { IsLent (before heads tails lens cursors next prev home element) result }
+    ensures { IsLent (state heads.now tails.now lens.now cursors.now next.now prev.now home.now element.now) result }
 {
     if !lent_deques(heads, tails, lens, cursors) {
         return false;
@@ -93,7 +93,7 @@ pub fn sound(
     element: &[u64],
     free: usize,
 ) -> bool
-    ensures { Judged (before heads tails lens cursors next prev home element) free result }
+    ensures { Judged (state heads.now tails.now lens.now cursors.now next.now prev.now home.now element.now) free result }
 {
     if !lent(heads, tails, lens, cursors, next, prev, home, element) {
         return false;

@@ -1,7 +1,7 @@
 // For proved code only, unchecked: the work of the calls that link and unlink nodes, on records known to be sound. A
 // caller shows that the records are sound (or tests it once).
 ghost use Rattle.std.specs.Prelude.{◌<◌, ◌≡◌, length};
-ghost use Rattle.deque_rules.specs.Deque.{state, step_off, before, after};
+ghost use Rattle.deque_rules.specs.Deque.{state, step_off};
 ghost use Rattle.deque_rules.specs.alone.Ready.{DequeReady, PushReady, NodeReady};
 ghost use Rattle.deque_rules.specs.alone.Work.{Pushes, Drops, Moves, Pops};
 
@@ -36,7 +36,7 @@ pub fn push(
     e: u64,
 ) -> usize
     requires { PushReady (state heads.old tails.old lens.old cursors.now next.old prev.old home.old element.old) free d }
-    ensures { Pushes (before heads tails lens cursors next prev home element) (after heads tails lens cursors next prev home element) free d e result }
+    ensures { Pushes (state heads.old tails.old lens.old cursors.now next.old prev.old home.old element.old) (state heads.new tails.new lens.new cursors.now next.new prev.new home.new element.new) free d e result }
 {
     let rest = deque::change::push(heads, tails, next, prev, home, free, d);
     lens[d] += 1;
@@ -59,7 +59,7 @@ pub fn release(
     s: usize,
 ) -> u64
     requires { NodeReady (state heads.old tails.old lens.old cursors.old next.old prev.old home.old element.old) free d s }
-    ensures { Drops (before heads tails lens cursors next prev home element) (after heads tails lens cursors next prev home element) free d s result }
+    ensures { Drops (state heads.old tails.old lens.old cursors.old next.old prev.old home.old element.old) (state heads.new tails.new lens.new cursors.new next.new prev.new home.new element.new) free d s result }
 {
     let e = element[s];
     element[s] = 0;
@@ -83,7 +83,7 @@ pub fn pop(
     d: usize,
 ) -> Popped
     requires { DequeReady (state heads.old tails.old lens.old cursors.old next.old prev.old home.old element.old) free d }
-    ensures { Pops (before heads tails lens cursors next prev home element) (after heads tails lens cursors next prev home element) free d result }
+    ensures { Pops (state heads.old tails.old lens.old cursors.old next.old prev.old home.old element.old) (state heads.new tails.new lens.new cursors.new next.new prev.new home.new element.new) free d result }
 {
     let s = heads[d];
     if next.len() <= s {
@@ -114,7 +114,7 @@ pub fn shift(
     s: usize,
 )
     requires { NodeReady (state heads.old tails.old lens.now cursors.old next.old prev.old home.now element.now) free d s }
-    ensures { Moves (before heads tails lens cursors next prev home element) (after heads tails lens cursors next prev home element) free d s }
+    ensures { Moves (state heads.old tails.old lens.now cursors.old next.old prev.old home.now element.now) (state heads.new tails.new lens.now cursors.new next.new prev.new home.now element.now) free d s }
 {
     if tails[d] == s {
         return;

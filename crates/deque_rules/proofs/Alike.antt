@@ -27,6 +27,7 @@ pub record Alike (a b : Links) : Type 0 where
 path_agreed : (f f' : ℕ → ℕ) (xs : List ℕ) → Path f xs → Path f' xs → (x : ℕ) → In x xs → f x ≡ f' x
 path_agreed f f' (y ∷ ys) h k x (inl e) = ap f e ∙ h.0 ∙ sym k.0 ∙ ap f' (sym e)
 path_agreed f f' (y ∷ ys) h k x (inr m) = path_agreed f f' ys h.1 k.1 x m
+path_agreed f f' [] h k x x5 = elim x5 [ ]
 
 module _ (a b : Links) (v : Lists) (r : Rep a v []) (q : Rep b v []) where
   -- at a member of a deque, next and prev agree

@@ -2,7 +2,7 @@
 -- the ring is turned.
 use Prim.Native.Nat.{ℕ, ◌<◌}
 use native.Mathlib.Omega.{arith}
-use mathlib.Core.Path.{◌≡◌, refl, sym, ap, ◌∙◌}
+use mathlib.Core.Path.{◌≡◌, refl, sym, ap, ◌∙◌, subst}
 use mathlib.Core.Logic.{◌⊎◌, inl, inr, ⊎_elim}
 use mathlib.Core.List.{List, [], ◌∷◌, ◌++◌}
 use lib.ListN.{length}
@@ -39,6 +39,7 @@ module _ (z : ℕ) (f : ℕ → ℕ) where
   shorter b (x ∷ xs) h y (inr m) =
       let r = shorter x xs h.1 y m in
       (r.0, r.1, omega arith, λ v k. inr (r.3 v k))
+  shorter b [] h y x'' = elim x'' [ ]
 
   -- so no slot stands twice
   pub way_apart : (b : ℕ) (xs : List ℕ) → Way z f b xs → Real z xs → In b xs → ⊥
@@ -107,6 +108,7 @@ module _ (z : ℕ) (f g : ℕ → ℕ) where
   pub undo : (b : ℕ) (xs : List ℕ) → Chain z f g b xs → (s : ℕ) → In s xs → (f (g s) ≡ s) × (g (f s) ≡ s)
   undo b (x ∷ xs) h s (inl e) = (rw e (ap f h.1 ∙ h.0), rw e (undo_start x xs h.2))
   undo b (x ∷ xs) h s (inr m) = undo x xs h.2 s m
+  undo b [] h s x'' = elim x'' [ ]
 
   pub undo_end : (b : ℕ) (xs : List ℕ) → Chain z f g b xs → f (g z) ≡ z
   undo_end b [] h = ap f h.1 ∙ h.0
@@ -116,10 +118,12 @@ module _ (z : ℕ) (f g : ℕ → ℕ) where
   pub prev_in : (b : ℕ) (xs : List ℕ) → Chain z f g b xs → (s : ℕ) → In s xs → (g s ≡ b) ⊎ In (g s) xs
   prev_in b (x ∷ xs) h s (inl e) = inl (ap g e ∙ h.1)
   prev_in b (x ∷ xs) h s (inr m) = ⊎_elim (λ e. inr (inl e)) (λ k. inr (inr k)) (prev_in x xs h.2 s m)
+  prev_in b [] h s x'' = elim x'' [ ]
 
   pub next_in : (b : ℕ) (xs : List ℕ) → Chain z f g b xs → (s : ℕ) → In s xs → (f s ≡ z) ⊎ In (f s) xs
-  next_in b (x ∷ xs) h s (inl e) = ⊎_elim (λ k. inl (ap f e ∙ k)) (λ k. inr (inr (rw e k))) (chain_start x xs h.2)
+  next_in b (x ∷ xs) h s (inl e) = ⊎_elim (λ k. inl (ap f e ∙ k)) (λ k. inr (inr (subst (λ y. In (f y) xs) (sym e) k))) (chain_start x xs h.2)
   next_in b (x ∷ xs) h s (inr m) = ⊎_elim (λ e. inl e) (λ k. inr (inr k)) (next_in x xs h.2 s m)
+  next_in b [] h s x'' = elim x'' [ ]
 
   -- a chain through s is one up to s and one from s on
   pub parts : (b : ℕ) (us : List ℕ) (s : ℕ) (ws : List ℕ) → Chain z f g b (us ++ (s ∷ ws)) → Chain s f g b us × Chain z f g s ws
@@ -204,3 +208,4 @@ module _ (z : ℕ) (f g f' g' : ℕ → ℕ) (s : ℕ) (f-at : f' (g s) ≡ f s)
         cut x xs (λ v k. p v (inr k)) (λ k. d (sym k)) (⊎_elim (λ k. absurd (d k)) (λ k. k) m) h.2,
       ))
       (same? s x)
+  cut b [] p n m h = elim m [ ]

@@ -74,7 +74,7 @@ give_rep h t n p o v loose s free w r f =
       small = r.small;
       held_len = r.held_len;
       linked = λ e he.
-          agree none (step h n e) (step t p e) _ _ none (deq v e) refl
+          agree none (step h n e) (step t p e) (step h (set n s free) e) (step t (set p s w) e) none (deq v e) refl
           (λ x m.
           let i : x ≡ s → ⊥ = λ j. omega (arith, (r.member e x he m).1, ap (λ (y : ℕ). get_or o y 0) j, l.1, r.few, he) in
           let k : x ≡ none → ⊥ = λ j. omega (arith, (r.member e x he m).0, r.small, j) in

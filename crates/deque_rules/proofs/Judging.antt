@@ -121,7 +121,7 @@ module _ (a : Links) where
       once_all =
           once_app (flat qs) fs
           (once_flat (home_of a) 0 qs
-          (λ i j. chain_once none _ _ none (get_or qs i []) (u.runs i (in-d i j)).0 (real i (in-d i j)))
+          (λ i j. chain_once none (step a.heads a.next i) (step a.tails a.prev i) none (get_or qs i []) (u.runs i (in-d i j)).0 (real i (in-d i j)))
           (λ i x j m. omega (arith, ((u.runs i (in-d i j)).1 x m).1)))
           (path_once _ fs (k.found l).1.1 real_free)
           (λ x i j.

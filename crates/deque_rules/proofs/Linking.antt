@@ -41,7 +41,7 @@ module _ (a : Links) (v : Lists) (loose : List ℕ) (d s : ℕ) (r : Rep a v (s 
 
   -- the old tail is none or a slot of d
   pub t_in : (t ≡ none → ⊥) → In t (deq v d)
-  t_in n = ⊎_elim (λ e. absurd (n e)) (λ m. m) (chain_end none _ _ none (deq v d) (r.linked d hd))
+  t_in n = ⊎_elim (λ e. absurd (n e)) (λ m. m) (chain_end none (step a.heads a.next d) (step a.tails a.prev d) none (deq v d) (r.linked d hd))
 
   s_not_t : s ≡ t → ⊥
   s_not_t e = not_s t (t_in (λ i. s_real (e ∙ i))) (sym e)
@@ -76,7 +76,7 @@ module _ (a : Links) (v : Lists) (loose : List ℕ) (d s : ℕ) (r : Rep a v (s 
   linked : Chain none (step b.heads b.next d) (step b.tails b.prev d) none (deq v d ++ (s ∷ []))
   unfolding link_back
   linked =
-      snoc none (step a.heads a.next d) (step a.tails a.prev d) _ _ s
+      snoc none (step a.heads a.next d) (step a.tails a.prev d) (step b.heads b.next d) (step b.tails b.prev d) s
       (put_at a.heads (set a.next s none) d t s (rw r.heads_len hd) (λ n. simp (length-set, r.next_len) (r.member d t hd (t_in n)).0))
       (put_other a.heads (set a.next s none) d t s s s_not_t ∙ simp (ne_eqb s none s_real) (get_or-set_same a.next s none 0 (rw r.next_len s_slot)))
       (simp (ne_eqb s none s_real) (get_or-set_same a.prev s t 0 (rw r.prev_len s_slot)))

@@ -67,7 +67,7 @@ module _ (a b : Links) (v : Lists) (loose loose' : List ℕ) (d s : ℕ) (xs : L
 
   linked_e : (e : ℕ) → e < v.count → (e ≡ d → ⊥) → Chain none (step b.heads b.next e) (step b.tails b.prev e) none (deq v e)
   linked_e e h n =
-      agree none (step a.heads a.next e) (step a.tails a.prev e) _ _ none (deq v e)
+      agree none (step a.heads a.next e) (step a.tails a.prev e) (step b.heads b.next e) (step b.tails b.prev e) none (deq v e)
       (l.heads_off e n)
       (λ x m.
       let i = r.member e x h m in
@@ -137,4 +137,4 @@ module _ (a : Links) (v : Lists) (loose : List ℕ) (r : Rep a v loose) where
   free_real x m e = omega (arith, (r.spare x m).0, r.small, e)
 
   pub deq_once : (d : ℕ) → d < v.count → Once (deq v d)
-  deq_once d h = chain_once none _ _ none (deq v d) (r.linked d h) (slot_real d h)
+  deq_once d h = chain_once none (step a.heads a.next d) (step a.tails a.prev d) none (deq v d) (r.linked d h) (slot_real d h)

@@ -118,6 +118,7 @@ module _ (a : Links) (v : Lists) (loose : List ℕ) (d s : ℕ) (r : Rep a v loo
   some : (xs : List ℕ) → In s xs → Chain none f g none xs → In h xs × In t xs
   some (x ∷ xs) m c =
       (inl c.0, ⊎_elim (λ (e : t ≡ x). inl e) (λ k. inr k) (chain_end none f g x xs c.2))
+  some [] m c = elim m [ ]
 
   pub h_in : In h (deq v d)
   h_in = (some (deq v d) s_in (r.linked d hd)).0
@@ -171,6 +172,7 @@ module _ (a : Links) (v : Lists) (loose : List ℕ) (d s : ℕ) (r : Rep a v loo
             go : (b : ℕ) (xs : List ℕ) → Chain none f g b xs → In s xs → g (f s) ≡ s
             go b (x ∷ xs) c (inl e) = rw e (undo_start none f g x xs c.2)
             go b (x ∷ xs) c (inr m) = go x xs c.2 m
+            go b [] c x'' = elim x'' [ ]
 
     h_not_q : h ≡ q → ⊥
     h_not_q e = s_real (sym back_q ∙ ap (λ (x : ℕ). get_or a.prev x 0) (sym e) ∙ start_h)

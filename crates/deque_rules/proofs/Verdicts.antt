@@ -6,7 +6,7 @@ use mathlib.Core.Bool.{Bool, true, false, false≢true, not}
 use mathlib.Core.List.{List}
 use lib.ListN.{length}
 use lib.Dec.{eqb}
-use borrow.Author.Tests.{eq-eqb, eqb-true, not_true, not-false}
+use borrow.Author.Tests.{eq-eqb, eqb-true, not-true, not-false}
 use Rattle.numbers.specs.Shared.{no_slot as none}
 use Rattle.deque_rules.specs.Links.{Links, links, Whole}
 use Rattle.deque_rules.specs.Layout.{Sizes}
@@ -28,7 +28,7 @@ module _ (a : Links) where
     nay n = record { sound = λ e. absurd (false≢true e); complete = λ w. absurd (n w) }
 
     pub not_sized : (r : Bool) → Sized a r → not r ≡ true → Verdict a free false
-    not_sized r z e = nay (λ w. false≢true (sym (not_true r e) ∙ z.complete (whole_sizes a free w)))
+    not_sized r z e = nay (λ w. false≢true (sym (not-true r e) ∙ z.complete (whole_sizes a free w)))
 
     pub fails : (d total c : ℕ) → Upto a d total → d < length a.heads → Walked a d c → none < c → Verdict a free false
     fails d total c u h k l = nay (no_walk a free d c h k l)

@@ -29,7 +29,7 @@ module _ (a : Links) (d : ℕ) (z : Sizes a × (d < length a.heads)) where
   real b xs h y m e = omega (arith, (h.1 y m).0, z.0.small, e)
 
   short : (b : ℕ) (xs : List ℕ) → Runs a d b xs → length xs ≤ length a.next
-  short b xs h = at_most (length a.next) xs (chain_once none _ _ b xs h.0 (real b xs h)) (λ y m. (h.1 y m).0)
+  short b xs h = at_most (length a.next) xs (chain_once none (step a.heads a.next d) (step a.tails a.prev d) b xs h.0 (real b xs h)) (λ y m. (h.1 y m).0)
 
   module _ (b x k : ℕ) (g : Going a d b x k) where
     -- what a list from b on says of x

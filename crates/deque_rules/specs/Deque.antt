@@ -16,7 +16,7 @@ use Rattle.deque_rules.specs.declared.alone.Popped.{Popped}
 use Rattle.deque_rules.specs.declared.alone.Popped.TheVariants.{Node as PoppedNode, Nothing as PoppedNothing, Refused as PoppedRefused}
 use Rattle.deque_rules.specs.declared.alone.Pushed.{Pushed}
 use Rattle.deque_rules.specs.declared.alone.Pushed.TheVariants.{At, Refused as PushedRefused}
-use Rattle.numbers.specs.Shared.{no_slot, In, past_end, unless, not_refused, up_from, Numbers}
+use Rattle.numbers.specs.Shared.{no_slot, In, past_end, unless, not_refused, up_from}
 
 -- ======== the records
 
@@ -319,18 +319,6 @@ Promise (reset_cursor d) a free b t = Meets (deque_rows a free d) a b t (with_cu
 -- the promise of every public call: what the contracts cite
 pub record DequePromised (c : DequeCall) (a : State) (free : ℕ) (b : State) (r : AnswerOf c) : Type 0 where
   pub meets : Promise c a free b (told c r)
-
--- ======== lent slices
-
--- the records that eight lent slices are, before a call and after it: heads, tails, lens, cursors; next, prev, home,
--- element
-abbrev pub before : Numbers → Numbers → Numbers → Numbers → Numbers → Numbers → Numbers → Numbers → State
-before h t l c n p o e =
-    state h.entry.now t.entry.now l.entry.now c.entry.now n.entry.now p.entry.now o.entry.now e.entry.now
-
-abbrev pub after : Numbers → Numbers → Numbers → Numbers → Numbers → Numbers → Numbers → Numbers → State
-after h t l c n p o e =
-    state h.exit.now t.exit.now l.exit.now c.exit.now n.exit.now p.exit.now o.exit.now e.exit.now
 
 -- ======== histories
 

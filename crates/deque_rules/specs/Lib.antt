@@ -10,4 +10,3 @@ pub mod Layout
 pub mod Sound
 pub mod Turn
 pub mod alone
-pub mod Lending

@@ -111,6 +111,7 @@ Mem x (y ∷ ys) = (x ≡ y) ⊎ Mem x ys
 pub mem_left : (xs ys : List ℕ) (x : ℕ) → Mem x xs → Mem x (xs ++ ys)
 mem_left (y ∷ xs) ys x (inl e) = inl e
 mem_left (y ∷ xs) ys x (inr m) = inr (mem_left xs ys x m)
+mem_left [] ys x x3 = elim x3 [ ]
 
 pub mem_right : (xs ys : List ℕ) (x : ℕ) → Mem x ys → Mem x (xs ++ ys)
 mem_right [] ys x m = m

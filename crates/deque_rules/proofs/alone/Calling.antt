@@ -6,7 +6,7 @@ use mathlib.Core.Logic.{inl, inr}
 use mathlib.Core.Bool.{Bool, true, false, false≢true, not}
 use mathlib.Core.List.{List, [], ◌∷◌}
 use lib.ListN.{length, replicate, get_or}
-use borrow.Author.Tests.{not_true, not-false}
+use borrow.Author.Tests.{not-true, not-false}
 use Rattle.numbers.specs.Shared.{no_slot as none}
 use Rattle.deque_rules.specs.Links.{Links, links}
 use Rattle.deque_rules.specs.Layout.{Sizes, LaysOut}
@@ -29,7 +29,7 @@ use Rattle.deque_rules.specs.declared.alone.Dropped.TheVariants.{Element, Refuse
 pub make_no : (h t l c n p o e : List ℕ) (free : ℕ) (r : Bool) → IsLent (state h t l c n p o e) r → not r ≡ true → Promised make (state h t l c n p o e) free
     (state h t l c n p o e) (MadeRefused 3)
 make_no h t l c n p o e free r z i =
-    record { meets = no _ (state h t l c n p o e) _ _ 3 (inl ((λ y. false≢true (sym (not_true r i) ∙ z.complete y)), refl)) (λ k. omega (arith, k)) }
+    record { meets = no _ (state h t l c n p o e) _ _ 3 (inl ((λ y. false≢true (sym (not-true r i) ∙ z.complete y)), refl)) (λ k. omega (arith, k)) }
 
 module _ (h t l c n p o e : List ℕ) (r : Bool) (z : IsLent (state h t l c n p o e) r) (i : not r ≡ false) where
   lent : Lent (state h t l c n p o e)

@@ -6,7 +6,7 @@ use mathlib.Core.Logic.{◌⊎◌, inl, inr, ⊎_elim}
 use mathlib.Core.Bool.{Bool, true, false, false≢true, not}
 use mathlib.Core.List.{List}
 use lib.ListN.{length, get_or}
-use borrow.Author.Tests.{not_true, not-false}
+use borrow.Author.Tests.{not-true, not-false}
 use borrow.Author.Rules.{scaled_Fits}
 use mir.Syntax.{w64}
 use mir.Val.{Fits}
@@ -25,7 +25,7 @@ module _ (h t l c n p o e : List ℕ) (free d : ℕ) (b : Bool) (j : Judged (sta
   a = state h t l c n p o e
 
   bad : not b ≡ true → Sound a free → ⊥
-  bad i s = false≢true (sym (not_true b i) ∙ j.complete s)
+  bad i s = false≢true (sym (not-true b i) ∙ j.complete s)
 
   good : not b ≡ false → Sound a free
   good i = j.sound (not-false b i)

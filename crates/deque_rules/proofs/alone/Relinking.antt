@@ -162,6 +162,7 @@ module _ (a : State) (free : ℕ) (v : Lists) (t : Shows a free v) where
 
     -- the last at the back is where it was
     last_stays : (xs : List ℕ) (b : ℕ) → Once xs → In s xs → last_or b xs ≡ s → remove s xs ++ (s ∷ []) ≡ xs
+    last_stays [] b o m i = elim m [ ]
     last_stays (x ∷ xs) b o m i =
         ⊎_elim
         (λ (k : s ≡ x). simp (eq-eqb s x k) (go xs k i o))

@@ -7,7 +7,7 @@ use mathlib.Core.Bool.{Bool, true, false, false≢true, not}
 use mathlib.Core.List.{List, []}
 use lib.ListN.{length, get_or}
 use lib.Dec.{eqb}
-use borrow.Author.Tests.{eq-eqb, eqb-true, not_true, not-false}
+use borrow.Author.Tests.{eq-eqb, eqb-true, not-true, not-false}
 use Rattle.numbers.specs.Shared.{no_slot as none, past_end}
 use Rattle.deque_rules.specs.Links.{links, home_of, deq, Whole}
 use Rattle.deque_rules.specs.Layout.{Sizes}
@@ -41,7 +41,7 @@ nodes_by n p o e i j k m =
 
 module _ (h t l c n p o e : List ℕ) where
   pub not_deques : (r : Bool) → DequesOk h t l c r → not r ≡ true → IsLent (state h t l c n p o e) false
-  not_deques r z i = record { sound = λ q. absurd (false≢true q); complete = λ y. absurd (false≢true (sym (not_true r i) ∙ z.complete y.deques)) }
+  not_deques r z i = record { sound = λ q. absurd (false≢true q); complete = λ y. absurd (false≢true (sym (not-true r i) ∙ z.complete y.deques)) }
 
   pub both_lent : (r q : Bool) → DequesOk h t l c r → not r ≡ false → NodesOk n p o e q → IsLent (state h t l c n p o e) q
   both_lent r q z i y = record { sound = λ j. record { deques = z.sound (not-false r i); nodes = y.sound j }; complete = λ x. y.complete x.nodes }
@@ -119,7 +119,7 @@ module _ (a : State) where
     whole s = shows_whole a free _ (sound_shows a free s)
 
     pub not_lent : (r : Bool) → IsLent a r → not r ≡ true → Judged a free false
-    not_lent r z e = nay (λ s. false≢true (sym (not_true r e) ∙ z.complete s.lent))
+    not_lent r z e = nay (λ s. false≢true (sym (not-true r e) ∙ z.complete s.lent))
 
     pub bad_links : (d total c : ℕ) → Seen a d total → d < deques a → Walked a.links d c → none < c → Judged a free false
     bad_links d total c s h w l = nay (λ z. no_walk a.links free d c h w l (whole z))
@@ -136,7 +136,7 @@ module _ (a : State) where
         nay (λ z.
         let u = sound_shows a free z in
         false≢true
-        (sym (not_true r n)
+        (sym (not-true r n)
         ∙ k.complete
         (⊎_elim
         (λ e. inl e)
