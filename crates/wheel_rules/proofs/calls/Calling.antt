@@ -5,7 +5,7 @@ use mathlib.Core.Bool.{Bool, true, false, cond, not}
 use mathlib.Core.Option.{none, some}
 use mathlib.Core.List.{List}
 use lib.ListN.{get_or}
-use borrow.Author.Tests.{not_true, not-false}
+use borrow.Author.Tests.{not-true, not-false}
 use Rattle.deque_rules.specs.Links.{Links}
 use Rattle.rules.specs.Places.{wheel01}
 use Rattle.rules.specs.Wheel.{Call, create, set_entry, schedule, reschedule, deschedule, start, pull, abandon, armed_count, next_due, Answer, refused, ok}
@@ -93,7 +93,7 @@ module _ (N : Nodes) (E : Entries) (c : Clock) (x n h k : ℕ) (f : RefusesHandl
       → Promised (reschedule x n h) (records N E c) (records N' E c') removed
   reschedule_removes N' c' z b u =
       let R : Records = records N E c in
-      let e : get_or E.dated (get_or N.entry x 0) false ≡ false = not_true (get_or E.dated (get_or N.entry x 0) false) b in
+      let e : get_or E.dated (get_or N.entry x 0) false ≡ false = not-true (get_or E.dated (get_or N.entry x 0) false) b in
       yes (reschedule x n h) R (records N' E c') removed k tt f.by z (ap (λ (t : Bool). cond t ok removed) (sym e))
       ((λ i. records (u.is i) E (u.clock_is i)) ∙ ap (λ (t : Bool). cond t (moved R x) (descheduled R x)) (sym e))
 

@@ -169,7 +169,7 @@ module _ (D : ℕ) (N : Nodes) (f : ℕ) (z : Fit D N f) where
           free_is = refl;
           count = z.count;
           room = z.room;
-          own_val = λ b l. freed_other b (no_sentinel b l) ∙ z.own b l;
+          own = λ b l. freed_other b (no_sentinel b l) ∙ z.own b l;
           entry_len = simp length-set z.entry_len;
           generation_len = simp length-set z.generation_len;
           serial_len = simp length-set z.serial_len;
@@ -214,7 +214,7 @@ module _ (D : ℕ) (N : Nodes) (f : ℕ) (z : Fit D N f) where
             free_is = z.free_is;
             count = z.count;
             room = z.room;
-            own_val = λ y l. moved_other y (no_sentinel y l) ∙ z.own y l;
+            own = λ y l. moved_other y (no_sentinel y l) ∙ z.own y l;
             entry_len = z.entry_len;
             generation_len = z.generation_len;
             serial_len = z.serial_len;
@@ -255,7 +255,7 @@ module _ (D : ℕ) (N : Nodes) (f : ℕ) (z : Fit D N f) where
           free_is = z.free_is;
           count = z.count;
           room = z.room;
-          own_val = λ y l. turned_home y ∙ z.own y l;
+          own = λ y l. turned_home y ∙ z.own y l;
           entry_len = z.entry_len;
           generation_len = z.generation_len;
           serial_len = z.serial_len;

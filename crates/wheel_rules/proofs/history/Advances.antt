@@ -55,6 +55,8 @@ run_stays ρ R S (c ∷ cs) (a ∷ rs) T on (then {M = M} p l) s = (
       (λ i. absurd (false≢true (sym (create_shuts i.0 R M a (subst (λ (b : Call). Promised b R M a) i.1 p)) ∙ open_first l s.1)))
       (stays_enabled wheel01 ρ.wheel on c),
 )
+run_stays ρ R S [] (a ∷ rs) T on l s = elim l [ ]
+run_stays ρ R S (c ∷ cs) [] T on l s = elim l [ ]
 
 pub records_stay : (ρ : Run) (R S : Records) (cs : List Call) (rs : List Answer) → Tells R ρ.wheel → ρ.wheel.enabled ≡ true → (l : Leads R cs rs S)
     → RunOpen wheel01 ρ cs → StaysOpen l
@@ -66,6 +68,8 @@ records_stay ρ R S (c ∷ cs) (a ∷ rs) T on (then {M = M} p l) s = (
       (λ i. absurd (false≢true (created_shut ρ i.0 c i.1 ∙ stays_first wheel01 (next wheel01 ρ c) cs s.1)))
       (stays_enabled wheel01 ρ.wheel on c),
 )
+records_stay ρ R S [] (a ∷ rs) T on l s = elim l [ ]
+records_stay ρ R S (c ∷ cs) [] T on l s = elim l [ ]
 
 -- ---- an advance
 module _ (ρ : Run) (S : Records) (T : Tells S ρ.wheel) where

@@ -18,6 +18,7 @@ use Rattle.wheel_rules.specs.history.Tells.{Tells}
 use Rattle.wheel_rules.specs.Demand3.{Leads, done, then}
 use Rattle.wheel_rules.proofs.calls.Deciding.{LentTo, given_number}
 use Rattle.wheel_rules.proofs.calls.Promising.{promise}
+use Rattle.rules.specs.Runs.{step}
 use Rattle.wheel_rules.proofs.history.Steps.{step_is}
 
 -- ---- one call
@@ -74,5 +75,5 @@ pub continues : (w : Wheel) (R : Records) (cs : List Call) → Tells R w → Any
 continues w R [] T l = record { answers = []; after = R; leads = done }
 continues w R (c ∷ cs) T l =
     let r = result c R (l.0 R) T.kept in
-    let k = continues _ r.after cs (step_is c R r.after r.says w T r.promised).1 l.1 in
+    let k = continues (step wheel01 w c).1 r.after cs (step_is c R r.after r.says w T r.promised).1 l.1 in
     record { answers = r.says ∷ k.answers; after = k.after; leads = then r.promised k.leads }

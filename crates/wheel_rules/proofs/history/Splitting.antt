@@ -40,6 +40,7 @@ halves R (c ∷ cs) ds (a ∷ rs) S (then {M = M} p l) =
       second = h.second;
       are = ap (λ (t : List Answer). a ∷ t) h.are;
     }
+halves R (c ∷ cs) ds [] S l = elim l [ ]
 
 -- the first call
 pub record Begun (R : Records) (c : Call) (cs : List Call) (rs : List Answer) (S : Records) : Type 0 where
@@ -52,6 +53,7 @@ pub record Begun (R : Records) (c : Call) (cs : List Call) (rs : List Answer) (S
 
 pub begun : (R : Records) (c : Call) (cs : List Call) (rs : List Answer) (S : Records) → Leads R (c ∷ cs) rs S → Begun R c cs rs S
 begun R c cs (a ∷ rs) S (then {M = M} p l) = record { then = M; says = a; further = rs; call = p; on = l; are = refl }
+begun R c cs [] S x' = elim x' [ ]
 
 -- calls before, a start and the calls ps, a call c, and the rest
 pub record Parts (R : Records) (bs : List Call) (q : ℕ) (ps : List Call) (c : Call) (ds : List Call) (rs : List Answer) (S : Records) : Type 0 where

@@ -52,6 +52,7 @@ whole_taken z x (y ∷ fs) bs ne h =
 in_count : (x : ℕ) (xs : List ℕ) → In x xs → 0 < count x xs
 in_count x (y ∷ xs) (inl e) = omega (arith, hit_is x y e)
 in_count x (y ∷ xs) (inr m) = omega (arith, in_count x xs m)
+in_count x [] x'' = elim x'' [ ]
 
 whole_turned : (z : ℕ) (B : Bucket) → count z B.early ≡ 0 → turnedList z (whole z B) ≡ whole z (turned B)
 whole_turned z B h =

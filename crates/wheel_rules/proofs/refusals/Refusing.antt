@@ -7,7 +7,7 @@ use mathlib.Core.Bool.{Bool, true, false, false≢true, not}
 use mathlib.Core.List.{List}
 use lib.ListN.{length, get_or}
 use lib.Dec.{eqb}
-use borrow.Author.Tests.{not_true, not-false, eqb-true, eqb-false}
+use borrow.Author.Tests.{not-true, not-false, eqb-true, eqb-false}
 use borrow.Author.Rules.{scaled_Fits}
 use mir.Syntax.{w64}
 use mir.Val.{Fits}
@@ -23,11 +23,11 @@ use Rattle.wheel_rules.proofs.refusals.Rows.{past, standing_stops, closed_stops,
 -- ---- standing: 1, 4
 module _ (R : Records) where
   pub count_1 : not R.clock.enabled ≡ true → RefusesCount R 1
-  count_1 i = record { by = inl ((λ e. false≢true (sym (not_true R.clock.enabled i) ∙ e)), refl) }
+  count_1 i = record { by = inl ((λ e. false≢true (sym (not-true R.clock.enabled i) ∙ e)), refl) }
 
   pub count_4 : (b : Bool) → not R.clock.enabled ≡ false → Decides (SoundWith wheel01 165 R) b → not b ≡ true → RefusesCount R 4
   count_4 b i d j =
-      record { by = inr (not-false R.clock.enabled i, inl ((λ s. false≢true (sym (not_true b j) ∙ d.complete s)), refl)) }
+      record { by = inr (not-false R.clock.enabled i, inl ((λ s. false≢true (sym (not-true b j) ∙ d.complete s)), refl)) }
 
   pub count_0 : (b : Bool) → not R.clock.enabled ≡ false → Decides (SoundWith wheel01 165 R) b → not b ≡ false → RefusesCount R 0
   count_0 b i d j = record { by = inr (not-false R.clock.enabled i, inr (d.sound (not-false b j), refl)) }
@@ -55,7 +55,7 @@ module _ (R : Records) (k : ℕ) (f : RefusesCount R k) where
   pub open_6 : k ≡ 0 → not R.clock.open ≡ true → RefusesOpen R 6
   open_6 z o =
       let u = standing_past R answered k f.by z in
-      record { by = inr (u.0, inr (u.1, inl ((λ i. false≢true (sym (not_true R.clock.open o) ∙ i)), refl))) }
+      record { by = inr (u.0, inr (u.1, inl ((λ i. false≢true (sym (not-true R.clock.open o) ∙ i)), refl))) }
 
   pub open_0 : k ≡ 0 → not R.clock.open ≡ false → RefusesOpen R 0
   open_0 z o =
@@ -137,7 +137,7 @@ module _ (R : Records) (e h k : ℕ) (f : RefusesSet R e k) where
 
     module _ (i : get_or R.entries.generation e 0 ≡ h) where
       pub schedule_9 : not (get_or R.entries.dated e false) ≡ true → RefusesSchedule R e h 9
-      schedule_9 j = reach 9 z (inr (i, inl ((λ y. false≢true (sym (not_true (get_or R.entries.dated e false) j) ∙ y)), refl)))
+      schedule_9 j = reach 9 z (inr (i, inl ((λ y. false≢true (sym (not-true (get_or R.entries.dated e false) j) ∙ y)), refl)))
           (λ v. absurd (omega (arith, v)))
 
       module _ (j : not (get_or R.entries.dated e false) ≡ false) where
@@ -230,13 +230,13 @@ module _ (on : Bool) (h t n d l m : ℕ) where
     around_3 f = record { by = inr (i, inl (f, refl)) }
 
     pub around_ranges : (r : Bool) → Decides (Ranges 165 n d) r → not r ≡ true → RefusesAround on h t n d l m 3
-    around_ranges r k f = around_3 (λ z. false≢true (sym (not_true r f) ∙ k.complete z.ranges))
+    around_ranges r k f = around_3 (λ z. false≢true (sym (not-true r f) ∙ k.complete z.ranges))
 
     pub around_ends : (r : Bool) → Decides (EndsLengths 165 h t) r → not r ≡ true → RefusesAround on h t n d l m 3
-    around_ends r k f = around_3 (λ z. false≢true (sym (not_true r f) ∙ k.complete z.ends))
+    around_ends r k f = around_3 (λ z. false≢true (sym (not-true r f) ∙ k.complete z.ends))
 
     pub around_entries : (r : Bool) → Decides (EntriesLengths d d l m) r → not r ≡ true → RefusesAround on h t n d l m 3
-    around_entries r k f = around_3 (λ z. false≢true (sym (not_true r f) ∙ k.complete z.entries))
+    around_entries r k f = around_3 (λ z. false≢true (sym (not-true r f) ∙ k.complete z.entries))
 
     pub around_0 : (u v r : Bool) → Decides (Ranges 165 n d) u → not u ≡ false → Decides (EndsLengths 165 h t) v → not v ≡ false
         → Decides (EntriesLengths d d l m) r → not r ≡ false → RefusesAround on h t n d l m 0
@@ -271,7 +271,7 @@ module _ (h t n p b e g s : List ℕ) (d : List Bool) (l m : List ℕ) (c : Cloc
       (u.0, (past 3 k u.1 (λ i. omega (arith, z, i))).0)
 
   pub enable_nodes : (r : Bool) → k ≡ 0 → Decides Same r → not r ≡ true → RefusesEnable Given 3
-  enable_nodes r z o x = record { by = inr ((around_past z).0, inl ((λ y. false≢true (sym (not_true r x) ∙ o.complete y.nodes)), refl)) }
+  enable_nodes r z o x = record { by = inr ((around_past z).0, inl ((λ y. false≢true (sym (not-true r x) ∙ o.complete y.nodes)), refl)) }
 
   pub enable_of : k ≡ 0 → Same → RefusesEnable Given 0
   enable_of z y =

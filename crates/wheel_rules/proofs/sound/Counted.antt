@@ -18,6 +18,7 @@ count_once x (y ∷ ys) o (inl e) =
     omega (arith, hit_is x y e, count_none x ys (λ m. o.0 (subst (λ (z : ℕ). In z ys) e m)))
 count_once x (y ∷ ys) o (inr m) =
     omega (arith, hit_not x y (λ e. o.0 (subst (λ (z : ℕ). In z ys) e m)), count_once x ys o.1 m)
+count_once x [] o x3 = elim x3 [ ]
 
 pub count_in : (x : ℕ) (xs : List ℕ) → 0 < count x xs → In x xs
 count_in x [] h = absurd (omega arith)

@@ -8,7 +8,7 @@ use mathlib.Core.Bool.{Bool, true, false, not, false≢true}
 use mathlib.Core.List.{List}
 use lib.ListN.{length, get_or, set, replicate, length-set, length-replicate}
 use lib.Seq.{get_or-set_same, get_or-set_other}
-use borrow.Author.Tests.{not_true, not-false}
+use borrow.Author.Tests.{not-true, not-false}
 use Rattle.numbers.proofs.Cases.{same?, below?}
 use Rattle.wheel_rules.specs.Lent.{Decides, Armed, SerialsDiffer}
 use Rattle.wheel_rules.specs.sound.Filing.{Leads, here, back, Walkable, Met, Filed, Fileable, Files}
@@ -264,7 +264,7 @@ module _ (t : ℕ) (bucket serial latest before : List ℕ) (x : ℕ) where
   file_on r f e = f.filed (not-false r e)
 
   pub differ_fail : (r : Bool) → Files t bucket serial latest before x r → not r ≡ true → Decides (SerialsDiffer t bucket serial) false
-  differ_fail r f e = no (f.twice (not_true r e))
+  differ_fail r f e = no (f.twice (not-true r e))
 
   pub differ_done : Filed t bucket serial latest before x → length bucket ≤ x → Decides (SerialsDiffer t bucket serial) true
   differ_done f h = yes (record { each = λ y z a b e. f.differ y z a b (omega (arith, a.lent, h)) (omega (arith, b.lent, h)) e })

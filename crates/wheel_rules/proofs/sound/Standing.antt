@@ -5,7 +5,7 @@ use mathlib.Core.Path.{◌≡◌, sym, ◌∙◌}
 use mathlib.Core.Logic.{inl, inr, ⊎_elim}
 use mathlib.Core.Bool.{Bool, true, false, not, false≢true}
 use lib.Dec.{leb, eqb}
-use borrow.Author.Tests.{leb-true, le-leb, eqb-true, eq-eqb, not_true, not-false}
+use borrow.Author.Tests.{leb-true, le-leb, eqb-true, eq-eqb, not-true, not-false}
 use Rattle.rules.specs.Places.{wheel01, visited_at}
 use Rattle.wheel_rules.specs.declared.calls.Clock.{Clock}
 use Rattle.wheel_rules.specs.Lent.{Decides, StandsAt, AdvanceStands}
@@ -33,7 +33,7 @@ pub ruleset places = (no_level, before_all, in-visited)
 
 -- ---- of the clock
 pub none_open : (c : Clock) → not c.open ≡ true → Decides (AdvanceStands wheel01 c) true
-none_open c e = yes (record { stands = λ o. absurd (false≢true (sym (not_true c.open e) ∙ o)) })
+none_open c e = yes (record { stands = λ o. absurd (false≢true (sym (not-true c.open e) ∙ o)) })
 
 pub one_open : (c : Clock) (r : Bool) → not c.open ≡ false → Decides (StandsAt wheel01 c.previous c.reading c.level c.step) r → Decides
     (AdvanceStands wheel01 c) r

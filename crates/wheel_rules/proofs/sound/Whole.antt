@@ -5,7 +5,7 @@ use mathlib.Core.Path.{◌≡◌, sym, ◌∙◌}
 use mathlib.Core.Bool.{Bool, true, false, not, false≢true}
 use mathlib.Core.List.{List}
 use lib.ListN.{length}
-use borrow.Author.Tests.{not_true, not-false}
+use borrow.Author.Tests.{not-true, not-false}
 use Rattle.deque_rules.specs.Links.{links}
 use Rattle.deque_rules.specs.Sound as linked
 use Rattle.rules.specs.Places.{wheel01}
@@ -67,7 +67,7 @@ module _ (h t n p b e g s : List ℕ) (d : List Bool) (l eg : List ℕ) (c : Clo
 
   pub no_links : (r : Bool) → linked.Verdict (links h t n p b) c.free r → not r ≡ true → Decides
       (SoundWith wheel01 total (records (nodes h t n p b e g s) (entries d l eg) c)) false
-  no_links r k f = no (λ z. false≢true (sym (not_true r f) ∙ k.complete z.linked))
+  no_links r k f = no (λ z. false≢true (sym (not-true r f) ∙ k.complete z.linked))
 
   pub no_entries : (r : Bool) → Decides (EntriesExist total c.entries b e) r → not r ≡ true → Decides
       (SoundWith wheel01 total (records (nodes h t n p b e g s) (entries d l eg) c)) false
