@@ -5,26 +5,26 @@ ghost use Rattle.lines.specs.Answers.{Appended, AppendedNumber, AppendedField, p
 
 use crate::collecting::Source;
 use crate::parts::first;
-use libc::STDOUT_FILENO;
 
-// Writes the first n bytes of out to standard output, and answers how many wait then: none.
-pub fn flush(out: &[u8; 65536], n: usize) -> usize
+// Writes the first n bytes of out to standard output, and answers how many wait then: none. Where they cannot be written
+// they are lost.
+pub fn flush(rt: &impl Print, out: &[u8; 65536], n: usize) -> usize
     ensures { result ≡ 0 }
 {
-    write_out(out, n)
+    write_out(rt, out, n)
 }
 
 // The same for a buffer of any length: all of it where it has fewer bytes than n.
-fn write_out(out: &[u8], n: usize) -> usize
+fn write_out(rt: &impl Print, out: &[u8], n: usize) -> usize
     ensures { result ≡ 0 }
 {
-    io::write_all(STDOUT_FILENO, first(out, n));
+    let _ = rt.write_all(first(out, n));
     0
 }
 
 // Writes out the `at` bytes that wait in out where all of the block is answered, so that nothing waits while more is
 // read; answers how many wait then.
-pub fn settle(out: &[u8; 65536], at: usize, s: Source) -> usize
+pub fn settle(rt: &impl Print, out: &[u8; 65536], at: usize, s: Source) -> usize
     ensures { result ≡ settled at s }
 {
     let from = s.from;
@@ -32,25 +32,25 @@ pub fn settle(out: &[u8; 65536], at: usize, s: Source) -> usize
     if from < upto {
         return at;
     }
-    flush(out, at)
+    flush(rt, out, at)
 }
 
 // Puts text after the `at` bytes that wait in out, and answers how many wait then. Where there is no room for it those
 // are written out first, and where it is longer than out it is written too.
-pub fn append(out: &mut [u8; 65536], at: usize, text: &[u8]) -> usize
+pub fn append(rt: &impl Print, out: &mut [u8; 65536], at: usize, text: &[u8]) -> usize
     ensures { Appended out.old at text.now out.new result }
 {
-    append_to(out, at, text)
+    append_to(rt, out, at, text)
 }
 
 // The same for a buffer of any length.
-fn append_to(out: &mut [u8], at: usize, text: &[u8]) -> usize
+fn append_to(rt: &impl Print, out: &mut [u8], at: usize, text: &[u8]) -> usize
     ensures { Appended out.old at text.now out.new result }
 {
     let n = text.len();
-    let start = room(out, at, n);
+    let start = room(rt, out, at, n);
     if out.len() < n {
-        io::write_all(STDOUT_FILENO, text);
+        let _ = rt.write_all(text);
         return 0;
     }
     copy(out, start, text);
@@ -58,31 +58,31 @@ fn append_to(out: &mut [u8], at: usize, text: &[u8]) -> usize
 }
 
 // Puts n in decimal after the `at` bytes that wait in out, as `append` does.
-fn append_decimal(out: &mut [u8; 65536], at: usize, n: u64) -> usize
+fn append_decimal(rt: &impl Print, out: &mut [u8; 65536], at: usize, n: u64) -> usize
     ensures { AppendedNumber out.old at n out.new result }
 {
     let mut text = [0u8; 20];
     let k = io::decimal(n, &mut text);
-    append(out, at, &text[..k])
+    append(rt, out, at, &text[..k])
 }
 
 // Puts a space and n in decimal after the `at` bytes that wait in out, as `append` does.
-pub fn append_field(out: &mut [u8; 65536], at: usize, n: u64) -> usize
+pub fn append_field(rt: &impl Print, out: &mut [u8; 65536], at: usize, n: u64) -> usize
     ensures { AppendedField out.old at n out.new result }
 {
-    let spaced = append(out, at, b" ");
-    append_decimal(out, spaced, n)
+    let spaced = append(rt, out, at, b" ");
+    append_decimal(rt, out, spaced, n)
 }
 
 // Where n more bytes go: after the `at` that wait, or at the start once these are written out.
-fn room(out: &[u8], at: usize, n: usize) -> usize
+fn room(rt: &impl Print, out: &[u8], at: usize, n: usize) -> usize
     ensures { result ≡ place_of at n (length out.now) }
 {
     if out.len() < at {
-        return write_out(out, at);
+        return write_out(rt, out, at);
     }
     if out.len() - at < n {
-        return write_out(out, at);
+        return write_out(rt, out, at);
     }
     at
 }

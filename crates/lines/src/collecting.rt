@@ -4,7 +4,7 @@ ghost use Rattle.io.specs.Counts.{IsPrefixLen};
 ghost use Rattle.lines.specs.Collecting.{Collects, Keeps, NextLine, TurnsLeft, unread, kind_of};
 
 use crate::parts::first;
-use libc::STDIN_FILENO;
+use std::io::Read;
 
 const LINE_END: u8 = 10;
 
@@ -61,7 +61,12 @@ pub fn begin() -> Source
 
 // Puts the next line of standard input into line, or as much of it as there is room for, and reads as much into block
 // for that as it needs. A last line that no line end follows counts, unless it is empty.
-pub fn next_line(block: &mut [u8; 65536], line: &mut [u8; 257], s: Source) -> Source
+pub fn next_line(
+    rt: &impl Input,
+    block: &mut [u8; 65536],
+    line: &mut [u8; 257],
+    s: Source,
+) -> Source
     ensures { NextLine block.old line.old s block.new line.new result }
 {
     let from = s.from;
@@ -75,12 +80,12 @@ pub fn next_line(block: &mut [u8; 65536], line: &mut [u8; 257], s: Source) -> So
             more: true,
         };
     }
-    read_on(block, line, c.kept)
+    read_on(rt, block, line, c.kept)
 }
 
 // Reads on until a line ends or the input does. A proved loop has to end, so this one counts its
 // turns down from a number that no run uses up.
-fn read_on(block: &mut [u8], line: &mut [u8], held: usize) -> Source {
+fn read_on(rt: &impl Input, block: &mut [u8], line: &mut [u8], held: usize) -> Source {
     let mut s = Source {
         from: 0,
         upto: 0,
@@ -89,7 +94,7 @@ fn read_on(block: &mut [u8], line: &mut [u8], held: usize) -> Source {
     };
     let mut turns = u64::MAX;
     while turns > 0 {
-        let r = read_more(block, line, s.held);
+        let r = read_more(rt, block, line, s.held);
         s = r.source;
         turns = turns_left(turns, r.on);
     }
@@ -97,8 +102,8 @@ fn read_on(block: &mut [u8], line: &mut [u8], held: usize) -> Source {
 }
 
 // Reads once, and takes what came up to the end of the line.
-fn read_more(block: &mut [u8], line: &mut [u8], held: usize) -> Reads {
-    let upto = read_block(block);
+fn read_more(rt: &impl Input, block: &mut [u8], line: &mut [u8], held: usize) -> Reads {
+    let upto = read_block(rt, block);
     let c = collect(first(block, upto), 0, line, held);
     let more = upto > 0 || held > 0;
     let source = Source {
@@ -115,11 +120,13 @@ fn read_more(block: &mut [u8], line: &mut [u8], held: usize) -> Reads {
 
 // Reads some of standard input into block and answers how many bytes it has now: 0 at the end of
 // the input, or where it cannot be read.
-fn read_block(block: &mut [u8]) -> usize
+fn read_block(rt: &impl Input, block: &mut [u8]) -> usize
     ensures { IsPrefixLen result block.new }
 {
-    let got = libc::read(STDIN_FILENO, block);
-    io::count(got, block)
+    match rt.reader().read(block) {
+        Ok(n) => n,
+        Err(_) => 0,
+    }
 }
 
 // Takes block's bytes from `from` on into line, which holds `kept` bytes of the same line already,

@@ -5,6 +5,7 @@
 // of bytes. A program is a loop: `next_line` puts a line into a buffer of 257 bytes, `requested` says what it asks for
 // (or `kind_of`, `count`, `is_part` and `number_at` take it apart), `tell` notes what is answered, `say` puts its line
 // into another buffer and writes answers out before more is read, and `turns_left` counts the turns; `flush` ends it.
+// What reads takes a handle to the input, what may write one to the output: `main` passes on its runtime.
 #![tactic(auto)]
 
 mod answers;

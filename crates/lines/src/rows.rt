@@ -26,13 +26,20 @@ pub struct Row {
 
 // The row's line after the bytes that wait in out, or the digest with the row's numbers after it: what was told before
 // is how many bytes wait, or the digest.
-pub fn tell_row(out: &mut [u8; 65536], told: u64, words: &[u8], row: Row, sums: bool) -> u64 {
+pub fn tell_row(
+    rt: &impl Print,
+    out: &mut [u8; 65536],
+    told: u64,
+    words: &[u8],
+    row: Row,
+    sums: bool,
+) -> u64 {
     if sums {
         return digest_row(told, row);
     }
-    let worded = append(out, told as usize, part(words, row.word));
-    let valued = say_values(out, worded, row);
-    append(out, valued, b"\n") as u64
+    let worded = append(rt, out, told as usize, part(words, row.word));
+    let valued = say_values(rt, out, worded, row);
+    append(rt, out, valued, b"\n") as u64
 }
 
 fn digest_row(h: u64, row: Row) -> u64 {
@@ -62,14 +69,14 @@ fn digest_value(h: u64, has: bool, link: bool, v: u64) -> u64 {
     digest_step(h, v)
 }
 
-fn say_values(out: &mut [u8; 65536], at: usize, row: Row) -> usize {
+fn say_values(rt: &impl Print, out: &mut [u8; 65536], at: usize, row: Row) -> usize {
     let values = row.values;
     let count = row.count;
     let mut links = row.links;
     let mut waiting = at;
     let mut k: usize = 0;
     while k < 10 {
-        waiting = say_value(out, waiting, k < count, links % 2 == 1, values[k]);
+        waiting = say_value(rt, out, waiting, k < count, links % 2 == 1, values[k]);
         links = links / 2;
         k += 1;
     }
@@ -77,15 +84,22 @@ fn say_values(out: &mut [u8; 65536], at: usize, row: Row) -> usize {
 }
 
 // A space and a number, `-` or `end`.
-fn say_value(out: &mut [u8; 65536], at: usize, has: bool, link: bool, v: u64) -> usize {
+fn say_value(
+    rt: &impl Print,
+    out: &mut [u8; 65536],
+    at: usize,
+    has: bool,
+    link: bool,
+    v: u64,
+) -> usize {
     if !has {
         return at;
     }
     if link && v == NONE {
-        return append(out, at, b" -");
+        return append(rt, out, at, b" -");
     }
     if link && v == PAST_END {
-        return append(out, at, b" end");
+        return append(rt, out, at, b" end");
     }
-    append_field(out, at, v)
+    append_field(rt, out, at, v)
 }

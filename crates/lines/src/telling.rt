@@ -32,46 +32,59 @@ pub fn tell_none(told: &mut [u64; 6], word: u64) {
 // Puts the line of what was told after the `at` bytes that wait in out, with its word out of the table, writes all out
 // where all of the block is answered, and answers how many wait then.
 pub fn say(
+    rt: &impl Print,
     out: &mut [u8; 65536],
     at: usize,
     words: &[u8],
     told: &[u64; 6],
     source: Source,
 ) -> usize {
-    let said = say_told(out, at, words, told);
-    settle(out, said, source)
+    let said = say_told(rt, out, at, words, told);
+    settle(rt, out, said, source)
 }
 
-fn say_told(out: &mut [u8; 65536], at: usize, words: &[u8], told: &[u64; 6]) -> usize {
+fn say_told(
+    rt: &impl Print,
+    out: &mut [u8; 65536],
+    at: usize,
+    words: &[u8],
+    told: &[u64; 6],
+) -> usize {
     let word = told[0];
     match word {
         NO_LINE => at,
         SHOWN => told[2] as usize,
-        BAD_LINE => append(out, at, b"bad line\n"),
-        _ => say_answer(out, at, part(words, word as usize), told),
+        BAD_LINE => append(rt, out, at, b"bad line\n"),
+        _ => say_answer(rt, out, at, part(words, word as usize), told),
     }
 }
 
-fn say_answer(out: &mut [u8; 65536], at: usize, word: &[u8], told: &[u64; 6]) -> usize {
-    let worded = append(out, at, word);
-    let numbered = say_numbers(out, worded, told);
-    append(out, numbered, b"\n")
+fn say_answer(
+    rt: &impl Print,
+    out: &mut [u8; 65536],
+    at: usize,
+    word: &[u8],
+    told: &[u64; 6],
+) -> usize {
+    let worded = append(rt, out, at, word);
+    let numbered = say_numbers(rt, out, worded, told);
+    append(rt, out, numbered, b"\n")
 }
 
-fn say_numbers(out: &mut [u8; 65536], at: usize, told: &[u64; 6]) -> usize {
+fn say_numbers(rt: &impl Print, out: &mut [u8; 65536], at: usize, told: &[u64; 6]) -> usize {
     let numbers = told[1];
     if numbers == DASH {
-        return append(out, at, b" -");
+        return append(rt, out, at, b" -");
     }
-    let first = say_number(out, at, numbers > 0, told[2]);
-    let second = say_number(out, first, numbers > 1, told[3]);
-    say_number(out, second, numbers > 2, told[4])
+    let first = say_number(rt, out, at, numbers > 0, told[2]);
+    let second = say_number(rt, out, first, numbers > 1, told[3]);
+    say_number(rt, out, second, numbers > 2, told[4])
 }
 
 // A space and the number, if it is one of the answer's.
-fn say_number(out: &mut [u8; 65536], at: usize, has: bool, n: u64) -> usize {
+fn say_number(rt: &impl Print, out: &mut [u8; 65536], at: usize, has: bool, n: u64) -> usize {
     if has {
-        return append_field(out, at, n);
+        return append_field(rt, out, at, n);
     }
     at
 }

@@ -4,7 +4,7 @@ use mathlib.Core.Bool.{Bool, true, false, cond}
 use mathlib.Core.List.{List}
 use Prim.Native.Nat.{ℕ, ◌≤◌, ◌<◌}
 use borrow.Author.Tests.{lt-leb, le-leb}
-use Rattle.sketch_rules.specs.Sketch.{halved_to, odds_to, rose, with_size, grown_size, aged_size, raised_table, raised_size}
+use Rattle.sketch_rules.specs.Sketch.{halved_to, odds_to, with_size, grown_size, aged_size, raised_table, raised_size}
 use Rattle.sketch_rules.specs.declared.Sketch.{Sketch}
 use Rattle.sketch_rules.specs.declared.Counted.{Counted}
 use Rattle.sketch_rules.specs.Hashes.{Counts}

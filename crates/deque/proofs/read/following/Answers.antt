@@ -1,0 +1,7 @@
+-- `following` meets its contract.
+use Rattle.deque_rules.proofs.Reading.{follows_does}
+use borrow.Author.Rules.{rules}
+use Rattle.deque.proofs.read.following.Goals as goal
+
+pub returns : goal.returns
+returns c = follows_does _ _

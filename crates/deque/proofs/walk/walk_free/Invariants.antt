@@ -1,0 +1,13 @@
+-- `walk_free` meets its contract: the invariant of its loop is `GoingFree`, and each way out has a law of
+-- `WalkingFree`.
+use borrow.Author.Rules.{rules}
+use Prim.Native.Nat.{◌-◌}
+use lib.ListN.{length}
+use Rattle.deque_rules.proofs.WalkingFree.{GoingFree, start, goes, exits}
+use Rattle.deque.proofs.walk.walk_free.Given as goal
+
+abbrev pub invariant-loop-x : goal.invariant-loop-x
+invariant-loop-x l = GoingFree l.next l.home l.free l.x l.k
+
+abbrev pub decreases-loop-x : goal.decreases-loop-x
+decreases-loop-x l = length l.next - l.k

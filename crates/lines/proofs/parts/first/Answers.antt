@@ -1,0 +1,11 @@
+-- `lines::parts::first` meets its contract.
+use native.Mathlib.Omega.{arith}
+use mathlib.Core.Path.{sym}
+use lib.Seq.{length-take-le, take_all}
+use Rattle.lines.proofs.parts.first.Goals as goal
+
+pub slice_bounds-result-end : goal.slice_bounds-result-end
+slice_bounds-result-end c = sym (length-take-le _ _ (omega arith))
+
+pub returns : goal.returns
+returns c = sym (take_all c.args.n c.args.buffer.now (omega arith))
