@@ -6,7 +6,7 @@ use wheel_rules::calls::{Clock, Noted};
 
 // One slot: its links, its bucket (or none), and the timer armed there: entry, generation and serial.
 #[repr(C)]
-#[derive(Drop)]
+#[derive(Clone, Copy)]
 pub struct Node {
     pub next: usize,
     pub prev: usize,
@@ -16,33 +16,33 @@ pub struct Node {
     pub serial: u64,
 }
 
-#[derive(Drop)]
+#[derive(Clone, Copy)]
 pub struct ScheduledTurn {
     pub clock: Clock,
     pub answer: Scheduled,
 }
 
-#[derive(Drop)]
+#[derive(Clone, Copy)]
 pub struct RescheduledTurn {
     pub clock: Clock,
     pub answer: Rescheduled,
 }
 
-#[derive(Drop)]
+#[derive(Clone, Copy)]
 pub struct PulledTurn {
     pub clock: Clock,
     pub answer: Pulled,
 }
 
 // Schedule: the handle.
-#[derive(Drop)]
+#[derive(Clone, Copy)]
 pub enum Scheduled {
     Armed { slot: usize, serial: u64 },
     Refused(u64),
 }
 
 // Reschedule: moved; or removed, since the entry has no deadline.
-#[derive(Drop)]
+#[derive(Clone, Copy)]
 pub enum Rescheduled {
     Moved,
     Removed,
@@ -50,7 +50,7 @@ pub enum Rescheduled {
 }
 
 // Pull: an event or End.
-#[derive(Drop)]
+#[derive(Clone, Copy)]
 pub enum Pulled {
     Expired {
         entry: usize,
@@ -67,14 +67,14 @@ pub enum Pulled {
 }
 
 // What a call leaves beside the nodes: the clock, and the answer. Those of the other answers are in answers.
-#[derive(Drop)]
+#[derive(Clone, Copy)]
 pub struct NotedTurn {
     pub clock: Clock,
     pub answer: Noted,
 }
 
 // What enable leaves beside the nodes: the same, and whether they are to be laid out.
-#[derive(Drop)]
+#[derive(Clone, Copy)]
 pub struct LaidTurn {
     pub clock: Clock,
     pub answer: Noted,

@@ -3,7 +3,7 @@
 // The clock record. While an advance is open, reading is q and previous is p; `step` counts the buckets entered on
 // `level` so far, and level 0 with step 0 stands before the first bucket.
 #[repr(C)]
-#[derive(Drop)]
+#[derive(Clone, Copy)]
 pub struct Clock {
     pub enabled: bool,
     pub reading: u64,
@@ -30,21 +30,21 @@ pub struct Created {
 }
 
 // Enable, deschedule, start, abandon: the clock from now on.
-#[derive(Drop)]
+#[derive(Clone, Copy)]
 pub enum Timed {
     Done(Clock),
     Refused(u64),
 }
 
 // Set entry.
-#[derive(Drop)]
+#[derive(Clone, Copy)]
 pub enum Noted {
     Done,
     Refused(u64),
 }
 
 // Schedule: the handle, and the clock from now on.
-#[derive(Drop)]
+#[derive(Clone, Copy)]
 pub enum Scheduled {
     Armed {
         slot: usize,
@@ -55,7 +55,7 @@ pub enum Scheduled {
 }
 
 // Reschedule: moved; or removed, since the entry has no deadline, and the clock from now on.
-#[derive(Drop)]
+#[derive(Clone, Copy)]
 pub enum Rescheduled {
     Moved,
     Removed(Clock),
@@ -63,7 +63,7 @@ pub enum Rescheduled {
 }
 
 // Pull: an event or End, and the clock from now on.
-#[derive(Drop)]
+#[derive(Clone, Copy)]
 pub enum Pulled {
     Expired {
         entry: usize,
@@ -82,14 +82,14 @@ pub enum Pulled {
 }
 
 // Armed count.
-#[derive(Drop)]
+#[derive(Clone, Copy)]
 pub enum Counted {
     Armed(usize),
     Refused(u64),
 }
 
 // Next due: the smallest deadline, or none.
-#[derive(Drop)]
+#[derive(Clone, Copy)]
 pub enum Due {
     At(u64),
     Never,

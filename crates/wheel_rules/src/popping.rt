@@ -2,7 +2,7 @@
 use crate::calls::Clock;
 
 // What a pull answers.
-#[derive(Drop)]
+#[derive(Clone, Copy)]
 pub enum Pulled {
     Expired {
         entry: usize,
@@ -18,7 +18,7 @@ pub enum Pulled {
 }
 
 // The clock after a turn, and whether the pull goes on; where it does not, its answer.
-#[derive(Drop)]
+#[derive(Clone, Copy)]
 pub struct Turn {
     pub going: bool,
     pub clock: Clock,
@@ -26,7 +26,7 @@ pub struct Turn {
 }
 
 // Where the advance goes: to the bucket that is the step-th of the level; or nowhere any more.
-#[derive(Drop)]
+#[derive(Clone, Copy)]
 pub struct Position {
     pub more: bool,
     pub level: usize,

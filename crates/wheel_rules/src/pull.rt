@@ -3,7 +3,7 @@ use crate::calls::Clock;
 use crate::popping::Pulled;
 
 // The answer, and the clock then.
-#[derive(Drop)]
+#[derive(Clone, Copy)]
 pub struct Answered {
     pub clock: Clock,
     pub event: Pulled,

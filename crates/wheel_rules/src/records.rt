@@ -1,7 +1,7 @@
 // The answer of next due on sound records.
 
 // A deadline, or none.
-#[derive(Drop)]
+#[derive(Clone, Copy)]
 pub enum Due {
     At(u64),
     Nothing,

@@ -2,7 +2,7 @@
 use crate::calls::Clock;
 
 // The handle of the timer armed, slot and serial, and the clock then.
-#[derive(Drop)]
+#[derive(Clone, Copy)]
 pub struct Armed {
     pub clock: Clock,
     pub slot: usize,
