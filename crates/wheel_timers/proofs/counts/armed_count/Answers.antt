@@ -1,0 +1,13 @@
+-- `armed_count` meets its contract.
+use borrow.Author.Rules.{rules}
+use Rattle.wheel_rules.proofs.records.Counting.{counting_begins, counting_again, counted_all}
+use Rattle.wheel_timers.proofs.counts.armed_count.Goals as goal
+
+pub loop-x-init : goal.loop-x-init
+loop-x-init c = counting_begins _ _ (search rules)
+
+pub loop-x-preserved : goal.loop-x-preserved
+loop-x-preserved c = search counting_again
+
+pub returns : goal.returns
+returns c = search counted_all
