@@ -11,7 +11,7 @@ mod wheels;
 use crate::requests::{answer, asked_by, say};
 
 // Answers line by line to the end of the input.
-fn main() {
+fn main(rt: HostRuntime) {
     let mut block = [0u8; 65536];
     let mut line = [0u8; 257];
     let mut out = [0u8; 65536];
@@ -20,10 +20,10 @@ fn main() {
     let mut waiting = 0;
     let mut turns = u64::MAX;
     while turns > 0 {
-        source = lines::next_line(&mut block, &mut line, source);
+        source = lines::next_line(&rt, &mut block, &mut line, source);
         answer(&mut told, asked_by(&line, source));
-        waiting = say(&mut out, waiting, &told, source);
+        waiting = say(&rt, &mut out, waiting, &told, source);
         turns = lines::turns_left(turns, source.more);
     }
-    lines::flush(&out, waiting);
+    lines::flush(&rt, &out, waiting);
 }

@@ -52,6 +52,12 @@ pub fn unfit(told: &mut [u64; 6]) {
 }
 
 // Puts the line of what was told after the bytes that wait in out, and answers how many wait then.
-pub fn say(out: &mut [u8; 65536], at: usize, told: &[u64; 6], source: Source) -> usize {
-    lines::say(out, at, b"digest", told, source)
+pub fn say(
+    rt: &impl Print,
+    out: &mut [u8; 65536],
+    at: usize,
+    told: &[u64; 6],
+    source: Source,
+) -> usize {
+    lines::say(rt, out, at, b"digest", told, source)
 }

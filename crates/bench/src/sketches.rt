@@ -13,7 +13,7 @@ const ESTIMATE: usize = 1;
 const INDEX: usize = 2;
 
 // A sketch after a run of increases, and the generator's last number.
-#[derive(Drop)]
+#[derive(Clone, Copy)]
 struct Made {
     sketch: Sketch,
     x: u64,

@@ -21,9 +21,15 @@ const LENGTH: u64 = 6;
 pub const DIGESTED: u64 = 7;
 
 // Puts the line of what was told after the bytes that wait in out, and answers how many wait then.
-pub fn say(out: &mut [u8; 65536], at: usize, told: &[u64; 6], source: Source) -> usize {
+pub fn say(
+    rt: &impl Print,
+    out: &mut [u8; 65536],
+    at: usize,
+    told: &[u64; 6],
+    source: Source,
+) -> usize {
     let words = b"slot popped element refused nothing ok length digest";
-    lines::say(out, at, words, told, source)
+    lines::say(rt, out, at, words, told, source)
 }
 
 // Tells a word with so many of two numbers, and the first free node.

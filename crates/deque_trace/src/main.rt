@@ -16,7 +16,7 @@ use crate::work::perform;
 
 // Answers line by line to the end of the input. The records are lent to a call and are its to the end of it: it hands
 // back what it told.
-fn main() {
+fn main(rt: HostRuntime) {
     let mut heads = [0usize; 256];
     let mut tails = [0usize; 256];
     let mut lens = [0usize; 256];
@@ -38,12 +38,13 @@ fn main() {
     let mut waiting: usize = 0;
     let mut turns = u64::MAX;
     while turns > 0 {
-        source = lines::next_line(&mut block, &mut line, source);
+        source = lines::next_line(&rt, &mut block, &mut line, source);
         let plan = planned(state, found(&line, source));
         let d = plan.deques;
         let n = plan.nodes;
         let call = plan.call;
         perform(
+            &rt,
             &mut heads[..d],
             &mut tails[..d],
             &mut lens[..d],
@@ -58,9 +59,9 @@ fn main() {
             state.free,
             call,
         );
-        waiting = say(&mut out, waiting, &told, source);
+        waiting = say(&rt, &mut out, waiting, &told, source);
         state = after(state, plan, &told);
         turns = lines::turns_left(turns, source.more);
     }
-    lines::flush(&out, waiting);
+    lines::flush(&rt, &out, waiting);
 }

@@ -29,7 +29,7 @@ pub const SILENT: u64 = 10;
 pub const TOO_MANY: u64 = 11;
 
 // What a line asks for: the number of its word, and its numbers.
-#[derive(Drop)]
+#[derive(Clone, Copy)]
 pub struct Call {
     pub asks: u64,
     pub i: usize,

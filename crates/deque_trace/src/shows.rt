@@ -87,6 +87,7 @@ fn row_at(
 
 // `dump`, or `digest` if it sums: how many bytes wait, or the digest.
 pub fn show(
+    rt: &impl Print,
     heads: &[usize],
     tails: &[usize],
     lens: &[usize],
@@ -105,14 +106,14 @@ pub fn show(
     let mut i: usize = 0;
     while i < rows {
         let r = row_at(heads, tails, lens, cursors, next, prev, home, element, i);
-        told = tell(out, told, r, sums);
+        told = tell(rt, out, told, r, sums);
         i += 1;
     }
-    tell(out, told, free_row(free), sums)
+    tell(rt, out, told, free_row(free), sums)
 }
 
-fn tell(out: &mut [u8; 65536], told: u64, r: Row, sums: bool) -> u64 {
-    lines::tell_row(out, told, b"deque node free", r, sums)
+fn tell(rt: &impl Print, out: &mut [u8; 65536], told: u64, r: Row, sums: bool) -> u64 {
+    lines::tell_row(rt, out, told, b"deque node free", r, sums)
 }
 
 // Nothing is told yet.

@@ -10,7 +10,7 @@ const MOST_DEQUES: usize = 256;
 const MOST_NODES: usize = 4096;
 
 // How many deques over how many nodes were made (none before the first making), and the first free node.
-#[derive(Drop)]
+#[derive(Clone, Copy)]
 pub struct State {
     pub deques: usize,
     pub nodes: usize,
@@ -18,7 +18,7 @@ pub struct State {
 }
 
 // A call, and how many deques and nodes are lent to it.
-#[derive(Drop)]
+#[derive(Clone, Copy)]
 pub struct Plan {
     pub call: Call,
     pub deques: usize,

@@ -16,6 +16,7 @@ use lines::{BAD_LINE, NO_LINE, SHOWN};
 
 // A call on the lent records. A list and a dump go to out, after the bytes that wait there.
 pub fn perform<'a>(
+    rt: &impl Print,
     heads: &'a mut [usize],
     tails: &'a mut [usize],
     lens: &'a mut [usize],
@@ -76,13 +77,14 @@ pub fn perform<'a>(
         POKE_LENGTH => put(lens, told, free, call),
         POKE_CURSOR => put(cursors, told, free, call),
         _ => look(
-            heads, tails, lens, cursors, next, prev, home, element, out, told, at, free, call,
+            rt, heads, tails, lens, cursors, next, prev, home, element, out, told, at, free, call,
         ),
     }
 }
 
 // The calls that write no more than a cursor.
 fn look<'a>(
+    rt: &impl Print,
     heads: &'a [usize],
     tails: &'a [usize],
     lens: &'a [usize],
@@ -135,16 +137,16 @@ fn look<'a>(
                 heads, tails, lens, cursors, next, prev, home, element, free, d,
             ),
         ),
-        LIST => list(heads, next, out, told, at, free, d),
+        LIST => list(rt, heads, next, out, told, at, free, d),
         DUMP => {
             let waiting = show(
-                heads, tails, lens, cursors, next, prev, home, element, out, at, free, false,
+                rt, heads, tails, lens, cursors, next, prev, home, element, out, at, free, false,
             );
             answer(told, free, SHOWN, 0, waiting, 0)
         }
         DIGEST => {
             let digest = show(
-                heads, tails, lens, cursors, next, prev, home, element, out, at, free, true,
+                rt, heads, tails, lens, cursors, next, prev, home, element, out, at, free, true,
             );
             answer(told, free, DIGESTED, 1, digest, 0)
         }
@@ -154,6 +156,7 @@ fn look<'a>(
 
 // `list D`: the nodes from the deque's head on.
 fn list<'a>(
+    rt: &impl Print,
     heads: &'a [usize],
     next: &'a [usize],
     out: &'a mut [u8; 65536],
@@ -165,7 +168,7 @@ fn list<'a>(
     if heads.len() <= d {
         return answer(told, free, BAD_LINE, 0, 0, 0);
     }
-    let waiting = lines::say_chain(out, at, b"list", heads[d], next);
+    let waiting = lines::say_chain(rt, out, at, b"list", heads[d], next);
     answer(told, free, SHOWN, 0, waiting as u64, 0)
 }
 

@@ -10,7 +10,7 @@ pub const NO_WORD: usize = 99;
 
 // What a line asks for: its word's place in the table, how many parts it has if all after the word are numbers, at most
 // three, else 0, and these numbers.
-#[derive(Drop)]
+#[derive(Clone, Copy)]
 pub struct Asked {
     pub word: usize,
     pub parts: usize,

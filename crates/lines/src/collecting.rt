@@ -14,7 +14,7 @@ const LONGEST: usize = 256;
 
 // What `collect` found: where the next line begins, how many bytes of this one the buffer holds,
 // and whether its end was reached.
-#[derive(Drop)]
+#[derive(Clone, Copy)]
 pub struct Collected {
     pub next: usize,
     pub kept: usize,
@@ -22,7 +22,7 @@ pub struct Collected {
 }
 
 // What one read led to: where the reading stands, and whether the line may go on.
-#[derive(Drop)]
+#[derive(Clone, Copy)]
 struct Reads {
     source: Source,
     on: bool,
@@ -30,7 +30,7 @@ struct Reads {
 
 // Where the reading of lines stands: the next byte of the block and the end of what was read into
 // it, how many bytes of the line found last the buffer holds, and whether there was one.
-#[derive(Drop)]
+#[derive(Clone, Copy)]
 pub struct Source {
     pub from: usize,
     pub upto: usize,
@@ -40,7 +40,7 @@ pub struct Source {
 
 // What a line is, before it is taken apart: one that answers nothing, one that is too long, or a
 // call.
-#[derive(Drop)]
+#[derive(Clone, Copy)]
 pub enum Kind {
     Silent,
     Long,

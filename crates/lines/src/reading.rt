@@ -10,7 +10,7 @@ const DASH: u8 = 45;
 const MOST_TENS: u64 = 1844674407370955161;
 
 // What a part says: a number up to 2^64 - 1, none, or something else.
-#[derive(Drop)]
+#[derive(Clone, Copy)]
 pub enum Number {
     Is(u64),
     Dash,

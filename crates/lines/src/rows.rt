@@ -16,7 +16,7 @@ const END_COUNTS: u64 = u64::MAX - 1;
 
 // A row: its word's place in the program's table, how many of the values it has, and these. A value may be none or past
 // the end where the bit of its place is set in links.
-#[derive(Drop)]
+#[derive(Clone, Copy)]
 pub struct Row {
     pub word: usize,
     pub count: usize,

@@ -9,7 +9,7 @@ use Rattle.rules.specs.Places.{Geometry, bucket_of}
 use Rattle.rules.specs.Wheel.{Slot as Node, Lists, new_node, placed_in, link, unlink, release, claim, Wheel, Call, create, enable, set_entry, schedule}
 use Rattle.rules.specs.Wheel.{reschedule, deschedule, start, pull, abandon, armed_count, next_due, Answer, Changes, hands_out}
 use Rattle.rules.specs.Calls.{rows, tests_of, armed, rearmed, act, judged}
-use Rattle.rules.specs.Runs.{refusal, step, Run, next}
+use Rattle.rules.specs.Runs.{refusal, step, Run}
 use Rattle.numbers.proofs.Cases.{not_both}
 use Rattle.rules.proofs.Standing.{Gone, bearers_else, unlink_release, unlink_link, claim_link, serial_freed, serial_linked}
 use Rattle.rules.proofs.Timers.{Past}

@@ -10,7 +10,7 @@ use lib.ListN.{length, get_or, drop, drop_of_length-le}
 use lib.Seq.{drop-cons}
 use lib.Pow.{pow_pos}
 use borrow.Author.Tests.{lt-ltb, le-ltb}
-use Rattle.rules.specs.Places.{Geometry, tick, shift_of, size_of, dense, first_of, moves, visited, ring, visits_from, visits, visited_at, bucket_at}
+use Rattle.rules.specs.Places.{Geometry, tick, shift_of, size_of, dense, first_of, moves, visited, ring, visits_from, visited_at, bucket_at}
 use Rattle.rules.specs.Places.{ahead_from, ahead}
 use Rattle.numbers.proofs.Cases.{below?}
 use Rattle.rules.proofs.Ticks.{tick_up_mono}

@@ -1,7 +1,7 @@
 -- Demand 3's premise on the calls, read off the answers alone: where each call that would change a timer was answered
 -- by a refusal, none of them was taken.
 use Prim.Native.Nat.{ℕ}
-use mathlib.Core.Path.{◌≡◌, subst}
+use mathlib.Core.Path.{subst}
 use mathlib.Core.Option.{Option, none, some}
 use mathlib.Core.List.{List, [], ◌∷◌}
 use Rattle.rules.specs.Places.{Geometry}

@@ -8,9 +8,9 @@ use mathlib.Core.Logic.{⊎_elim}
 use mathlib.Core.Bool.{Bool, true, false, ◌&&◌}
 use mathlib.Core.Option.{Option, none, some}
 use mathlib.Core.List.{List, [], ◌∷◌}
-use lib.Dec.{eqb, leb, ltb}
+use lib.Dec.{leb, ltb}
 use borrow.Author.Tests.{le-leb, lt-leb, ltb-true}
-use Rattle.rules.specs.Places.{Geometry, buckets, bucket_of, visits, ahead}
+use Rattle.rules.specs.Places.{Geometry, buckets, bucket_of, ahead}
 use Rattle.rules.specs.Wheel.{Lists, new_node, placed_in, count, unlink, release, claim, enter, pop, Entry, Advance, closed, poised, within, Wheel}
 use Rattle.rules.specs.Wheel.{Call, create, enable, set_entry, schedule, reschedule, deschedule, start, pull, abandon, armed_count, next_due, Answer}
 use Rattle.rules.specs.Calls.{Row, is_open, in_range, rows, tests_of, Found, dealt, emptied, AfterPull as Pulled, stopped, swept, pulled, armed, rearmed}

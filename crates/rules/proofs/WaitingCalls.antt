@@ -13,7 +13,7 @@ use Rattle.rules.specs.Wheel.{Slot as Node, Lists, new_node, placed_in, update, 
 use Rattle.rules.specs.Wheel.{Call, create, enable, set_entry, schedule, reschedule, deschedule, start, pull, abandon, armed_count, next_due, Answer}
 use Rattle.rules.specs.Wheel.{expired, Changes, Later, hands_out}
 use Rattle.rules.specs.Calls.{is_open, is_stale, rows, tests_of, AfterPull as Pulled, pulled, with_lists, with_next, armed, rearmed, origin, act, judged}
-use Rattle.rules.specs.Runs.{refusal, step, Run, placing, noted, answer, next}
+use Rattle.rules.specs.Runs.{refusal, step, Run, placing, noted}
 use Rattle.numbers.proofs.Cases.{below?, same?, not_both}
 use Rattle.rules.proofs.Counting.{hit_is, update_not}
 use Rattle.rules.proofs.Placing.{Mem, in-time-back, in-time-on, in-time-after, in-time-weak, visits_none}

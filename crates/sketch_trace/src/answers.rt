@@ -19,9 +19,15 @@ const ESTIMATE: u64 = 5;
 pub const WORD: u64 = 6;
 
 // Puts the line of what was told after the bytes that wait in out, and answers how many wait then.
-pub fn say(out: &mut [u8; 65536], at: usize, told: &[u64; 6], source: Source) -> usize {
+pub fn say(
+    rt: &impl Print,
+    out: &mut [u8; 65536],
+    at: usize,
+    told: &[u64; 6],
+    source: Source,
+) -> usize {
     let words = b"ok refused index record digest estimate word";
-    lines::say(out, at, words, told, source)
+    lines::say(rt, out, at, words, told, source)
 }
 
 // Tells a word and one number, if it has one.

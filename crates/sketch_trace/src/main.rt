@@ -11,7 +11,7 @@ use crate::requests::{State, after, planned};
 
 // Answers line by line to the end of the input. The words are lent to a call and are its to the end of it: it hands
 // back what it told.
-fn main() {
+fn main(rt: HostRuntime) {
     let mut table = [0u64; 65536];
     let mut record = unused();
     let mut block = [0u8; 65536];
@@ -26,13 +26,13 @@ fn main() {
     let mut waiting: usize = 0;
     let mut turns = u64::MAX;
     while turns > 0 {
-        source = lines::next_line(&mut block, &mut line, source);
+        source = lines::next_line(&rt, &mut block, &mut line, source);
         let plan = planned(state, &line, source);
         let n = plan.words;
         perform(&mut table[..n], &mut record, &mut told, plan);
-        waiting = say(&mut out, waiting, &told, source);
+        waiting = say(&rt, &mut out, waiting, &told, source);
         state = after(state, plan);
         turns = lines::turns_left(turns, source.more);
     }
-    lines::flush(&out, waiting);
+    lines::flush(&rt, &out, waiting);
 }

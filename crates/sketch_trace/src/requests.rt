@@ -31,14 +31,14 @@ pub const SILENT: usize = 11;
 const MOST_WORDS: u64 = 65536;
 
 // Whether words were lent, and how many.
-#[derive(Drop)]
+#[derive(Clone, Copy)]
 pub struct State {
     pub lent: bool,
     pub words: usize,
 }
 
 // A call with its numbers, and how many words are lent to it.
-#[derive(Drop)]
+#[derive(Clone, Copy)]
 pub struct Plan {
     pub call: usize,
     pub words: usize,

@@ -72,9 +72,8 @@ pub fn bucket_of(reading: u64, deadline: u64) -> usize
     p.bucket
 }
 
-// The host's function: level x 64 + index.
-#[unsafe(no_mangle)]
-pub extern "C" fn wheel_place(reading: u64, deadline: u64) -> u64
+// For the host: level x 64 + index.
+pub fn wheel_place(reading: u64, deadline: u64) -> u64
     ensures { Placed reading deadline result }
 {
     let p = find(reading, deadline);

@@ -26,9 +26,15 @@ pub const PLACE: u64 = 8;
 pub const DIGEST: u64 = 9;
 
 // Puts the line of what was told after the bytes that wait in out, and answers how many wait then.
-pub fn say(out: &mut [u8; 65536], at: usize, told: &[u64; 6], source: Source) -> usize {
+pub fn say(
+    rt: &impl Print,
+    out: &mut [u8; 65536],
+    at: usize,
+    told: &[u64; 6],
+    source: Source,
+) -> usize {
     let words = b"ok rescheduled removed end refused armed expired due place digest";
-    lines::say(out, at, words, told, source)
+    lines::say(rt, out, at, words, told, source)
 }
 
 // Tells a word and so many of three numbers.

@@ -24,7 +24,7 @@ const LENT: u64 = 6;
 const PLACE: u64 = 7;
 
 // What was read: whether it is a field of that kind, whether it is none, and the number.
-#[derive(Drop)]
+#[derive(Clone, Copy)]
 pub struct Field {
     pub good: bool,
     pub dash: bool,

@@ -17,15 +17,15 @@ mod work; // the calls on the records that are lent
 use crate::sessions::{at_start, session};
 
 // Answers line by line to the end of the input, lend by lend.
-fn main() {
+fn main(rt: HostRuntime) {
     let mut block = [0u8; 65536];
     let mut line = [0u8; 257];
     let mut out = [0u8; 65536];
     let mut stand = at_start();
     let mut turns = u64::MAX;
     while turns > 0 {
-        stand = session(&mut block, &mut line, &mut out, stand);
+        stand = session(&rt, &mut block, &mut line, &mut out, stand);
         turns = lines::turns_left(turns, stand.more);
     }
-    lines::flush(&out, stand.waiting);
+    lines::flush(&rt, &out, stand.waiting);
 }

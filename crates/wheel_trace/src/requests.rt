@@ -5,7 +5,7 @@ use lines::{Kind, Source};
 
 // What a line asks for: a call, its first field as an index, the numbers of the second and the third, the generation
 // among them, and whether the second is no dash.
-#[derive(Drop)]
+#[derive(Clone, Copy)]
 pub struct Request {
     pub call: u64,
     pub index: usize,

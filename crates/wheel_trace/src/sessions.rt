@@ -7,7 +7,7 @@ use lines::{NO_LINE, Source};
 
 // What goes from one wheel to the next: where the reading of lines stands and whether there are more, how many bytes of
 // answers wait, and what is lent next, if anything.
-#[derive(Drop)]
+#[derive(Clone, Copy)]
 pub struct Stand {
     pub source: Source,
     pub more: bool,
@@ -58,6 +58,7 @@ fn goes_on(source: Source, r: Request) -> bool {
 // Answers the lend, and line by line up to the next one or the end of the input. The records are lent to a call and are
 // its to the end of it: it hands back what it told.
 pub fn session(
+    rt: &(impl Input + Print),
     block: &mut [u8; 65536],
     line: &mut [u8; 257],
     out: &mut [u8; 65536],
@@ -83,10 +84,11 @@ pub fn session(
     let mut stand = begun;
     let mut turns = u64::MAX;
     while turns > 0 {
-        let said = say(out, stand.waiting, &told, stand.source);
-        let source = lines::next_line(block, line, stand.source);
+        let said = say(rt, out, stand.waiting, &told, stand.source);
+        let source = lines::next_line(rt, block, line, stand.source);
         let r = request_of(line, source, lent);
         perform(
+            rt,
             &mut heads,
             &mut tails,
             &mut next[..nodes],

@@ -7,6 +7,7 @@ use lines::{NONE, Row, SHOWN};
 
 // `bucket`, `clock`, `dump` or `digest`.
 pub fn show<'a>(
+    rt: &impl Print,
     heads: &'a [usize],
     tails: &'a [usize],
     next: &'a [usize],
@@ -26,12 +27,20 @@ pub fn show<'a>(
 ) -> &'a mut [u64; 6] {
     let call = r.call;
     if call == requests::BUCKET {
-        let waits = lines::say_chain(out, at, b"bucket", number(heads, r.index) as usize, next);
+        let waits = lines::say_chain(
+            rt,
+            out,
+            at,
+            b"bucket",
+            number(heads, r.index) as usize,
+            next,
+        );
         return answer(told, SHOWN, 0, waits as u64, 0, 0);
     }
     let rows = rows_of(next.len(), dated.len(), call == requests::CLOCK);
     if call == requests::DIGEST {
         let digest = tell(
+            rt,
             heads,
             tails,
             next,
@@ -52,8 +61,8 @@ pub fn show<'a>(
         return answer(told, answers::DIGEST, 1, digest, 0, 0);
     }
     let waits = tell(
-        heads, tails, next, prev, bucket, entry, generation, serial, dated, deadline, stamp, clock,
-        out, at as u64, rows, false,
+        rt, heads, tails, next, prev, bucket, entry, generation, serial, dated, deadline, stamp,
+        clock, out, at as u64, rows, false,
     );
     answer(told, SHOWN, 0, waits, 0, 0)
 }
@@ -68,6 +77,7 @@ fn rows_of(nodes: usize, entries: usize, one: bool) -> usize {
 
 // The first rows, as lines or as a digest: how many bytes wait, or the digest.
 fn tell(
+    rt: &impl Print,
     heads: &[usize],
     tails: &[usize],
     next: &[usize],
@@ -92,14 +102,14 @@ fn tell(
             heads, tails, next, prev, bucket, entry, generation, serial, dated, deadline, stamp,
             clock, sums, i,
         );
-        told = tell_row(out, told, r, sums);
+        told = tell_row(rt, out, told, r, sums);
         i += 1;
     }
     told
 }
 
-fn tell_row(out: &mut [u8; 65536], told: u64, r: Row, sums: bool) -> u64 {
-    lines::tell_row(out, told, b"clock bucket node entry", r, sums)
+fn tell_row(rt: &impl Print, out: &mut [u8; 65536], told: u64, r: Row, sums: bool) -> u64 {
+    lines::tell_row(rt, out, told, b"clock bucket node entry", r, sums)
 }
 
 // Row i: the clock, then the buckets, the node records that are lent, and the entries.

@@ -12,6 +12,7 @@ use crate::turns::on_clock;
 
 // A call: what is shown goes to out, after the bytes that wait there.
 pub fn perform<'a>(
+    rt: &impl Print,
     heads: &'a mut [usize],
     tails: &'a mut [usize],
     next: &'a mut [usize],
@@ -44,8 +45,8 @@ pub fn perform<'a>(
             clock, told, r,
         ),
         3 => show(
-            heads, tails, next, prev, bucket, entry, generation, serial, dated, deadline, stamp,
-            out, clock, told, at, r,
+            rt, heads, tails, next, prev, bucket, entry, generation, serial, dated, deadline,
+            stamp, out, clock, told, at, r,
         ),
         4 => poke_node(next, prev, bucket, entry, generation, serial, told, r),
         5 => poke_bucket(heads, tails, told, r),

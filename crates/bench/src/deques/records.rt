@@ -9,7 +9,7 @@ use crate::deques::laying::{
 use deque_alone::NONE;
 
 // The records, the first free node, and whether all of them are sound.
-#[derive(Drop)]
+#[derive(Clone, Copy)]
 pub struct Records {
     pub heads: [usize; 1],
     pub tails: [usize; 1],

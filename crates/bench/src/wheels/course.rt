@@ -10,7 +10,7 @@ use wheel_rules::popping::Pulled;
 const PLACES: usize = 4168;
 
 // How far a workload has come.
-#[derive(Drop)]
+#[derive(Clone, Copy)]
 pub struct Course {
     // the calls that are left
     pub left: u64,
@@ -27,7 +27,7 @@ pub struct Course {
 
 // The wish and the course with it, the entry that it is about with its slot, and its deadline or the reading to advance
 // to. To cancel is wished of an entry that is armed or not: where it is not, it is armed.
-#[derive(Drop)]
+#[derive(Clone, Copy)]
 pub struct Planned {
     pub course: Course,
     pub wish: Turn,

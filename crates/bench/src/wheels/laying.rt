@@ -7,7 +7,7 @@ use wheel_rules::calls::Clock;
 use wheel_timers::layout::lay_out;
 
 // The clock and the arrays.
-#[derive(Drop)]
+#[derive(Clone, Copy)]
 pub struct Laid {
     pub clock: Clock,
     pub heads: [usize; 165],

@@ -10,7 +10,7 @@ use wheel_timers::moments::start;
 const LAST: u64 = 18446744073709551615;
 
 // What is done next.
-#[derive(Drop)]
+#[derive(Clone, Copy)]
 pub enum Turn {
     Arm,
     Cancel,

@@ -1,6 +1,6 @@
 // The workloads, and the steps and delays that they make of the generator's numbers.
 
-#[derive(Drop)]
+#[derive(Clone, Copy)]
 pub enum Workload {
     Cancel,
     Ticks,

@@ -1,9 +1,8 @@
 -- A history on small records, computed: one deque over two nodes, and whatever the records held before. Before the make
 -- a pop is refused 4; after it a push takes node 0, a push into a deque that there is not is refused 16, and a pop
 -- answers node 0 and frees it.
-use Prim.Native.Nat.{ℕ}
 use native.Mathlib.Omega.{arith}
-use mathlib.Core.Path.{◌≡◌, refl}
+use mathlib.Core.Path.{refl}
 use mathlib.Core.Logic.{inl, inr, ⊎_elim}
 use mathlib.Core.List.{List, [], ◌∷◌}
 use Rattle.numbers.specs.Shared.{no_slot as none}

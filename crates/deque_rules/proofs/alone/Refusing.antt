@@ -13,7 +13,7 @@ use mir.Val.{Fits}
 use Rattle.numbers.specs.Shared.{no_slot as none}
 use Rattle.deque_rules.specs.Links.{listed}
 use Rattle.deque_rules.proofs.Laws.{first_in}
-use Rattle.deque_rules.specs.Deque.{State, state, deque_count as deques, node_count as nodes, Sound, InDeque}
+use Rattle.deque_rules.specs.Deque.{State, state, Sound, InDeque}
 use Rattle.deque_rules.specs.alone.Sound.{Judged}
 use Rattle.deque_rules.specs.alone.Refuse.{RefusesDeque, RefusesPush, RefusesNode}
 use Rattle.deque_rules.specs.alone.Ready.{DequeReady, PushReady, NodeReady}

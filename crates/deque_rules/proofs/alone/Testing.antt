@@ -9,7 +9,7 @@ use lib.ListN.{length, get_or}
 use lib.Dec.{eqb}
 use borrow.Author.Tests.{eq-eqb, eqb-true, not-true, not-false}
 use Rattle.numbers.specs.Shared.{no_slot as none, past_end}
-use Rattle.deque_rules.specs.Links.{links, home_of, deq, Whole}
+use Rattle.deque_rules.specs.Links.{home_of, deq, Whole}
 use Rattle.deque_rules.specs.Layout.{Sizes}
 use Rattle.deque_rules.specs.Sound.{Walked, WalkedFree, SizesFree}
 use Rattle.numbers.proofs.Cases.{same?}

@@ -1,7 +1,7 @@
 -- inner: the records of deques that a caller lends, and what they stand for.
 use Rattle.std.specs.Prelude.{ℕ, ◌<◌, [], ◌≡◌, length, get_or}
 use Rattle.deque_rules.specs.Deque.{State, Lent, Stands}
-use Rattle.deque_rules.specs.Links.{first, Deques, links, deq, Rep}
+use Rattle.deque_rules.specs.Links.{first, Deques, deq, Rep}
 
 -- the records and the first free node stand for the lists v
 pub record Shows (a : State) (free : ℕ) (v : Deques) : Type 0 where

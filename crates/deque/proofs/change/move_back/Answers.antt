@@ -1,6 +1,5 @@
 -- `move_back` meets its contract.
 use Rattle.deque_rules.proofs.Moving.{move_asks, move_asks_2, move_does}
-use borrow.Author.Rules.{rules}
 use Rattle.deque.proofs.change.move_back.Goals as goal
 
 pub unlink-requires : goal.unlink-requires

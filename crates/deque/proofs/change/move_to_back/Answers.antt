@@ -1,6 +1,5 @@
 -- `move_to_back` meets its contract.
 use Rattle.deque_rules.proofs.Moving.{after_index, after_bytes, send_asks, last_index, last_bytes, own_index, send_does}
-use borrow.Author.Rules.{rules}
 use Rattle.deque.proofs.change.move_to_back.Goals as goal
 
 pub offset_bounds-prev-q : goal.offset_bounds-prev-q

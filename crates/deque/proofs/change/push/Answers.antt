@@ -1,6 +1,5 @@
 -- `push` meets its contract.
 use Rattle.deque_rules.proofs.Pushing.{push_asks, push_does}
-use borrow.Author.Rules.{rules}
 use Rattle.deque.proofs.change.push.Goals as goal
 
 pub link_back-requires : goal.link_back-requires

@@ -3,7 +3,6 @@ use mathlib.Core.Path.{refl, sym}
 use borrow.Author.Tests.{eq-eqb, ne_eqb}
 use native.Mathlib.Omega.{arith}
 use lib.Seq.{set_out}
-use borrow.Author.Rules.{rules}
 use Rattle.deque.proofs.change.put.Goals as goal
 
 pub offset_bounds-next-p : goal.offset_bounds-next-p

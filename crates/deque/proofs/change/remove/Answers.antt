@@ -1,6 +1,5 @@
 -- `remove` meets its contract.
 use Rattle.deque_rules.proofs.Pushing.{remove_does}
-use borrow.Author.Rules.{rules}
 use Rattle.deque.proofs.change.remove.Goals as goal
 
 pub returns : goal.returns

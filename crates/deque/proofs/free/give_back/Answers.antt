@@ -1,6 +1,5 @@
 -- `give_back` meets its contract.
 use Rattle.deque_rules.proofs.Freeing.{give_does}
-use borrow.Author.Rules.{rules}
 use Rattle.deque.proofs.free.give_back.Goals as goal
 
 pub returns : goal.returns

@@ -1,6 +1,5 @@
 -- `take` meets its contract.
 use Rattle.deque_rules.proofs.Freeing.{take_does}
-use borrow.Author.Rules.{rules}
 use Rattle.deque.proofs.free.take.Goals as goal
 
 pub returns : goal.returns

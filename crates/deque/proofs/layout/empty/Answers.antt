@@ -1,8 +1,5 @@
 -- `empty` meets its contract.
-use borrow.Author.Rules.{rules}
-use Prim.Native.Nat.{◌-◌}
-use lib.ListN.{length}
-use Rattle.deque_rules.proofs.Laying.{Emptied, empty_starts, empty_goes, empty_ends_lem}
+use Rattle.deque_rules.proofs.Laying.{empty_starts, empty_goes, empty_ends_lem}
 use Rattle.deque.proofs.layout.empty.Goals as goal
 
 pub loop-d-init : goal.loop-d-init

@@ -1,8 +1,7 @@
 -- `empty` meets its contract.
-use borrow.Author.Rules.{rules}
 use Prim.Native.Nat.{◌-◌}
 use lib.ListN.{length}
-use Rattle.deque_rules.proofs.Laying.{Emptied, empty_starts, empty_goes, empty_ends_lem}
+use Rattle.deque_rules.proofs.Laying.{Emptied}
 use Rattle.deque.proofs.layout.empty.Given as goal
 
 abbrev pub invariant-loop-d : goal.invariant-loop-d

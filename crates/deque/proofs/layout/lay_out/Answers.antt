@@ -1,6 +1,5 @@
 -- `lay_out` meets its contract.
 use Rattle.deque_rules.proofs.Laying.{lay_does}
-use borrow.Author.Rules.{rules}
 use Rattle.deque.proofs.layout.lay_out.Goals as goal
 
 pub returns : goal.returns

@@ -1,6 +1,5 @@
 -- `string` meets its contract.
-use borrow.Author.Rules.{rules}
-use Rattle.deque_rules.proofs.Laying.{Strung, string_starts, string_goes, string_ends}
+use Rattle.deque_rules.proofs.Laying.{string_starts, string_goes, string_ends}
 use Rattle.deque.proofs.layout.string.Goals as goal
 
 pub loop-s-init : goal.loop-s-init

@@ -1,6 +1,5 @@
 -- `string` meets its contract.
-use borrow.Author.Rules.{rules}
-use Rattle.deque_rules.proofs.Laying.{Strung, string_starts, string_goes, string_ends}
+use Rattle.deque_rules.proofs.Laying.{Strung}
 use Rattle.deque.proofs.layout.string.Given as goal
 
 abbrev pub invariant-loop-s : goal.invariant-loop-s

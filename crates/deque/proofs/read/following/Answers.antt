@@ -1,6 +1,5 @@
 -- `following` meets its contract.
 use Rattle.deque_rules.proofs.Reading.{follows_does}
-use borrow.Author.Rules.{rules}
 use Rattle.deque.proofs.read.following.Goals as goal
 
 pub returns : goal.returns

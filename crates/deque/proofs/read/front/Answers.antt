@@ -1,6 +1,5 @@
 -- `front` meets its contract.
 use Rattle.deque_rules.proofs.Reading.{front_does}
-use borrow.Author.Rules.{rules}
 use Rattle.deque.proofs.read.front.Goals as goal
 
 pub returns : goal.returns

@@ -1,10 +1,6 @@
 -- `sound` meets its contract: its loop keeps `Upto`, and each way out has a law of `Verdicts`.
-use Prim.Native.Nat.{◌-◌}
-use lib.ListN.{length}
-use Rattle.deque_rules.specs.Links.{links}
-use Rattle.deque_rules.proofs.Judging.{Upto, more}
+use Rattle.deque_rules.proofs.Judging.{more}
 use Rattle.deque_rules.proofs.Verdicts.{begins, exits}
-use borrow.Author.Rules.{rules}
 use Rattle.deque.proofs.sound.sound.Goals as goal
 
 pub returns-then-not-sized : goal.returns-then-not-sized

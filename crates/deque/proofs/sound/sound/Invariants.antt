@@ -2,9 +2,7 @@
 use Prim.Native.Nat.{◌-◌}
 use lib.ListN.{length}
 use Rattle.deque_rules.specs.Links.{links}
-use Rattle.deque_rules.proofs.Judging.{Upto, more}
-use Rattle.deque_rules.proofs.Verdicts.{begins, exits}
-use borrow.Author.Rules.{rules}
+use Rattle.deque_rules.proofs.Judging.{Upto}
 use Rattle.deque.proofs.sound.sound.Given as goal
 
 abbrev pub invariant-loop-d : goal.invariant-loop-d

@@ -1,9 +1,5 @@
 -- `walk` meets its contract: the invariant of its loop is `Going`, and each way out has a law of `Walking`.
-use borrow.Author.Rules.{rules}
-use Prim.Native.Nat.{◌-◌}
-use lib.ListN.{length}
-use Rattle.deque_rules.specs.Links.{links}
-use Rattle.deque_rules.proofs.Walking.{Going, start, goes, exits}
+use Rattle.deque_rules.proofs.Walking.{start, goes, exits}
 use Rattle.deque.proofs.walk.walk.Goals as goal
 
 pub loop-x-init : goal.loop-x-init

@@ -1,9 +1,8 @@
 -- `walk` meets its contract: the invariant of its loop is `Going`, and each way out has a law of `Walking`.
-use borrow.Author.Rules.{rules}
 use Prim.Native.Nat.{◌-◌}
 use lib.ListN.{length}
 use Rattle.deque_rules.specs.Links.{links}
-use Rattle.deque_rules.proofs.Walking.{Going, start, goes, exits}
+use Rattle.deque_rules.proofs.Walking.{Going}
 use Rattle.deque.proofs.walk.walk.Given as goal
 
 abbrev pub invariant-loop-x : goal.invariant-loop-x

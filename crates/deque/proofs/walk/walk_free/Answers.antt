@@ -1,9 +1,6 @@
 -- `walk_free` meets its contract: the invariant of its loop is `GoingFree`, and each way out has a law of
 -- `WalkingFree`.
-use borrow.Author.Rules.{rules}
-use Prim.Native.Nat.{◌-◌}
-use lib.ListN.{length}
-use Rattle.deque_rules.proofs.WalkingFree.{GoingFree, start, goes, exits}
+use Rattle.deque_rules.proofs.WalkingFree.{start, goes, exits}
 use Rattle.deque.proofs.walk.walk_free.Goals as goal
 
 pub loop-x-init : goal.loop-x-init

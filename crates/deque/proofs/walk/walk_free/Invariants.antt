@@ -1,9 +1,8 @@
 -- `walk_free` meets its contract: the invariant of its loop is `GoingFree`, and each way out has a law of
 -- `WalkingFree`.
-use borrow.Author.Rules.{rules}
 use Prim.Native.Nat.{◌-◌}
 use lib.ListN.{length}
-use Rattle.deque_rules.proofs.WalkingFree.{GoingFree, start, goes, exits}
+use Rattle.deque_rules.proofs.WalkingFree.{GoingFree}
 use Rattle.deque.proofs.walk.walk_free.Given as goal
 
 abbrev pub invariant-loop-x : goal.invariant-loop-x
