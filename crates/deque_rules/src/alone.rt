@@ -1,21 +1,21 @@
 // What the calls of the deque by itself answer.
 
 // Make: the first free node.
-#[derive(Drop)]
+#[derive(Clone, Copy)]
 pub enum Made {
     First(usize),
     Refused(u32),
 }
 
 // Push back: the node, and the first free node then.
-#[derive(Drop)]
+#[derive(Clone, Copy)]
 pub enum Pushed {
     At { slot: usize, free: usize },
     Refused(u32),
 }
 
 // Pop front: the node with its element, and the first free node then; or nothing.
-#[derive(Drop)]
+#[derive(Clone, Copy)]
 pub enum Popped {
     Node {
         slot: usize,
@@ -27,7 +27,7 @@ pub enum Popped {
 }
 
 // Look at the front or the back, next by cursor: the node with its element, or nothing.
-#[derive(Drop)]
+#[derive(Clone, Copy)]
 pub enum Looked {
     Node { slot: usize, element: u64 },
     Nothing,
@@ -35,21 +35,21 @@ pub enum Looked {
 }
 
 // Unlink and drop: the element that stood there, and the first free node then.
-#[derive(Drop)]
+#[derive(Clone, Copy)]
 pub enum Dropped {
     Element { element: u64, free: usize },
     Refused(u32),
 }
 
 // Length.
-#[derive(Drop)]
+#[derive(Clone, Copy)]
 pub enum Measured {
     Length(usize),
     Refused(u32),
 }
 
 // Move to back, reset cursor.
-#[derive(Drop)]
+#[derive(Clone, Copy)]
 pub enum Done {
     Done,
     Refused(u32),

@@ -8,8 +8,7 @@ use face_rules::Node;
 use wheel_rules::calls::Clock;
 
 // Opens an advance to q. Refuses (1, 4, 5).
-#[unsafe(no_mangle)]
-pub extern "C" fn wheel_start(
+pub fn wheel_start(
     nodes: &[Node],
     clock: &mut Clock,
     heads: &[usize],
@@ -29,8 +28,7 @@ pub extern "C" fn wheel_start(
 }
 
 // One event of the open advance, or End. Refuses (1, 4, 6).
-#[unsafe(no_mangle)]
-pub extern "C" fn wheel_pull(
+pub fn wheel_pull(
     nodes: &mut [Node],
     clock: &mut Clock,
     heads: &mut [usize],
@@ -49,8 +47,7 @@ pub extern "C" fn wheel_pull(
 }
 
 // Closes the open advance and restores the reading that it started from. Refuses (1, 4, 6).
-#[unsafe(no_mangle)]
-pub extern "C" fn wheel_abandon(
+pub fn wheel_abandon(
     nodes: &[Node],
     clock: &mut Clock,
     heads: &[usize],

@@ -8,8 +8,7 @@ use face_rules::Node;
 use wheel_rules::calls::Clock;
 
 // How many slots are armed. It answers while an advance is open too. Refuses (1, 4).
-#[unsafe(no_mangle)]
-pub extern "C" fn wheel_armed_count(
+pub fn wheel_armed_count(
     nodes: &[Node],
     clock: Clock,
     heads: &[usize],
@@ -28,8 +27,7 @@ pub extern "C" fn wheel_armed_count(
 }
 
 // The least deadline of the armed timers, or none. Refuses (1, 4, 5).
-#[unsafe(no_mangle)]
-pub extern "C" fn wheel_next_due(
+pub fn wheel_next_due(
     nodes: &[Node],
     clock: Clock,
     heads: &[usize],

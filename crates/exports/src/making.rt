@@ -9,16 +9,14 @@ use face_rules::Node;
 use wheel_rules::calls::{Clock, Created};
 
 // Begins a wheel with this first serial: clock, heads and tails by value. Never refused.
-#[unsafe(no_mangle)]
-pub extern "C" fn wheel_create(first: u64) -> Created
+pub fn wheel_create(first: u64) -> Created
     ensures { Begins first result.clock result.heads result.tails ok }
 {
     wheel::create(first)
 }
 
 // Lays the lent nodes and entries out as a wheel with no timer. Refuses (2, 3).
-#[unsafe(no_mangle)]
-pub extern "C" fn wheel_enable(
+pub fn wheel_enable(
     nodes: &mut [Node],
     clock: &mut Clock,
     heads: &mut [usize],

@@ -10,8 +10,7 @@ use face_rules::Node;
 use wheel_rules::calls::Clock;
 
 // Sets the entry e: whether it has a deadline, which, and its generation. Refuses (1, 4, 5, 7).
-#[unsafe(no_mangle)]
-pub extern "C" fn wheel_set_entry(
+pub fn wheel_set_entry(
     nodes: &[Node],
     clock: Clock,
     heads: &[usize],

@@ -8,8 +8,7 @@ use face_rules::Node;
 use wheel_rules::calls::Clock;
 
 // Arms a timer for the entry e, whose generation is h. Refuses (1, 4, 5, 7 to 11).
-#[unsafe(no_mangle)]
-pub extern "C" fn wheel_schedule(
+pub fn wheel_schedule(
     nodes: &mut [Node],
     clock: &mut Clock,
     heads: &mut [usize],
@@ -31,8 +30,7 @@ pub extern "C" fn wheel_schedule(
 
 // Moves the timer with the handle (slot, number), armed with the generation h, or removes it. Refuses (1, 4, 5, 12,
 // 13).
-#[unsafe(no_mangle)]
-pub extern "C" fn wheel_reschedule(
+pub fn wheel_reschedule(
     nodes: &mut [Node],
     clock: &mut Clock,
     heads: &mut [usize],
@@ -56,8 +54,7 @@ pub extern "C" fn wheel_reschedule(
 }
 
 // Removes the timer with the handle (slot, number), armed with the generation h. Refuses (1, 4, 5, 12, 13).
-#[unsafe(no_mangle)]
-pub extern "C" fn wheel_deschedule(
+pub fn wheel_deschedule(
     nodes: &mut [Node],
     clock: &mut Clock,
     heads: &mut [usize],

@@ -1,5 +1,6 @@
 -- `turn` meets its contract.
-use Rattle.deque_rules.proofs.Turning.{turn_stays, turn_does, tail_index, tail_bytes, head_index, head_bytes, next_index}
+use Rattle.deque_rules.proofs.Turning.{turn_stays, turn_does}
+use Rattle.deque_rules.proofs.Turning.{tail_index, tail_bytes, head_index, head_bytes, next_index}
 use Rattle.deque.proofs.change.turn.Goals as goal
 
 pub returns-then-next-q : goal.returns-then-next-q

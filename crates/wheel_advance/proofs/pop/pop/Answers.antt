@@ -1,7 +1,6 @@
 -- `pop` meets its contract.
 use Rattle.wheel_rules.proofs.popping.Popping.{pop_slot, pop_move, pop_dated, pop_deadline, pop_skips, pop_fires, pop_moves}
 use native.Mathlib.Omega.{arith}
-use borrow.Author.Rules.{rules}
 use Rattle.wheel_advance.proofs.pop.pop.Goals as goal
 
 pub bounds-dated-e : goal.bounds-dated-e

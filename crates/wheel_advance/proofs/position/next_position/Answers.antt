@@ -2,7 +2,6 @@
 use Rattle.wheel_rules.proofs.popping.Positions.{last_one, not_last, onward_here, onward_last, onward_up, onward_still}
 use native.Mathlib.Omega.{arith}
 use Rattle.rules.specs.Places.{wheel01}
-use borrow.Author.Rules.{rules}
 use Rattle.wheel_advance.proofs.position.next_position.Goals as goal
 
 pub returns-then-step-visited : goal.returns-then-step-visited

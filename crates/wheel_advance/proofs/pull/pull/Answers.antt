@@ -1,9 +1,6 @@
 -- `pull` meets its contract.
 use borrow.Author.Tests.{not-true, not-false}
-use Rattle.rules.specs.Places.{wheel01}
-use Rattle.wheel_rules.specs.Lent.{nodes}
-use Rattle.wheel_rules.specs.popping.Pop.{left}
-use Rattle.wheel_rules.proofs.pull.Pulling.{Pulling, pull_begins, pull_asks, pull_ends, pull_kept}
+use Rattle.wheel_rules.proofs.pull.Pulling.{pull_begins, pull_asks, pull_ends, pull_kept}
 use Rattle.wheel_rules.proofs.pull.Skipping.{skip_asks, skip_less, skip_again}
 use native.Mathlib.Omega.{arith}
 use Rattle.wheel_advance.proofs.pull.pull.Goals as goal

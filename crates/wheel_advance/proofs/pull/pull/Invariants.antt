@@ -2,9 +2,7 @@
 use Rattle.rules.specs.Places.{wheel01}
 use Rattle.wheel_rules.specs.Lent.{nodes}
 use Rattle.wheel_rules.specs.popping.Pop.{left}
-use Rattle.wheel_rules.proofs.pull.Pulling.{Pulling, pull_begins, pull_asks, pull_ends, pull_kept}
-use Rattle.wheel_rules.proofs.pull.Skipping.{skip_asks, skip_less, skip_again}
-use native.Mathlib.Omega.{arith}
+use Rattle.wheel_rules.proofs.pull.Pulling.{Pulling}
 use Rattle.wheel_advance.proofs.pull.pull.Given as goal
 
 abbrev pub invariant-loop-event : goal.invariant-loop-event

@@ -1,6 +1,5 @@
 -- `alone` meets its contract.
 use Rattle.wheel_rules.proofs.pull.Skipping.{alone_not, alone_so}
-use borrow.Author.Rules.{rules}
 use Rattle.wheel_advance.proofs.skips.alone.Goals as goal
 
 pub returns-then-front-b : goal.returns-then-front-b

@@ -1,6 +1,5 @@
 -- `pass_over` meets its contract.
 use native.Mathlib.Omega.{arith}
-use borrow.Author.Rules.{rules}
 use Rattle.wheel_rules.specs.pull.Skips.{stays}
 use Rattle.wheel_advance.proofs.skips.pass_over.Goals as goal
 

@@ -1,8 +1,6 @@
 -- `step_past` meets its contract.
-use Prim.Native.Nat.{◌-◌}
-use borrow.Author.Rules.{rules}
 use Rattle.wheel_rules.proofs.popping.Positions.{bucket_at_in}
-use Rattle.wheel_rules.proofs.pull.Skipping.{Passing, passing_begins, bucket_lent, passing_on}
+use Rattle.wheel_rules.proofs.pull.Skipping.{passing_begins, bucket_lent, passing_on}
 use Rattle.wheel_advance.proofs.skips.step_past.Goals as goal
 
 pub loop-step-init : goal.loop-step-init

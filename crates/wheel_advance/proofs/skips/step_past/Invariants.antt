@@ -1,8 +1,6 @@
 -- `step_past` meets its contract.
 use Prim.Native.Nat.{◌-◌}
-use borrow.Author.Rules.{rules}
-use Rattle.wheel_rules.proofs.popping.Positions.{bucket_at_in}
-use Rattle.wheel_rules.proofs.pull.Skipping.{Passing, passing_begins, bucket_lent, passing_on}
+use Rattle.wheel_rules.proofs.pull.Skipping.{Passing}
 use Rattle.wheel_advance.proofs.skips.step_past.Given as goal
 
 abbrev pub invariant-loop-step : goal.invariant-loop-step

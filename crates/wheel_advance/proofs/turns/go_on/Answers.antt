@@ -1,6 +1,5 @@
 -- `go_on` meets its contract.
 use Rattle.wheel_rules.proofs.turns.Going.{on_ends, on_goes, step_some, enter_asks}
-use borrow.Author.Rules.{rules}
 use Rattle.wheel_advance.proofs.turns.go_on.Goals as goal
 use borrow.Author.Tests.{not-true, not-false}
 

@@ -1,6 +1,5 @@
 -- `take_turn` meets its contract.
 use Rattle.wheel_rules.proofs.turns.Taking.{turn_waits, turn_on, turn_pop, pop_turned, on_turned}
-use borrow.Author.Rules.{rules}
 use Rattle.wheel_advance.proofs.turns.take_turn.Goals as goal
 
 pub waiting-x-requires : goal.waiting-x-requires

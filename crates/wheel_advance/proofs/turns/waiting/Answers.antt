@@ -4,7 +4,6 @@ use Rattle.wheel_rules.proofs.popping.Positions.{bucket_at_in}
 use Rattle.rules.specs.Places.{wheel01}
 use native.Mathlib.Omega.{arith}
 use Prim.Native.Nat.{◌-◌}
-use borrow.Author.Rules.{rules}
 use Rattle.wheel_advance.proofs.turns.waiting.Goals as goal
 
 pub returns-then-clock-eq0 : goal.returns-then-clock-eq0

@@ -1,0 +1,12 @@
+-- `deque_refusal` meets its contract.
+use Rattle.deque_rules.proofs.alone.Refusing.{exits}
+use Rattle.deque_alone.proofs.refuse.deque_refusal.Goals as goal
+
+pub returns-then-not-sound : goal.returns-then-not-sound
+returns-then-not-sound c = search exits
+
+pub returns-then-heads-d : goal.returns-then-heads-d
+returns-then-heads-d c = search exits
+
+pub returns : goal.returns
+returns c = search exits
