@@ -1,12 +1,12 @@
 //! Tells rustc where libjuopmorin.a is: in the folder JUOPMORIN_LIBS, or in target/staticlib of this repository, where
-//! it is proved and built if it is missing and `rt` is on the PATH.
+//! it is proved and built (tools/prove) if it is missing and `rt` is on the PATH.
 
 use std::env;
 use std::path::{Path, PathBuf};
 use std::process::{exit, Command};
 
 const LIBRARY: &str = "libjuopmorin.a";
-const COMMAND: &str = "rt staticlib juopmorin";
+const COMMAND: &str = "tools/prove juopmorin";
 
 fn main() {
     println!("cargo:rerun-if-changed=build.rs");
@@ -61,15 +61,15 @@ fn built(repository: &Path) -> PathBuf {
     }
     eprintln!("juopmorin: {LIBRARY} is missing: '{COMMAND}' proves and builds it, which takes minutes");
     let at = repository.display();
-    match Command::new("rt").args(["staticlib", "juopmorin"]).current_dir(repository).status() {
+    match Command::new(repository.join("tools/prove")).arg("juopmorin").status() {
         Ok(status) if status.success() && folder.join(LIBRARY).is_file() => {
             println!("cargo:warning={LIBRARY} was missing: '{COMMAND}' has proved and built it, which takes minutes");
             folder
         }
         Ok(status) => fail(&format!("'{COMMAND}' in {at} did not write {LIBRARY} ({status})")),
         Err(error) => fail(&format!(
-            "{LIBRARY} is neither in {} nor in a folder that JUOPMORIN_LIBS names, and rt, which builds it, does not \
-             start ({error}): with the Rattle kit on the PATH run '{COMMAND}' in {at}",
+            "{LIBRARY} is neither in {} nor in a folder that JUOPMORIN_LIBS names, and '{COMMAND}', which builds it, \
+             does not start ({error}): with the Rattle kit on the PATH run it in {at}",
             folder.display()
         )),
     }

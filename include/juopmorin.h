@@ -1,4 +1,4 @@
-/* Juopmorin: a proved alarm wheel, for C on Linux x86-64. Link libjuopmorin.a (`rt staticlib juopmorin` proves it and
+/* Juopmorin: a proved alarm wheel, for C on Linux x86-64. Link libjuopmorin.a (`tools/prove juopmorin` proves it and
  * writes it to target/staticlib/); this header is all that a program includes.
  *
  * When an alarm rings. A time is a number of nanoseconds since an origin that the host chooses; a tick is 2^30 of

@@ -57,7 +57,7 @@
 //!
 //! # How it is built
 //!
-//! The functions stand in the static library `libjuopmorin.a`, for Linux on x86-64, which `rt staticlib juopmorin`
+//! The functions stand in the static library `libjuopmorin.a`, for Linux on x86-64, which `tools/prove juopmorin`
 //! proves and writes to target/staticlib of the repository. The build script looks for it there, or in the folder that
 //! the variable `JUOPMORIN_LIBS` names.
 
