@@ -1,10 +1,3 @@
--- What the walks over lent nodes are made of: a field read, six columns lent, the calls.
-pub mod Counts
+-- What the loops over lent nodes are made of: a field read, a block of them; and what is kept of a parameter passed on.
 pub mod Reading
-pub mod Arrays
 pub mod Passing
-pub mod Lending
-pub mod Six
-pub mod CallsUsed
-pub mod CallsEnd
-pub mod CallsReader

@@ -3,7 +3,7 @@
 -- it.
 use Rattle.std.specs.Prelude.{ℕ, ◌<◌, true, false, Bool, ◌&&◌, not, List, [], ◌∷◌, ◌≡◌, eqb, get_or, length, replicate, set}
 use Rattle.std.proofs.Math.Option.{none, some, Option}
-use Rattle.deque_rules.specs.Links.{home_of, links}
+use Rattle.deque_rules.specs.Links.{home_of}
 use Rattle.numbers.specs.Shared.{no_slot}
 use Rattle.rules.specs.Calls.{act, is_none, refusal_if, step_if}
 use Rattle.rules.specs.Places.{wheel01, buckets, place_of}

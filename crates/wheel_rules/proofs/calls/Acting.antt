@@ -10,7 +10,7 @@ use borrow.Author.Tests.{lt-ltb}
 use borrow.Author.Rules.{scaled_Fits}
 use mir.Syntax.{w64}
 use mir.Val.{Fits}
-use Rattle.deque_rules.specs.Links.{Links, links, home_of}
+use Rattle.deque_rules.specs.Links.{Links, home_of}
 use Rattle.numbers.specs.Shared.{no_slot, unless, not_refused as answered}
 use Rattle.deque_rules.proofs.Laws.{first_in}
 use Rattle.rules.specs.Places.{wheel01, buckets}

@@ -11,16 +11,16 @@ use lib.ListN.{length, get_or}
 use lib.Dec.{eqb, leb, ltb}
 use borrow.Author.Tests.{eq-eqb, ne_eqb, eqb-true, lt-ltb, lt-leb, le-leb, ltb-true, leb-true}
 use Rattle.deque_rules.specs.Links.{first, home_of}
-use Rattle.numbers.specs.Shared.{In, no_slot, unless, not_refused as answered}
+use Rattle.numbers.specs.Shared.{In, no_slot, unless}
 use Rattle.rules.specs.Places.{wheel01, buckets}
 use Rattle.rules.specs.Wheel.{Slot as Node, Entry, Advance, closed, poised, within, Wheel, Call, create, enable, set_entry, schedule, reschedule, deschedule, start}
 use Rattle.rules.specs.Wheel.{pull, abandon, armed_count, next_due}
-use Rattle.rules.specs.Calls.{Row, Tests, rows, tests_of, pick, is_open, is_none, is_empty, is_stale, in_range, refusal_if}
+use Rattle.rules.specs.Calls.{Row, rows, tests_of, pick, is_open, is_none, is_empty, is_stale, in_range, refusal_if}
 use Rattle.rules.specs.Runs.{refusal}
 use Rattle.numbers.proofs.Cases.{same?}
 use Rattle.rules.proofs.Passing.{fresh}
 use Rattle.wheel_rules.specs.declared.calls.Clock.{Clock}
-use Rattle.wheel_rules.specs.Lent.{Records, node_at, ShowsAdvance, Shows, Decides, Ranges, SoundRecords, wheel_of as shown}
+use Rattle.wheel_rules.specs.Lent.{Records, node_at, ShowsAdvance, Shows, Decides, SoundRecords, wheel_of as shown}
 use Rattle.numbers.specs.Rows.{given}
 use Rattle.wheel_rules.specs.refusals.Refuse.{Live, Lendable, tests_on, rows_on}
 use Rattle.wheel_rules.specs.Promise.{all_are, fits, enabling, Looks}

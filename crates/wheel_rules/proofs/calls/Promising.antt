@@ -8,23 +8,22 @@ use mathlib.Core.Bool.{Bool, true, false, cond, not, false≢true}
 use mathlib.Core.Option.{Option, none, some}
 use mathlib.Core.List.{List, [], ◌∷◌}
 use lib.ListN.{length}
-use Rattle.rules.specs.Places.{wheel01, buckets}
+use Rattle.rules.specs.Places.{wheel01}
 use Rattle.rules.specs.Wheel.{Wheel, Call, create, enable, set_entry, schedule, reschedule, deschedule, start, pull, abandon, armed_count, next_due, Answer}
 use Rattle.rules.specs.Wheel.{refused}
-use Rattle.rules.specs.Calls.{Row, rows, is_none, refusal_if, armed, rearmed, act, judged, step_if}
+use Rattle.rules.specs.Calls.{Row, rows, is_none, refusal_if, armed, rearmed, act, judged}
 use Rattle.rules.specs.Runs.{step}
 use Rattle.rules.specs.Sound.{SoundIfEnabled}
 use Rattle.numbers.proofs.Cases.{same?}
 use Rattle.numbers.proofs.Rows.{Single, none_left, row}
 use Rattle.rules.proofs.SoundCalls.{sound_step}
-use Rattle.wheel_rules.specs.Lent.{Entries, Records, records, Shows, Decides, SoundRecords, wheel_of as shown}
-use Rattle.wheel_rules.specs.records.Shows.{Stands}
+use Rattle.wheel_rules.specs.Lent.{Entries, Records, SoundRecords, wheel_of as shown}
 use Rattle.wheel_rules.specs.sound.Sound.{InRange}
 use Rattle.numbers.specs.Rows.{given}
 use Rattle.numbers.specs.Shared.{unless, not_refused as answered}
 use Rattle.wheel_rules.specs.refusals.Refuse.{Lendable, tests_on, rows_on}
 use Rattle.wheel_rules.specs.calls.Work.{has_deadline, moved, descheduled}
-use Rattle.wheel_rules.specs.Promise.{enabling, Looks, or_zero, entries_with, Shown, Kept, Cleared, Leaves, Promised}
+use Rattle.wheel_rules.specs.Promise.{or_zero, entries_with, Shown, Kept, Cleared, Leaves, Promised}
 use Rattle.wheel_rules.specs.calls.Calls.{written, says, Acts, Meets}
 use Rattle.wheel_rules.specs.history.Tells.{Tells}
 use Rattle.wheel_rules.proofs.refusals.Rows.{past, standing_past, closed_past}

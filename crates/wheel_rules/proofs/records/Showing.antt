@@ -10,7 +10,7 @@ use lib.Seq.{get_or-set_same, get_or-set_other}
 use lib.Dec.{eqb, ltb}
 use borrow.Author.Tests.{eq-eqb, ne_eqb, lt-ltb, le-ltb}
 use Rattle.numbers.specs.Lists.{rest, remove}
-use Rattle.numbers.specs.Shared.{In, before_in as before, after_in as after, no_slot as nowhere}
+use Rattle.numbers.specs.Shared.{In, before_in as before, no_slot as nowhere}
 use Rattle.deque_rules.specs.Chain.{turned as turnedList}
 use Rattle.deque_rules.specs.Links.{Links, home_of, deq, Rep, Deques as Held}
 use Rattle.deque_rules.specs.Lists.{with_deque, push_back, take_out, turn, taken as takenFree, freed as freedSlot}

@@ -13,7 +13,6 @@ use Rattle.wheel_rules.specs.declared.calls.Clock.{Clock}
 use Rattle.wheel_rules.specs.Lent.{nodes, entries, records, Decides, Ranges, EndsLengths, NodesLengths, EntriesLengths, Lengths, Kinds}
 use Rattle.wheel_rules.specs.Lent.{EntriesExist, SerialsBelow, SerialsDiffer, AdvanceStands, SoundWith}
 use Rattle.wheel_rules.specs.sound.Filing.{Sized}
-use Rattle.wheel_rules.specs.sound.Sound.{Verdict}
 use Rattle.wheel_rules.proofs.sound.Answers.{no, failed, passed}
 
 module _ (h t n p b e g s : List ℕ) (d : List Bool) (l eg : List ℕ) (c : Clock) (total : ℕ) where

@@ -1,10 +1,9 @@
 -- inner: what each call writes and answers where it is not refused, on the records as they are.
 use Rattle.std.specs.Prelude.{ℕ, Bool, false, cond, length, get_or}
-use Rattle.deque_rules.specs.Links.{links}
 use Rattle.rules.specs.Places.{wheel01, bucket_of}
 use Rattle.rules.specs.Wheel.{Answer, ok, handle, removed, number, due}
 use Rattle.wheel_rules.specs.Promise.{bare_entries}
-use Rattle.wheel_rules.specs.Lent.{Records, nodes, records}
+use Rattle.wheel_rules.specs.Lent.{Records, records}
 use Rattle.wheel_rules.specs.layout.Layout.{bare_nodes, enabled_with}
 use Rattle.wheel_rules.specs.popping.Pop.{told}
 use Rattle.wheel_rules.specs.pull.Pull.{Step, pull_step}

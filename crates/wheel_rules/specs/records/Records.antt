@@ -1,6 +1,6 @@
 -- inner: the lent records of a wheel, as lists: 01, "Buckets and slots".
 use Rattle.std.specs.Prelude.{ℕ, List}
-use Rattle.deque_rules.specs.Links.{Links, links}
+use Rattle.deque_rules.specs.Links.{Links}
 use Rattle.wheel_rules.specs.Lent.{Nodes}
 
 -- links and payload together

@@ -1,0 +1,35 @@
+-- `armed_count_work` meets its promise.
+use mathlib.Core.Path.{refl}
+use Rattle.face_rules.proofs.Loading.{front_length}
+use Rattle.face_rules.proofs.Facing.{loaded_crowded, loaded_done}
+use Rattle.face_works.proofs.counts.armed_count_work.Goals as goal
+
+pub returns-then-n-gt4096 : goal.returns-then-n-gt4096
+returns-then-n-gt4096 c = loaded_crowded tt c.if-n-gt4096.true c.crowded-no.ensures
+
+pub slice_bounds-armed_count-end : goal.slice_bounds-armed_count-end
+slice_bounds-armed_count-end c =
+    front_length _ c.if-n-gt4096.false _ c.requires.next_has
+
+pub slice_bounds-armed_count-end-2 : goal.slice_bounds-armed_count-end-2
+slice_bounds-armed_count-end-2 c =
+    front_length _ c.if-n-gt4096.false _ c.requires.prev_has
+
+pub slice_bounds-armed_count-end-3 : goal.slice_bounds-armed_count-end-3
+slice_bounds-armed_count-end-3 c =
+    front_length _ c.if-n-gt4096.false _ c.requires.bucket_has
+
+pub slice_bounds-armed_count-end-4 : goal.slice_bounds-armed_count-end-4
+slice_bounds-armed_count-end-4 c =
+    front_length _ c.if-n-gt4096.false _ c.requires.entry_has
+
+pub slice_bounds-armed_count-end-5 : goal.slice_bounds-armed_count-end-5
+slice_bounds-armed_count-end-5 c =
+    front_length _ c.if-n-gt4096.false _ c.requires.generation_has
+
+pub slice_bounds-armed_count-end-6 : goal.slice_bounds-armed_count-end-6
+slice_bounds-armed_count-end-6 c =
+    front_length _ c.if-n-gt4096.false _ c.requires.serial_has
+
+pub returns : goal.returns
+returns c = loaded_done c.if-n-gt4096.false c.armed_count.ensures refl refl
