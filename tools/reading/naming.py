@@ -1,7 +1,8 @@
 """What a text names: its words, those that it binds itself, and the definitions that the others stand for."""
+import os
 import re
 
-from sources import module_file, source, stop
+from sources import ROOT, module_file, source, stop
 
 TOKEN = re.compile(r'[(){},;]|\.[^\s(){},;.]+|[^\s(){},;.]+(?:\.[^\s(){},;.]+)*|\.')
 MARKS = ('(', ')', '{', '}', ',', ';', '.', ':', '=', 'λ')
@@ -55,7 +56,7 @@ class Reading:
             held |= self.arguments(file, words)
         found = []
         for i, word in enumerate(words):
-            if is_name(word) and word not in held and not is_label(words, i):
+            if is_name(word) and head(word) not in held and not is_label(words, i):
                 meant = self.meaning(file, word)
                 if meant is None and word not in KNOWN:
                     self.unknown.add('%s: %s' % (file.title, word))
@@ -75,17 +76,19 @@ class Reading:
     def meaning(self, file, word):
         """The definition that a word stands for in a file, LIBRARY, or none where it is not known."""
         if '.' in word:
-            alias, name = word.split('.', 1)
-            use = file.uses.get(alias)
-            return defined_in(use.module, name) if use and not use.there else None
+            name, field = word.split('.', 1)
+            use = file.uses.get(name)
+            if use and not use.there:
+                return defined_in(use.module, field)
+            word = name
         use = file.uses.get(word)
         return file.own(word) or (defined_in(use.module, use.there) if use and use.there else None)
 
 
 def defined_in(module, name):
     """What a name of a module stands for; a module of this project that has no such name is an error."""
-    parts = re.fullmatch(r'Rattle·(\w+?)(?:·(?:specs|proofs))?\.(specs|proofs)\.(.*)', module)
-    if not parts:
+    parts = re.fullmatch(r'Rattle\.(\w+)\.(specs|proofs)\.(.*)', module)
+    if not parts or not os.path.isdir(os.path.join(ROOT, 'crates', parts.group(1))):
         return LIBRARY
     crate, half, path = parts.groups()
     words = path.split('.')
@@ -102,8 +105,8 @@ def defined_in(module, name):
 
 
 def declared(crate, words, module):
-    """The struct or enum of src/ that a module `declared.records.Clock`, or its `the-variants`, stands for."""
-    words = [word for word in words if word != 'the-variants']
+    """The struct or enum of src/ that a module `declared.records.Clock`, or its `TheVariants`, stands for."""
+    words = [word for word in words if word != 'TheVariants']
     file = module_file(crate, words[:-1])
     meant = file.type_named(words[-1]) if file else None
     if not meant:
@@ -120,6 +123,11 @@ def tokens(text):
 def is_name(word):
     """Whether a word may name a definition: no mark, no number, no field `.next`, no operator."""
     return word not in MARKS and not word[0].isdigit() and word[0] != '.' and any(c.isalpha() for c in word)
+
+
+def head(word):
+    """The name before the fields of `clock.old.free`, or before a definition of a module."""
+    return word.split('.', 1)[0]
 
 
 def is_label(words, i):

@@ -239,10 +239,11 @@ class RtFile(File):
             for there, here in brought(names):
                 self.uses[here] = Use(module, there, here, False)
         self.ghosts = set(self.uses)
-        for public, module, name, alias in re.findall(r'^(pub )?use ([\w:]+)::(\w+)(?: as (\w+))?;', text, re.M):
-            here = alias or name
-            if here not in self.ghosts:
-                self.uses[here] = Use(module, name, here, bool(public))
+        form = r'^(pub )?use ([\w:]+)::(?:\{([^}]*)\}|(\w+(?: as \w+)?));'
+        for public, module, several, one in re.findall(form, text, re.M):
+            for there, here in brought(several or one):
+                if here not in self.ghosts:
+                    self.uses[here] = Use(module, there, here, bool(public))
 
     def own(self, name):
         """What a contract names is what a `ghost use` brings, though the file has a function of that name."""
