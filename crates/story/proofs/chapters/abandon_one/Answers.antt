@@ -1,0 +1,36 @@
+-- `abandon_one` meets its contract: the abandoned advance leaves the reading as it was.
+use Prim.Native.Nat.{◌^◌}
+use mathlib.Core.Path.{refl}
+use mathlib.Core.List.{[], ◌∷◌, ◌++◌}
+use borrow.Author.Tests.{eq-eqb}
+use Rattle.rules.specs.Places.{tick}
+use Rattle.rules.specs.Wheel.{abandon, start}
+use Rattle.story.specs.Held.{held}
+use Rattle.story.specs.Story.{Reached, cancelled, abandoned}
+use Rattle.story.proofs.Telling.{on, says, reads}
+use borrow.Author.Rules.{rules}
+use Rattle.story.proofs.chapters.abandon_one.Goals as goal
+
+pub expect-requires : goal.expect-requires
+unfolding tick
+expect-requires c = c.is_noted.ensures.yes (says (start (2 ^ 31)) _ _ c.requires c.start-opening.ensures _ refl)
+
+pub expect-requires-2 : goal.expect-requires-2
+unfolding tick
+expect-requires-2 c =
+    let r1 = on (start (2 ^ 31)) _ _ c.requires c.start-opening.ensures in
+    c.is_noted-2.ensures.yes (says abandon _ _ r1
+    c.abandon-leaving.ensures _ refl)
+
+pub expect-requires-3 : goal.expect-requires-3
+unfolding tick
+expect-requires-3 c =
+    let r1 = on (start (2 ^ 31)) _ _ c.requires c.start-opening.ensures in
+    let r2 = on abandon _ _ r1 c.abandon-leaving.ensures in
+    eq-eqb _ 0 (reads r2 0 refl)
+
+pub returns : goal.returns
+returns c =
+    let r1 = on (start (2 ^ 31)) _ _ c.requires c.start-opening.ensures in
+    let r2 = on abandon _ _ r1 c.abandon-leaving.ensures in
+    r2

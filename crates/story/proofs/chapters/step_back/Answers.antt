@@ -1,0 +1,34 @@
+-- `step_back` meets its contract: a clock stepped back hands nothing out.
+use mathlib.Core.Path.{refl}
+use mathlib.Core.List.{[], ◌∷◌, ◌++◌}
+use borrow.Author.Tests.{eq-eqb}
+use Rattle.rules.specs.Places.{tick}
+use Rattle.rules.specs.Wheel.{pull, start}
+use Rattle.story.specs.Held.{held}
+use Rattle.story.specs.Story.{Reached, too_early, stepped_back}
+use Rattle.story.proofs.Telling.{on, says, reads}
+use borrow.Author.Rules.{rules}
+use Rattle.story.proofs.chapters.step_back.Goals as goal
+
+pub expect-requires : goal.expect-requires
+unfolding tick
+expect-requires c = c.is_noted.ensures.yes (says (start 5) _ _ c.requires c.start-opening.ensures _ refl)
+
+pub expect-requires-2 : goal.expect-requires-2
+unfolding tick
+expect-requires-2 c =
+    let r1 = on (start 5) _ _ c.requires c.start-opening.ensures in
+    c.is_end.ensures.yes (says pull _ _ r1 c.pull-ending.ensures _ refl)
+
+pub expect-requires-3 : goal.expect-requires-3
+unfolding tick
+expect-requires-3 c =
+    let r1 = on (start 5) _ _ c.requires c.start-opening.ensures in
+    let r2 = on pull _ _ r1 c.pull-ending.ensures in
+    eq-eqb _ 5 (reads r2 5 refl)
+
+pub returns : goal.returns
+returns c =
+    let r1 = on (start 5) _ _ c.requires c.start-opening.ensures in
+    let r2 = on pull _ _ r1 c.pull-ending.ensures in
+    r2

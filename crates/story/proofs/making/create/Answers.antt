@@ -1,0 +1,6 @@
+-- `create` keeps the wheel's promise.
+use borrow.Author.Rules.{rules}
+use Rattle.story.proofs.making.create.Goals as goal
+
+pub returns : goal.returns
+returns c = c.create-made.ensures.promised _
