@@ -1,5 +1,4 @@
 -- Laws that the proofs of several functions cite.
-pub mod Choosing
 pub mod DequeParts
 pub mod DequeStanding
 pub mod DequeTurns

@@ -1,5 +1,5 @@
 -- The records stay those of a sound wheel: what each turn of a workload asks, and what it leaves in the arrays.
-use Rattle.std.proofs.Common.{◌≡◌, ℕ, ◌<◌, ◌≤◌, Bool, true, false, List, [], length, take, sym, refl, subst, ⊎_elim, arith, length-take-le}
+use Rattle.std.proofs.Common.{◌≡◌, ℕ, ◌<◌, ◌≤◌, true, false, List, [], length, take, sym, refl, subst, ⊎_elim, arith, length-take-le}
 use mathlib.Core.Option.{none, some}
 use Rattle.rules.specs.Places.{wheel01}
 use Rattle.rules.specs.Wheel.{bare, closed, Wheel, enable, set_entry, schedule, deschedule, start, pull}

@@ -1,7 +1,7 @@
 // The workloads that change no link: the steps of a cursor, and the checked lengths.
 ghost use Rattle.std.specs.Prelude.{◌≤◌};
 ghost use Rattle.bench.specs.Ready.{Ready};
-ghost use Rattle.deque_rules.specs.Deque.{state, after};
+ghost use Rattle.deque_rules.specs.Deque.{state};
 
 use crate::deques::records::laid;
 use deque_alone::unchecked;
@@ -92,7 +92,7 @@ fn step(
     free: usize,
 ) -> u64
     requires { Ready (state heads.now tails.now lens.now cursors.old next.now prev.now home.now element.now) free }
-    ensures { Ready (after heads tails lens cursors next prev home element) free }
+    ensures { Ready (state heads.now tails.now lens.now cursors.new next.now prev.now home.now element.now) free }
 {
     match unchecked::step(
         heads, tails, lens, cursors, next, prev, home, element, free, 0,

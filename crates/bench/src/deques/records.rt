@@ -1,7 +1,7 @@
 // The records of one deque in arrays, tested once before the workloads rely on them.
 ghost use Rattle.std.specs.Prelude.{◌≤◌};
 ghost use Rattle.bench.specs.Ready.{Tested, Laid};
-ghost use Rattle.deque_rules.specs.Deque.{before};
+ghost use Rattle.deque_rules.specs.Deque.{state};
 
 use crate::deques::laying::{
     first_free, first_node, laid_element, laid_home, laid_next, laid_prev, node_before,
@@ -74,7 +74,7 @@ fn test(
     element: &[u64],
     free: usize,
 ) -> bool
-    ensures { Tested (before heads tails lens cursors next prev home element) free result }
+    ensures { Tested (state heads.now tails.now lens.now cursors.now next.now prev.now home.now element.now) free result }
 {
     if heads.len() != 1 {
         return false;

@@ -1,6 +1,5 @@
 -- `is_count` meets its contract: each variant of the answer by a law of proofs/Answering.antt.
 use Rattle.story.proofs.Answering.{answering}
-use borrow.Author.Rules.{rules}
 use Rattle.story.proofs.answers.is_count.Goals as goal
 
 pub returns-in-Armed : goal.returns-in-Armed

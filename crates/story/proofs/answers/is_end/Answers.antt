@@ -1,6 +1,5 @@
 -- `is_end` meets its contract: each variant of the answer by a law of proofs/Answering.antt.
 use Rattle.story.proofs.Answering.{answering}
-use borrow.Author.Rules.{rules}
 use Rattle.story.proofs.answers.is_end.Goals as goal
 
 pub returns-in-Expired : goal.returns-in-Expired

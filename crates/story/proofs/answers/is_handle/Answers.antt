@@ -1,6 +1,5 @@
 -- `is_handle` meets its contract: each variant of the answer by a law of proofs/Answering.antt.
 use Rattle.story.proofs.Answering.{answering}
-use borrow.Author.Rules.{rules}
 use Rattle.story.proofs.answers.is_handle.Goals as goal
 
 pub returns-then-x-slot : goal.returns-then-x-slot

@@ -1,6 +1,5 @@
 -- `is_refused` meets its contract: each variant of the answer by a law of proofs/Answering.antt.
 use Rattle.story.proofs.Answering.{answering}
-use borrow.Author.Rules.{rules}
 use Rattle.story.proofs.answers.is_refused.Goals as goal
 
 pub returns-in-Done : goal.returns-in-Done

@@ -1,14 +1,10 @@
 -- `abandon_one` meets its contract: the abandoned advance leaves the reading as it was.
 use Prim.Native.Nat.{◌^◌}
 use mathlib.Core.Path.{refl}
-use mathlib.Core.List.{[], ◌∷◌, ◌++◌}
 use borrow.Author.Tests.{eq-eqb}
 use Rattle.rules.specs.Places.{tick}
 use Rattle.rules.specs.Wheel.{abandon, start}
-use Rattle.story.specs.Held.{held}
-use Rattle.story.specs.Story.{Reached, cancelled, abandoned}
 use Rattle.story.proofs.Telling.{on, says, reads}
-use borrow.Author.Rules.{rules}
 use Rattle.story.proofs.chapters.abandon_one.Goals as goal
 
 pub expect-requires : goal.expect-requires

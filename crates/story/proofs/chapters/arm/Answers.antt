@@ -2,13 +2,9 @@
 use Prim.Native.Nat.{◌^◌, ◌+◌}
 use mathlib.Core.Path.{refl}
 use mathlib.Core.Option.{some}
-use mathlib.Core.List.{[], ◌∷◌, ◌++◌}
 use Rattle.rules.specs.Places.{tick}
 use Rattle.rules.specs.Wheel.{schedule, set_entry}
-use Rattle.story.specs.Held.{held}
-use Rattle.story.specs.Story.{Reached, begun}
 use Rattle.story.proofs.Telling.{on, says, watching}
-use borrow.Author.Rules.{rules}
 use Rattle.story.proofs.chapters.arm.Goals as goal
 
 pub expect-requires : goal.expect-requires

@@ -5,7 +5,6 @@ use Rattle.rules.specs.Places.{tick}
 use Rattle.rules.specs.Wheel.{enable}
 use Rattle.story.specs.Held.{held}
 use Rattle.story.proofs.Telling.{beginning, on, says}
-use borrow.Author.Rules.{rules}
 use Rattle.story.proofs.chapters.begin.Goals as goal
 
 pub expect-requires : goal.expect-requires

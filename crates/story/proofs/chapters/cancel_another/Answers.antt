@@ -2,13 +2,9 @@
 use Prim.Native.Nat.{◌^◌}
 use mathlib.Core.Path.{refl}
 use mathlib.Core.Option.{some}
-use mathlib.Core.List.{[], ◌∷◌, ◌++◌}
 use Rattle.rules.specs.Places.{tick}
 use Rattle.rules.specs.Wheel.{deschedule, schedule, set_entry}
-use Rattle.story.specs.Held.{held}
-use Rattle.story.specs.Story.{Reached, armed, cancelled}
 use Rattle.story.proofs.Telling.{on, says}
-use borrow.Author.Rules.{rules}
 use Rattle.story.proofs.chapters.cancel_another.Goals as goal
 
 pub expect-requires : goal.expect-requires

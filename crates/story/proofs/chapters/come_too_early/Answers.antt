@@ -1,13 +1,9 @@
 -- `come_too_early` meets its contract: before the deadline the timer is placed anew.
 use Prim.Native.Nat.{◌^◌, ◌+◌}
 use mathlib.Core.Path.{refl}
-use mathlib.Core.List.{[], ◌∷◌, ◌++◌}
 use Rattle.rules.specs.Places.{tick}
 use Rattle.rules.specs.Wheel.{pull, start}
-use Rattle.story.specs.Held.{held}
-use Rattle.story.specs.Story.{Reached, abandoned, too_early}
 use Rattle.story.proofs.Telling.{on, says}
-use borrow.Author.Rules.{rules}
 use Rattle.story.proofs.chapters.come_too_early.Goals as goal
 
 pub expect-requires : goal.expect-requires

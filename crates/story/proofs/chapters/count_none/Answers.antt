@@ -3,7 +3,6 @@ use mathlib.Core.Path.{refl}
 use Rattle.rules.specs.Places.{tick}
 use Rattle.rules.specs.Wheel.{armed_count}
 use Rattle.story.proofs.Telling.{says}
-use borrow.Author.Rules.{rules}
 use Rattle.story.proofs.chapters.count_none.Goals as goal
 
 pub expect-requires : goal.expect-requires

@@ -1,13 +1,9 @@
 -- `hand_out` meets its contract: the advance beyond the deadline hands the timer out.
 use Prim.Native.Nat.{◌^◌}
 use mathlib.Core.Path.{refl}
-use mathlib.Core.List.{[], ◌∷◌, ◌++◌}
 use Rattle.rules.specs.Places.{tick}
 use Rattle.rules.specs.Wheel.{pull, start}
-use Rattle.story.specs.Held.{held}
-use Rattle.story.specs.Story.{Reached, stepped_back, handed_out}
 use Rattle.story.proofs.Telling.{on, says}
-use borrow.Author.Rules.{rules}
 use Rattle.story.proofs.chapters.hand_out.Goals as goal
 
 pub expect-requires : goal.expect-requires

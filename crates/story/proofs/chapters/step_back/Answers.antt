@@ -1,13 +1,9 @@
 -- `step_back` meets its contract: a clock stepped back hands nothing out.
 use mathlib.Core.Path.{refl}
-use mathlib.Core.List.{[], ◌∷◌, ◌++◌}
 use borrow.Author.Tests.{eq-eqb}
 use Rattle.rules.specs.Places.{tick}
 use Rattle.rules.specs.Wheel.{pull, start}
-use Rattle.story.specs.Held.{held}
-use Rattle.story.specs.Story.{Reached, too_early, stepped_back}
 use Rattle.story.proofs.Telling.{on, says, reads}
-use borrow.Author.Rules.{rules}
 use Rattle.story.proofs.chapters.step_back.Goals as goal
 
 pub expect-requires : goal.expect-requires

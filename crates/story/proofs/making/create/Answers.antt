@@ -1,5 +1,4 @@
 -- `create` keeps the wheel's promise.
-use borrow.Author.Rules.{rules}
 use Rattle.story.proofs.making.create.Goals as goal
 
 pub returns : goal.returns

@@ -1,6 +1,4 @@
 -- `enable` keeps the wheel's promise.
-use mathlib.Core.Path.{sym, ◌∙◌}
-use lib.ListN.{length-map}
 use Rattle.story.proofs.Beginning.{enabling_so}
 use borrow.Author.Rules.{rules}
 use Rattle.story.proofs.making.enable.Goals as goal
