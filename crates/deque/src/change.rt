@@ -30,7 +30,8 @@ fn link_back(
     s: usize,
 )
     requires { Linkable (links heads.old tails.old next.old prev.old home.old) d s }
-    ensures { LinksBack (links heads.old tails.old next.old prev.old home.old) (links heads.new tails.new next.new prev.new home.new) d s }
+    ensures { LinksBack (links heads.old tails.old next.old prev.old home.old)
+        (links heads.new tails.new next.new prev.new home.new) d s }
 {
     let t = tails[d];
     tails[d] = s;
@@ -50,7 +51,8 @@ fn unlink(
     s: usize,
 )
     requires { Held (links heads.old tails.old next.old prev.old home.old) s }
-    ensures { CutsOut (links heads.old tails.old next.old prev.old home.old) (links heads.new tails.new next.new prev.new home.new) s }
+    ensures { CutsOut (links heads.old tails.old next.old prev.old home.old)
+        (links heads.new tails.new next.new prev.new home.new) s }
 {
     let d = home[s];
     let p = prev[s];
@@ -71,7 +73,8 @@ pub fn push(
     d: usize,
 ) -> usize
     requires { Pushable (links heads.old tails.old next.old prev.old home.old) free d }
-    ensures { PushesBack (links heads.old tails.old next.old prev.old home.old) (links heads.new tails.new next.new prev.new home.new) free d result }
+    ensures { PushesBack (links heads.old tails.old next.old prev.old home.old)
+        (links heads.new tails.new next.new prev.new home.new) free d result }
 {
     let rest = take(next, free);
     link_back(heads, tails, next, prev, home, d, free);
@@ -89,7 +92,8 @@ pub fn remove(
     s: usize,
 )
     requires { Held (links heads.old tails.old next.old prev.old home.old) s }
-    ensures { Removes (links heads.old tails.old next.old prev.old home.old) (links heads.new tails.new next.new prev.new home.new) free s }
+    ensures { Removes (links heads.old tails.old next.old prev.old home.old)
+        (links heads.new tails.new next.new prev.new home.new) free s }
 {
     unlink(heads, tails, next, prev, home, s);
     give_back(next, prev, s, free);
@@ -106,7 +110,8 @@ pub fn move_back(
     s: usize,
 )
     requires { Movable (links heads.old tails.old next.old prev.old home.old) d s }
-    ensures { MovesBack (links heads.old tails.old next.old prev.old home.old) (links heads.new tails.new next.new prev.new home.new) d s }
+    ensures { MovesBack (links heads.old tails.old next.old prev.old home.old)
+        (links heads.new tails.new next.new prev.new home.new) d s }
 {
     unlink(heads, tails, next, prev, home, s);
     link_back(heads, tails, next, prev, home, d, s);
@@ -124,7 +129,8 @@ pub fn move_to_back(
     s: usize,
 )
     requires { Ahead (links heads.old tails.old next.old prev.old home.now) d s }
-    ensures { MovesBack (links heads.old tails.old next.old prev.old home.now) (links heads.new tails.new next.new prev.new home.now) d s }
+    ensures { MovesBack (links heads.old tails.old next.old prev.old home.now)
+        (links heads.new tails.new next.new prev.new home.now) d s }
 {
     let p = prev[s];
     let q = next[s];
@@ -149,7 +155,8 @@ pub fn turn(
     s: usize,
 )
     requires { HeldBy (links heads.old tails.old next.old prev.old home.now) d s }
-    ensures { Turns (links heads.old tails.old next.old prev.old home.now) (links heads.new tails.new next.new prev.new home.now) d s }
+    ensures { Turns (links heads.old tails.old next.old prev.old home.now)
+        (links heads.new tails.new next.new prev.new home.now) d s }
 {
     let q = next[s];
     if next.len() <= q {

@@ -44,7 +44,8 @@ pub fn lay_out(
     home: &mut [usize],
 ) -> usize
     requires { Sizes (links heads.old tails.old next.old prev.old home.old) }
-    ensures { LaysOut (links heads.old tails.old next.old prev.old home.old) (links heads.new tails.new next.new prev.new home.new) result }
+    ensures { LaysOut (links heads.old tails.old next.old prev.old home.old)
+        (links heads.new tails.new next.new prev.new home.new) result }
 {
     empty(heads, tails);
     string(next, prev, home)

@@ -33,8 +33,10 @@ pub fn front(
     free: usize,
     d: usize,
 ) -> Looked
-    requires { DequeReady (state heads.now tails.now lens.now cursors.now next.now prev.now home.now element.now) free d }
-    ensures { LooksFront (state heads.now tails.now lens.now cursors.now next.now prev.now home.now element.now) d result }
+    requires { DequeReady (state heads.now tails.now lens.now cursors.now next.now prev.now home.now element.now) free
+        d }
+    ensures { LooksFront (state heads.now tails.now lens.now cursors.now next.now prev.now home.now element.now) d
+        result }
 {
     let x = heads[d];
     if next.len() <= x {
@@ -59,8 +61,10 @@ pub fn back(
     free: usize,
     d: usize,
 ) -> Looked
-    requires { DequeReady (state heads.now tails.now lens.now cursors.now next.now prev.now home.now element.now) free d }
-    ensures { LooksBack (state heads.now tails.now lens.now cursors.now next.now prev.now home.now element.now) d result }
+    requires { DequeReady (state heads.now tails.now lens.now cursors.now next.now prev.now home.now element.now) free
+        d }
+    ensures { LooksBack (state heads.now tails.now lens.now cursors.now next.now prev.now home.now element.now) d
+        result }
 {
     let x = tails[d];
     if next.len() <= x {
@@ -99,8 +103,10 @@ pub fn step(
     free: usize,
     d: usize,
 ) -> Looked
-    requires { DequeReady (state heads.now tails.now lens.now cursors.old next.now prev.now home.now element.now) free d }
-    ensures { Steps (state heads.now tails.now lens.now cursors.old next.now prev.now home.now element.now) (state heads.now tails.now lens.now cursors.new next.now prev.now home.now element.now) d result }
+    requires { DequeReady (state heads.now tails.now lens.now cursors.old next.now prev.now home.now element.now) free
+        d }
+    ensures { Steps (state heads.now tails.now lens.now cursors.old next.now prev.now home.now element.now)
+        (state heads.now tails.now lens.now cursors.new next.now prev.now home.now element.now) d result }
 {
     let s = start(heads, cursors, d);
     if next.len() <= s {

@@ -18,7 +18,8 @@ pub fn deque_refusal(
     free: usize,
     d: usize,
 ) -> u32
-    ensures { RefusesDeque (state heads.now tails.now lens.now cursors.now next.now prev.now home.now element.now) free d result }
+    ensures { RefusesDeque (state heads.now tails.now lens.now cursors.now next.now prev.now home.now element.now)
+        free d result }
 {
     if !sound(heads, tails, lens, cursors, next, prev, home, element, free) {
         return 4;
@@ -42,7 +43,8 @@ pub fn push_refusal(
     free: usize,
     d: usize,
 ) -> u32
-    ensures { RefusesPush (state heads.now tails.now lens.now cursors.now next.now prev.now home.now element.now) free d result }
+    ensures { RefusesPush (state heads.now tails.now lens.now cursors.now next.now prev.now home.now element.now) free
+        d result }
 {
     if !sound(heads, tails, lens, cursors, next, prev, home, element, free) {
         return 4;
@@ -70,7 +72,8 @@ pub fn node_refusal(
     d: usize,
     s: usize,
 ) -> u32
-    ensures { RefusesNode (state heads.now tails.now lens.now cursors.now next.now prev.now home.now element.now) free d s result }
+    ensures { RefusesNode (state heads.now tails.now lens.now cursors.now next.now prev.now home.now element.now) free
+        d s result }
 {
     if !sound(heads, tails, lens, cursors, next, prev, home, element, free) {
         return 4;

@@ -93,7 +93,8 @@ pub fn sound(
     element: &[u64],
     free: usize,
 ) -> bool
-    ensures { Judged (state heads.now tails.now lens.now cursors.now next.now prev.now home.now element.now) free result }
+    ensures { Judged (state heads.now tails.now lens.now cursors.now next.now prev.now home.now element.now) free
+        result }
 {
     if !lent(heads, tails, lens, cursors, next, prev, home, element) {
         return false;

@@ -35,8 +35,10 @@ pub fn push(
     d: usize,
     e: u64,
 ) -> usize
-    requires { PushReady (state heads.old tails.old lens.old cursors.now next.old prev.old home.old element.old) free d }
-    ensures { Pushes (state heads.old tails.old lens.old cursors.now next.old prev.old home.old element.old) (state heads.new tails.new lens.new cursors.now next.new prev.new home.new element.new) free d e result }
+    requires { PushReady (state heads.old tails.old lens.old cursors.now next.old prev.old home.old element.old) free
+        d }
+    ensures { Pushes (state heads.old tails.old lens.old cursors.now next.old prev.old home.old element.old)
+        (state heads.new tails.new lens.new cursors.now next.new prev.new home.new element.new) free d e result }
 {
     let rest = deque::change::push(heads, tails, next, prev, home, free, d);
     lens[d] += 1;
@@ -58,8 +60,10 @@ pub fn release(
     d: usize,
     s: usize,
 ) -> u64
-    requires { NodeReady (state heads.old tails.old lens.old cursors.old next.old prev.old home.old element.old) free d s }
-    ensures { Drops (state heads.old tails.old lens.old cursors.old next.old prev.old home.old element.old) (state heads.new tails.new lens.new cursors.new next.new prev.new home.new element.new) free d s result }
+    requires { NodeReady (state heads.old tails.old lens.old cursors.old next.old prev.old home.old element.old) free
+        d s }
+    ensures { Drops (state heads.old tails.old lens.old cursors.old next.old prev.old home.old element.old)
+        (state heads.new tails.new lens.new cursors.new next.new prev.new home.new element.new) free d s result }
 {
     let e = element[s];
     element[s] = 0;
@@ -82,8 +86,10 @@ pub fn pop(
     free: usize,
     d: usize,
 ) -> Popped
-    requires { DequeReady (state heads.old tails.old lens.old cursors.old next.old prev.old home.old element.old) free d }
-    ensures { Pops (state heads.old tails.old lens.old cursors.old next.old prev.old home.old element.old) (state heads.new tails.new lens.new cursors.new next.new prev.new home.new element.new) free d result }
+    requires { DequeReady (state heads.old tails.old lens.old cursors.old next.old prev.old home.old element.old) free
+        d }
+    ensures { Pops (state heads.old tails.old lens.old cursors.old next.old prev.old home.old element.old)
+        (state heads.new tails.new lens.new cursors.new next.new prev.new home.new element.new) free d result }
 {
     let s = heads[d];
     if next.len() <= s {
@@ -113,8 +119,10 @@ pub fn shift(
     d: usize,
     s: usize,
 )
-    requires { NodeReady (state heads.old tails.old lens.now cursors.old next.old prev.old home.now element.now) free d s }
-    ensures { Moves (state heads.old tails.old lens.now cursors.old next.old prev.old home.now element.now) (state heads.new tails.new lens.now cursors.new next.new prev.new home.now element.now) free d s }
+    requires { NodeReady (state heads.old tails.old lens.now cursors.old next.old prev.old home.now element.now) free
+        d s }
+    ensures { Moves (state heads.old tails.old lens.now cursors.old next.old prev.old home.now element.now)
+        (state heads.new tails.new lens.now cursors.new next.new prev.new home.now element.now) free d s }
 {
     if tails[d] == s {
         return;

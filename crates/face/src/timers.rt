@@ -77,7 +77,8 @@ pub fn reschedule(
 ) -> Rescheduled
     ensures { Promised (reschedule slot number h)
         (records_of heads.old tails.old nodes.old dated.now deadline.now stamp.now clock.old)
-        (records_of heads.new tails.new nodes.new dated.now deadline.now stamp.now clock.new) (rescheduled_says result) }
+        (records_of heads.new tails.new nodes.new dated.now deadline.now stamp.now clock.new)
+        (rescheduled_says result) }
 {
     let mut next = [0usize; ROOM];
     let mut prev = [0usize; ROOM];

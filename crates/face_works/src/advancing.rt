@@ -28,7 +28,8 @@ pub fn start_work(
 ) -> NotedTurn
     requires { Holds 4096 (columns next.now prev.now bucket.now entry.now generation.now serial.now) }
     ensures { Loaded (start q)
-        (columns next.now prev.now bucket.now entry.now generation.now serial.now) n clock result.clock heads.now tails.now
+        (columns next.now prev.now bucket.now entry.now generation.now serial.now) n clock result.clock heads.now
+        tails.now
         dated.now dated.now deadline.now stamp.now deadline.now
         stamp.now (noted_says result.answer) }
 {
@@ -75,7 +76,8 @@ pub fn abandon_work(
 ) -> NotedTurn
     requires { Holds 4096 (columns next.now prev.now bucket.now entry.now generation.now serial.now) }
     ensures { Loaded abandon
-        (columns next.now prev.now bucket.now entry.now generation.now serial.now) n clock result.clock heads.now tails.now
+        (columns next.now prev.now bucket.now entry.now generation.now serial.now) n clock result.clock heads.now
+        tails.now
         dated.now dated.now deadline.now stamp.now deadline.now
         stamp.now (noted_says result.answer) }
 {

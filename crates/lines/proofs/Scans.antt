@@ -1,5 +1,5 @@
--- One byte more of a scan: what `before`, `skipped`, `count_of` and `alike` are at index i of a list, from what they are
--- at i + 1.
+-- One byte more of a scan: what `before`, `skipped`, `count_of` and `alike` are at index i of a list, from what they
+-- are at i + 1.
 use Prim.Native.Nat.{ℕ, zero, suc, ◌+◌, ◌-◌, ◌≤◌, ◌<◌}
 use mathlib.Core.Path.{◌≡◌, refl, ap, ◌∙◌}
 use mathlib.Core.Bool.{Bool, true, false, cond}

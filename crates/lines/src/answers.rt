@@ -6,8 +6,8 @@ ghost use Rattle.lines.specs.Answers.{Appended, AppendedNumber, AppendedField, p
 use crate::collecting::Source;
 use crate::parts::first;
 
-// Writes the first n bytes of out to standard output, and answers how many wait then: none. Where they cannot be written
-// they are lost.
+// Writes the first n bytes of out to standard output, and answers how many wait then: none. Where they cannot be
+// written they are lost.
 pub fn flush(rt: &impl Print, out: &[u8; 65536], n: usize) -> usize
     ensures { result ≡ 0 }
 {

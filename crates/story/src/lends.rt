@@ -48,7 +48,8 @@ pub fn enable(
 ) -> NotedLeft
     ensures { Promised (enabling (records_of heads.old tails.old nodes dated.old deadline.old stamp.old clock))
         (records_of heads.old tails.old nodes dated.old deadline.old stamp.old clock)
-        (records_of heads.new tails.new result.nodes dated.new deadline.new stamp.new result.clock) (noted_says result.answer) }
+        (records_of heads.new tails.new result.nodes dated.new deadline.new stamp.new result.clock)
+        (noted_says result.answer) }
 {
     let answer = face::enable(&mut nodes, &mut clock, heads, tails, dated, deadline, stamp);
     NotedLeft {
@@ -93,7 +94,8 @@ pub fn schedule(
 ) -> ScheduledLeft
     ensures { Promised (schedule e h)
         (records_of heads.old tails.old nodes dated.now deadline.now stamp.now clock)
-        (records_of heads.new tails.new result.nodes dated.now deadline.now stamp.now result.clock) (scheduled_says result.answer) }
+        (records_of heads.new tails.new result.nodes dated.now deadline.now stamp.now result.clock)
+        (scheduled_says result.answer) }
 {
     let answer = face::schedule(
         &mut nodes, &mut clock, heads, tails, dated, deadline, stamp, e, h,
@@ -119,7 +121,8 @@ pub fn deschedule(
 ) -> NotedLeft
     ensures { Promised (deschedule slot number h)
         (records_of heads.old tails.old nodes dated.now deadline.now stamp.now clock)
-        (records_of heads.new tails.new result.nodes dated.now deadline.now stamp.now result.clock) (noted_says result.answer) }
+        (records_of heads.new tails.new result.nodes dated.now deadline.now stamp.now result.clock)
+        (noted_says result.answer) }
 {
     let answer = face::deschedule(
         &mut nodes, &mut clock, heads, tails, dated, deadline, stamp, slot, number, h,
@@ -143,7 +146,8 @@ pub fn start(
 ) -> ClockLeft
     ensures { Promised (start q)
         (records_of heads.now tails.now nodes dated.now deadline.now stamp.now clock)
-        (records_of heads.now tails.now nodes dated.now deadline.now stamp.now result.clock) (noted_says result.answer) }
+        (records_of heads.now tails.now nodes dated.now deadline.now stamp.now result.clock)
+        (noted_says result.answer) }
 {
     let answer = face::start(&nodes, &mut clock, heads, tails, dated, deadline, stamp, q);
     ClockLeft { clock, answer }
@@ -160,7 +164,8 @@ pub fn pull(
 ) -> PulledLeft
     ensures { Promised pull
         (records_of heads.old tails.old nodes dated.now deadline.now stamp.now clock)
-        (records_of heads.new tails.new result.nodes dated.now deadline.now stamp.now result.clock) (pulled_says result.answer) }
+        (records_of heads.new tails.new result.nodes dated.now deadline.now stamp.now result.clock)
+        (pulled_says result.answer) }
 {
     let answer = face::pull(&mut nodes, &mut clock, heads, tails, dated, deadline, stamp);
     PulledLeft {
@@ -181,7 +186,8 @@ pub fn abandon(
 ) -> ClockLeft
     ensures { Promised abandon
         (records_of heads.now tails.now nodes dated.now deadline.now stamp.now clock)
-        (records_of heads.now tails.now nodes dated.now deadline.now stamp.now result.clock) (noted_says result.answer) }
+        (records_of heads.now tails.now nodes dated.now deadline.now stamp.now result.clock)
+        (noted_says result.answer) }
 {
     let answer = face::abandon(&nodes, &mut clock, heads, tails, dated, deadline, stamp);
     ClockLeft { clock, answer }

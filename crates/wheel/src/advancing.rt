@@ -25,8 +25,10 @@ pub fn start(
     q: u64,
 ) -> Timed
     ensures { Promised (start q)
-        (lent heads.now tails.now next.now prev.now bucket.now entry.now generation.now serial.now dated.now deadline.now stamp.now clock)
-        (lent heads.now tails.now next.now prev.now bucket.now entry.now generation.now serial.now dated.now deadline.now stamp.now (timed_clock clock result))
+        (lent heads.now tails.now next.now prev.now bucket.now entry.now generation.now serial.now dated.now
+        deadline.now stamp.now clock)
+        (lent heads.now tails.now next.now prev.now bucket.now entry.now generation.now serial.now dated.now
+        deadline.now stamp.now (timed_clock clock result))
         (timed_says result) }
 {
     let no = closed_refusal(
@@ -56,8 +58,10 @@ pub fn abandon(
     clock: Clock,
 ) -> Timed
     ensures { Promised abandon
-        (lent heads.now tails.now next.now prev.now bucket.now entry.now generation.now serial.now dated.now deadline.now stamp.now clock)
-        (lent heads.now tails.now next.now prev.now bucket.now entry.now generation.now serial.now dated.now deadline.now stamp.now (timed_clock clock result))
+        (lent heads.now tails.now next.now prev.now bucket.now entry.now generation.now serial.now dated.now
+        deadline.now stamp.now clock)
+        (lent heads.now tails.now next.now prev.now bucket.now entry.now generation.now serial.now dated.now
+        deadline.now stamp.now (timed_clock clock result))
         (timed_says result) }
 {
     let no = open_refusal(

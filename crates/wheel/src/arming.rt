@@ -26,8 +26,10 @@ pub fn schedule(
     h: u32,
 ) -> Scheduled
     ensures { Promised (schedule e h)
-        (lent heads.old tails.old next.old prev.old bucket.old entry.old generation.old serial.old dated.now deadline.now stamp.now clock)
-        (lent heads.new tails.new next.new prev.new bucket.new entry.new generation.new serial.new dated.now deadline.now stamp.now (scheduled_clock clock result))
+        (lent heads.old tails.old next.old prev.old bucket.old entry.old generation.old serial.old dated.now
+        deadline.now stamp.now clock)
+        (lent heads.new tails.new next.new prev.new bucket.new entry.new generation.new serial.new dated.now
+        deadline.now stamp.now (scheduled_clock clock result))
         (scheduled_says result) }
 {
     let no = schedule_refusal(

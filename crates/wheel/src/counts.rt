@@ -34,8 +34,10 @@ pub fn armed_count(
     clock: Clock,
 ) -> Counted
     ensures { Promised armed_count
-        (lent heads.now tails.now next.now prev.now bucket.now entry.now generation.now serial.now dated.now deadline.now stamp.now clock)
-        (lent heads.now tails.now next.now prev.now bucket.now entry.now generation.now serial.now dated.now deadline.now stamp.now clock) (counted_says result) }
+        (lent heads.now tails.now next.now prev.now bucket.now entry.now generation.now serial.now dated.now
+        deadline.now stamp.now clock)
+        (lent heads.now tails.now next.now prev.now bucket.now entry.now generation.now serial.now dated.now
+        deadline.now stamp.now clock) (counted_says result) }
 {
     let no = standing_refusal(
         heads, tails, next, prev, bucket, entry, generation, serial, dated, deadline, stamp, clock,
@@ -63,8 +65,10 @@ pub fn next_due(
     clock: Clock,
 ) -> Due
     ensures { Promised next_due
-        (lent heads.now tails.now next.now prev.now bucket.now entry.now generation.now serial.now dated.now deadline.now stamp.now clock)
-        (lent heads.now tails.now next.now prev.now bucket.now entry.now generation.now serial.now dated.now deadline.now stamp.now clock) (due_says result) }
+        (lent heads.now tails.now next.now prev.now bucket.now entry.now generation.now serial.now dated.now
+        deadline.now stamp.now clock)
+        (lent heads.now tails.now next.now prev.now bucket.now entry.now generation.now serial.now dated.now
+        deadline.now stamp.now clock) (due_says result) }
 {
     let no = closed_refusal(
         heads, tails, next, prev, bucket, entry, generation, serial, dated, deadline, stamp, clock,

@@ -24,9 +24,12 @@ pub fn enable(
     clock: Clock,
 ) -> Timed
     ensures { Promised
-        (enabling (lent heads.old tails.old next.old prev.old bucket.old entry.old generation.old serial.old dated.old deadline.old stamp.old clock))
-        (lent heads.old tails.old next.old prev.old bucket.old entry.old generation.old serial.old dated.old deadline.old stamp.old clock)
-        (lent heads.new tails.new next.new prev.new bucket.new entry.new generation.new serial.new dated.new deadline.new stamp.new (timed_clock clock result))
+        (enabling (lent heads.old tails.old next.old prev.old bucket.old entry.old generation.old serial.old dated.old
+        deadline.old stamp.old clock))
+        (lent heads.old tails.old next.old prev.old bucket.old entry.old generation.old serial.old dated.old
+        deadline.old stamp.old clock)
+        (lent heads.new tails.new next.new prev.new bucket.new entry.new generation.new serial.new dated.new
+        deadline.new stamp.new (timed_clock clock result))
         (timed_says result) }
 {
     let no = enable_refusal(

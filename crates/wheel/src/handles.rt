@@ -28,8 +28,10 @@ pub fn reschedule(
     h: u32,
 ) -> Rescheduled
     ensures { Promised (reschedule slot number h)
-        (lent heads.old tails.old next.old prev.old bucket.old entry.old generation.old serial.old dated.now deadline.now stamp.now clock)
-        (lent heads.new tails.new next.new prev.new bucket.new entry.new generation.new serial.new dated.now deadline.now stamp.now (rescheduled_clock clock result))
+        (lent heads.old tails.old next.old prev.old bucket.old entry.old generation.old serial.old dated.now
+        deadline.now stamp.now clock)
+        (lent heads.new tails.new next.new prev.new bucket.new entry.new generation.new serial.new dated.now
+        deadline.now stamp.now (rescheduled_clock clock result))
         (rescheduled_says result) }
 {
     let no = handle_refusal(
@@ -70,8 +72,10 @@ pub fn deschedule(
     h: u32,
 ) -> Timed
     ensures { Promised (deschedule slot number h)
-        (lent heads.old tails.old next.old prev.old bucket.old entry.old generation.old serial.old dated.now deadline.now stamp.now clock)
-        (lent heads.new tails.new next.new prev.new bucket.new entry.new generation.new serial.new dated.now deadline.now stamp.now (timed_clock clock result))
+        (lent heads.old tails.old next.old prev.old bucket.old entry.old generation.old serial.old dated.now
+        deadline.now stamp.now clock)
+        (lent heads.new tails.new next.new prev.new bucket.new entry.new generation.new serial.new dated.now
+        deadline.now stamp.now (timed_clock clock result))
         (timed_says result) }
 {
     let no = handle_refusal(

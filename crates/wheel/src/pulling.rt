@@ -54,8 +54,10 @@ pub fn pull(
     clock: Clock,
 ) -> Pulled
     ensures { Promised pull
-        (lent heads.old tails.old next.old prev.old bucket.old entry.old generation.old serial.old dated.now deadline.now stamp.now clock)
-        (lent heads.new tails.new next.new prev.new bucket.new entry.new generation.new serial.new dated.now deadline.now stamp.now (pulled_clock clock result))
+        (lent heads.old tails.old next.old prev.old bucket.old entry.old generation.old serial.old dated.now
+        deadline.now stamp.now clock)
+        (lent heads.new tails.new next.new prev.new bucket.new entry.new generation.new serial.new dated.now
+        deadline.now stamp.now (pulled_clock clock result))
         (pulled_says result) }
 {
     let no = open_refusal(

@@ -36,8 +36,10 @@ pub fn set_entry(
     h: u32,
 ) -> Noted
     ensures { Promised (set_entry e (cond has (some due) none) h)
-        (lent heads.now tails.now next.now prev.now bucket.now entry.now generation.now serial.now dated.old deadline.old stamp.old clock)
-        (lent heads.now tails.now next.now prev.now bucket.now entry.now generation.now serial.now dated.new deadline.new stamp.new clock) (noted_says result) }
+        (lent heads.now tails.now next.now prev.now bucket.now entry.now generation.now serial.now dated.old
+        deadline.old stamp.old clock)
+        (lent heads.now tails.now next.now prev.now bucket.now entry.now generation.now serial.now dated.new
+        deadline.new stamp.new clock) (noted_says result) }
 {
     let no = entry_refusal(
         heads, tails, next, prev, bucket, entry, generation, serial, dated, deadline, stamp, clock,

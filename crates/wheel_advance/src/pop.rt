@@ -30,7 +30,8 @@ pub fn pop(
         dated.now deadline.now clock x }
     ensures { Pops
         wheel01
-        (nodes heads.old tails.old next.old prev.old bucket.old entry.old generation.old serial.old) dated.now deadline.now
+        (nodes heads.old tails.old next.old prev.old bucket.old entry.old generation.old serial.old) dated.now
+        deadline.now
         clock x
         (nodes heads.new tails.new next.new prev.new bucket.new entry.new generation.new serial.new) result }
 {

@@ -29,9 +29,11 @@ pub fn pull(
         dated.now deadline.now clock }
     ensures { Pulls
         wheel01
-        (nodes heads.old tails.old next.old prev.old bucket.old entry.old generation.old serial.old) dated.now deadline.now
+        (nodes heads.old tails.old next.old prev.old bucket.old entry.old generation.old serial.old) dated.now
+        deadline.now
         clock
-        (nodes heads.new tails.new next.new prev.new bucket.new entry.new generation.new serial.new) result.clock result.event }
+        (nodes heads.new tails.new next.new prev.new bucket.new entry.new generation.new serial.new) result.clock
+        result.event }
 {
     let mut c = clock;
     loop {

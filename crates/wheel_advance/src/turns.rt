@@ -41,7 +41,8 @@ fn go_on(
     clock: Clock,
 ) -> Turn
     requires { OnReady wheel01 (links heads.old tails.old next.old prev.old bucket.now) clock }
-    ensures { GoesOn wheel01 (links heads.old tails.old next.old prev.old bucket.now) clock (links heads.new tails.new next.new prev.new bucket.now) result }
+    ensures { GoesOn wheel01 (links heads.old tails.old next.old prev.old bucket.now) clock
+        (links heads.new tails.new next.new prev.new bucket.now) result }
 {
     let to = next_position(clock.previous, clock.reading, clock.level, clock.step);
     if !to.more {
@@ -84,7 +85,8 @@ pub fn take_turn(
         dated.now deadline.now clock }
     ensures { Turned
         wheel01
-        (nodes heads.old tails.old next.old prev.old bucket.old entry.old generation.old serial.old) dated.now deadline.now
+        (nodes heads.old tails.old next.old prev.old bucket.old entry.old generation.old serial.old) dated.now
+        deadline.now
         clock
         (nodes heads.new tails.new next.new prev.new bucket.new entry.new generation.new serial.new) result }
 {

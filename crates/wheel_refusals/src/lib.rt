@@ -42,7 +42,9 @@ pub fn standing_refusal(
     stamp: &[u32],
     clock: Clock,
 ) -> u64
-    ensures { RefusesCount (lent heads.now tails.now next.now prev.now bucket.now entry.now generation.now serial.now dated.now deadline.now stamp.now clock) result }
+    ensures { RefusesCount
+        (lent heads.now tails.now next.now prev.now bucket.now entry.now generation.now serial.now dated.now
+        deadline.now stamp.now clock) result }
 {
     if !clock.enabled {
         return 1;
@@ -71,7 +73,9 @@ pub fn closed_refusal(
     stamp: &[u32],
     clock: Clock,
 ) -> u64
-    ensures { RefusesClosed (lent heads.now tails.now next.now prev.now bucket.now entry.now generation.now serial.now dated.now deadline.now stamp.now clock) result }
+    ensures { RefusesClosed
+        (lent heads.now tails.now next.now prev.now bucket.now entry.now generation.now serial.now dated.now
+        deadline.now stamp.now clock) result }
 {
     let no = standing_refusal(
         heads, tails, next, prev, bucket, entry, generation, serial, dated, deadline, stamp, clock,
@@ -100,7 +104,9 @@ pub fn open_refusal(
     stamp: &[u32],
     clock: Clock,
 ) -> u64
-    ensures { RefusesOpen (lent heads.now tails.now next.now prev.now bucket.now entry.now generation.now serial.now dated.now deadline.now stamp.now clock) result }
+    ensures { RefusesOpen
+        (lent heads.now tails.now next.now prev.now bucket.now entry.now generation.now serial.now dated.now
+        deadline.now stamp.now clock) result }
 {
     let no = standing_refusal(
         heads, tails, next, prev, bucket, entry, generation, serial, dated, deadline, stamp, clock,
@@ -130,7 +136,9 @@ pub fn entry_refusal(
     clock: Clock,
     e: usize,
 ) -> u64
-    ensures { RefusesSet (lent heads.now tails.now next.now prev.now bucket.now entry.now generation.now serial.now dated.now deadline.now stamp.now clock) e result }
+    ensures { RefusesSet
+        (lent heads.now tails.now next.now prev.now bucket.now entry.now generation.now serial.now dated.now
+        deadline.now stamp.now clock) e result }
 {
     let no = closed_refusal(
         heads, tails, next, prev, bucket, entry, generation, serial, dated, deadline, stamp, clock,
@@ -161,7 +169,9 @@ pub fn schedule_refusal(
     e: usize,
     h: u32,
 ) -> u64
-    ensures { RefusesSchedule (lent heads.now tails.now next.now prev.now bucket.now entry.now generation.now serial.now dated.now deadline.now stamp.now clock) e h result }
+    ensures { RefusesSchedule
+        (lent heads.now tails.now next.now prev.now bucket.now entry.now generation.now serial.now dated.now
+        deadline.now stamp.now clock) e h result }
 {
     let no = entry_refusal(
         heads, tails, next, prev, bucket, entry, generation, serial, dated, deadline, stamp, clock,
@@ -203,7 +213,9 @@ pub fn handle_refusal(
     number: u64,
     h: u32,
 ) -> u64
-    ensures { RefusesHandle (lent heads.now tails.now next.now prev.now bucket.now entry.now generation.now serial.now dated.now deadline.now stamp.now clock) slot number h result }
+    ensures { RefusesHandle
+        (lent heads.now tails.now next.now prev.now bucket.now entry.now generation.now serial.now dated.now
+        deadline.now stamp.now clock) slot number h result }
 {
     let no = closed_refusal(
         heads, tails, next, prev, bucket, entry, generation, serial, dated, deadline, stamp, clock,
@@ -271,7 +283,9 @@ pub fn enable_refusal(
     stamp: &[u32],
     clock: Clock,
 ) -> u64
-    ensures { RefusesEnable (lent heads.now tails.now next.now prev.now bucket.now entry.now generation.now serial.now dated.now deadline.now stamp.now clock) result }
+    ensures { RefusesEnable
+        (lent heads.now tails.now next.now prev.now bucket.now entry.now generation.now serial.now dated.now
+        deadline.now stamp.now clock) result }
 {
     let no = around_refusal(
         clock.enabled,

@@ -37,7 +37,8 @@ pub fn is_sound(
 ) -> bool
     ensures { Verdict
         total
-        (records (nodes heads.now tails.now next.now prev.now bucket.now entry.now generation.now serial.now) (entries dated.now deadline.now stamp.now) clock)
+        (records (nodes heads.now tails.now next.now prev.now bucket.now entry.now generation.now serial.now) (entries
+        dated.now deadline.now stamp.now) clock)
         result }
 {
     if !lengths_kept(

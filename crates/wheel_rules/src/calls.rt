@@ -22,7 +22,7 @@ pub struct Clock {
 
 // Create: the clock, and heads and tails with no slot in any bucket.
 #[repr(C)]
-#[derive(Drop)]
+#[derive(Clone, Copy)]
 pub struct Created {
     pub clock: Clock,
     pub heads: [usize; 165],

@@ -18,7 +18,8 @@ fn seat(
     bucket: &mut [usize],
 )
     requires { SeatReady (links heads.old tails.old next.old prev.old bucket.old) }
-    ensures { Seats (links heads.old tails.old next.old prev.old bucket.old) (links heads.new tails.new next.new prev.new bucket.new) }
+    ensures { Seats (links heads.old tails.old next.old prev.old bucket.old)
+        (links heads.new tails.new next.new prev.new bucket.new) }
 {
     let mut free = deque::layout::lay_out(heads, tails, next, prev, bucket);
     let mut b: usize = 0;

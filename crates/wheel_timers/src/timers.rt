@@ -25,11 +25,13 @@ pub fn arm(
     h: u32,
     deadline: u64,
 ) -> Armed
-    requires { ArmReady wheel01 (nodes heads.old tails.old next.old prev.old bucket.old entry.old generation.old serial.old) clock }
+    requires { ArmReady wheel01
+        (nodes heads.old tails.old next.old prev.old bucket.old entry.old generation.old serial.old) clock }
     ensures { Arms
         wheel01
         (nodes heads.old tails.old next.old prev.old bucket.old entry.old generation.old serial.old) clock
-        (nodes heads.new tails.new next.new prev.new bucket.new entry.new generation.new serial.new) result e h deadline }
+        (nodes heads.new tails.new next.new prev.new bucket.new entry.new generation.new serial.new) result e h
+        deadline }
 {
     let slot = clock.free;
     let n = clock.serial;
@@ -58,7 +60,8 @@ pub fn disarm(
     clock: Clock,
     x: usize,
 ) -> Clock
-    requires { SlotReady wheel01 (nodes heads.old tails.old next.old prev.old bucket.old entry.old generation.old serial.old) clock x }
+    requires { SlotReady wheel01
+        (nodes heads.old tails.old next.old prev.old bucket.old entry.old generation.old serial.old) clock x }
     ensures { Disarms
         wheel01
         (nodes heads.old tails.old next.old prev.old bucket.old entry.old generation.old serial.old) clock
@@ -83,7 +86,8 @@ pub fn rearm(
     deadline: u64,
 )
     requires { MoveReady wheel01 (links heads.old tails.old next.old prev.old bucket.old) reading x }
-    ensures { Rearms wheel01 (links heads.old tails.old next.old prev.old bucket.old) (links heads.new tails.new next.new prev.new bucket.new) reading x deadline }
+    ensures { Rearms wheel01 (links heads.old tails.old next.old prev.old bucket.old)
+        (links heads.new tails.new next.new prev.new bucket.new) reading x deadline }
 {
     let b = bucket_of(reading, deadline);
     move_back(heads, tails, next, prev, bucket, b, x);

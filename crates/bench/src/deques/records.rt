@@ -74,7 +74,8 @@ fn test(
     element: &[u64],
     free: usize,
 ) -> bool
-    ensures { Tested (state heads.now tails.now lens.now cursors.now next.now prev.now home.now element.now) free result }
+    ensures { Tested (state heads.now tails.now lens.now cursors.now next.now prev.now home.now element.now) free
+        result }
 {
     if heads.len() != 1 {
         return false;

@@ -92,7 +92,8 @@ pub fn lengths_kept(
     total: usize,
 ) -> bool
     ensures { Decides
-        (Lengths total (records (nodes heads.now tails.now next.now prev.now bucket.now entry.now generation.now serial.now) (entries dated.now deadline.now stamp.now) clock))
+        (Lengths total (records (nodes heads.now tails.now next.now prev.now bucket.now entry.now generation.now
+        serial.now) (entries dated.now deadline.now stamp.now) clock))
         result }
 {
     if !ranged(total, clock.nodes, clock.entries) {
