@@ -1,8 +1,6 @@
 -- What several modules say: powers of two, the numbers that are no slot, lists of numbers, rows of refusals and
--- answers, and what the name of a lent slice stands for in a contract.
+-- answers.
 use Rattle.std.specs.Prelude.{◌≡◌, ℕ, zero, suc, ◌^◌, Bool, cond, ◌||◌, ◌⊎◌, List, [], ◌∷◌, ◌==◌, nat_le}
-use Rattle.std.specs.Borrow.{Bor}
-use denote.Triple.Both.{Both}
 
 -- ======== powers of two
 
@@ -97,13 +95,3 @@ unless holds k more r = ((holds → ⊥) × (r ≡ k)) ⊎ (holds × more r)
 -- no row is left: not refused
 abbrev pub not_refused : ℕ → Type 0
 not_refused r = r ≡ 0
-
--- ======== lent slices
-
--- a lent slice of numbers
-abbrev pub Numbers : Type 0
-Numbers = Both (Bor (List ℕ)) (Bor (List ℕ))
-
--- a lent slice of booleans
-abbrev pub Flags : Type 0
-Flags = Both (Bor (List Bool)) (Bor (List Bool))
