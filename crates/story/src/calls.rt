@@ -10,19 +10,19 @@ use crate::lends;
 use face::{Counted, Noted, Pulled, Scheduled};
 
 // The records after a call, and its answer.
-#[derive(Drop)]
+#[derive(Clone, Copy)]
 pub struct Noting {
     pub after: Held,
     pub answer: Noted,
 }
 
-#[derive(Drop)]
+#[derive(Clone, Copy)]
 pub struct Arming {
     pub after: Held,
     pub answer: Scheduled,
 }
 
-#[derive(Drop)]
+#[derive(Clone, Copy)]
 pub struct Pulling {
     pub after: Held,
     pub answer: Pulled,

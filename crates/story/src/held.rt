@@ -1,7 +1,7 @@
 // The records of one wheel of 168 nodes and 2 entries, held by value.
 use face::{Clock, Node};
 
-#[derive(Drop)]
+#[derive(Clone, Copy)]
 pub struct Held {
     pub heads: [usize; 165],
     pub tails: [usize; 165],

@@ -9,28 +9,28 @@ ghost use Rattle.wheel_rules.specs.Promise.{enabling, noted_says, counted_says, 
 use face::{Clock, Counted, Node, Noted, Pulled, Scheduled};
 
 // The clock after a call, and its answer.
-#[derive(Drop)]
+#[derive(Clone, Copy)]
 pub struct ClockLeft {
     pub clock: Clock,
     pub answer: Noted,
 }
 
 // The nodes and the clock after a call, and its answer.
-#[derive(Drop)]
+#[derive(Clone, Copy)]
 pub struct NotedLeft {
     pub nodes: [Node; 168],
     pub clock: Clock,
     pub answer: Noted,
 }
 
-#[derive(Drop)]
+#[derive(Clone, Copy)]
 pub struct ScheduledLeft {
     pub nodes: [Node; 168],
     pub clock: Clock,
     pub answer: Scheduled,
 }
 
-#[derive(Drop)]
+#[derive(Clone, Copy)]
 pub struct PulledLeft {
     pub nodes: [Node; 168],
     pub clock: Clock,
