@@ -1,5 +1,8 @@
 -- Powers of two up to a limit: which numbers they are, and the one that fits a number.
-use Rattle.std.proofs.Common.{◌≡◌, ℕ, zero, suc, ◌+◌, ◌-◌, ◌*◌, ◌/◌, ◌%◌, ◌^◌, ◌<◌, ◌≤◌, min, Bool, true, false, cond, ◌||◌, eqb, ltb, leb, ◌⊎◌, sym, refl, ap, ◌∙◌, inl, inr, true≢false, le_refl, le_of_suc-le-suc, eq-or-lt_of_le, pow-suc, arith, pow_pos, pow_mono, ltb-false, ltb-true, eq-eqb, ne_eqb, eqb-true, le-leb, leb-false, leb-true}
+use Rattle.std.proofs.Common.{◌≡◌, ℕ, zero, suc, ◌+◌, ◌-◌, ◌*◌, ◌/◌, ◌%◌, ◌^◌, ◌<◌, ◌≤◌, min, Bool, true, false, cond}
+use Rattle.std.proofs.Common.{◌||◌, eqb, ltb, leb, ◌⊎◌, sym, refl, ap, ◌∙◌, inl, inr, true≢false, le_refl}
+use Rattle.std.proofs.Common.{le_of_suc-le-suc, eq-or-lt_of_le, pow-suc, arith, pow_pos, pow_mono, ltb-false}
+use Rattle.std.proofs.Common.{ltb-true, eq-eqb, ne_eqb, eqb-true, le-leb, leb-false, leb-true}
 use native.Mathlib.Nat.{le_step, mod_self}
 use lib.Arith.{le-zero, lt-one}
 use lib.Bits.{bit_and, and_step, and_self, and_comm, and_mask}

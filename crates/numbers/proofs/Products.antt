@@ -1,5 +1,7 @@
 -- Products of numbers of two digits, cut to their low two digits.
-use Rattle.std.proofs.Common.{◌≡◌, ℕ, ◌+◌, ◌*◌, ◌/◌, ◌%◌, ◌^◌, ◌<◌, sym, refl, ap, ◌∙◌, lt_of_le_of_lt, le_of_lt, add_assoc, mul_assoc, mul_comm, add-mul, add_comm, mul-le-mul_left, div-add-mod', mul-add, mul_left_comm, shl_lt}
+use Rattle.std.proofs.Common.{◌≡◌, ℕ, ◌+◌, ◌*◌, ◌/◌, ◌%◌, ◌^◌, ◌<◌, sym, refl, ap, ◌∙◌, lt_of_le_of_lt, le_of_lt}
+use Rattle.std.proofs.Common.{add_assoc, mul_assoc, mul_comm, add-mul, add_comm, mul-le-mul_left, div-add-mod'}
+use Rattle.std.proofs.Common.{mul-add, mul_left_comm, shl_lt}
 use native.Mathlib.Nat.{add_left_comm, mul-add-mod_self_right}
 use lib.Pow.{split, mod-mod-pow}
 

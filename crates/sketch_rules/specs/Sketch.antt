@@ -1,6 +1,7 @@
 -- The frequency sketch, as 01 tells it: a word as sixteen counters, the four counters of a hash, aging, soundness, and
 -- the promises of its calls.
-use Rattle.std.specs.Prelude.{ℕ, ◌/◌, ◌%◌, ◌^◌, zero, suc, ◌+◌, ◌*◌, min, ◌-◌, cond, ◌&&◌, Bool, ◌||◌, not, List, [], ◌∷◌, ◌++◌, ◌≡◌, ltb, leb, eqb, get_or, set, length, replicate, drop}
+use Rattle.std.specs.Prelude.{ℕ, ◌/◌, ◌%◌, ◌^◌, zero, suc, ◌+◌, ◌*◌, min, ◌-◌, cond, ◌&&◌, Bool, ◌||◌, not, List, []}
+use Rattle.std.specs.Prelude.{◌∷◌, ◌++◌, ◌≡◌, ltb, leb, eqb, get_or, set, length, replicate, drop}
 use Rattle.numbers.specs.Shared.{is_power_to, power_for, Reply, replied, refused_by, row, refusal, reply, unless_refused}
 use Rattle.sketch_rules.specs.declared.Ensured.{Ensured}
 use Rattle.sketch_rules.specs.declared.Ensured.TheVariants as ensured

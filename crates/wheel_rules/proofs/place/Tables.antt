@@ -14,7 +14,8 @@ pub at_level : (f : ℕ → ℕ) (v k : ℕ) → v ≡ f k → (l : ℕ) → l �
 at_level f v k e l i = e ∙ ap f (sym i)
 
 -- what stays the same from level 4 on is what it is at any level that is none of the first four
-pub from_last : (f : ℕ → ℕ) (v : ℕ) → ((m : ℕ) → v ≡ f (suc (suc (suc (suc m))))) → (l : ℕ) → (l ≡ 0 → ⊥) → (l ≡ 1 → ⊥) → (l ≡ 2 → ⊥) → (l ≡ 3 → ⊥) → v ≡ f l
+pub from_last : (f : ℕ → ℕ) (v : ℕ) → ((m : ℕ) → v ≡ f (suc (suc (suc (suc m))))) →
+    (l : ℕ) → (l ≡ 0 → ⊥) → (l ≡ 1 → ⊥) → (l ≡ 2 → ⊥) → (l ≡ 3 → ⊥) → v ≡ f l
 from_last f v same zero a b c d = absurd (a refl)
 from_last f v same (suc zero) a b c d = absurd (b refl)
 from_last f v same (suc (suc zero)) a b c d = absurd (c refl)

@@ -34,7 +34,9 @@ slice_bounds-deschedule-end-12 c =
 pub returns : goal.returns
 returns c =
     stored_done c.if-n-gt4096.false
-    (over_front _ c.if-n-gt4096.false (columns c.deschedule-told.new.next c.deschedule-told.new.prev c.deschedule-told.new.bucket c.deschedule-told.new.entry c.deschedule-told.new.generation c.deschedule-told.new.serial) _
+    (over_front _ c.if-n-gt4096.false (columns c.deschedule-told.new.next c.deschedule-told.new.prev
+    c.deschedule-told.new.bucket c.deschedule-told.new.entry c.deschedule-told.new.generation
+    c.deschedule-told.new.serial) _
     c.requires
     (record {
       next_same = c.deschedule-told.auto.next;

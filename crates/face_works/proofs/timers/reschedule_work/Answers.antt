@@ -34,7 +34,9 @@ slice_bounds-reschedule-end-12 c =
 pub returns : goal.returns
 returns c =
     stored_done c.if-n-gt4096.false
-    (over_front _ c.if-n-gt4096.false (columns c.reschedule-told.new.next c.reschedule-told.new.prev c.reschedule-told.new.bucket c.reschedule-told.new.entry c.reschedule-told.new.generation c.reschedule-told.new.serial) _
+    (over_front _ c.if-n-gt4096.false (columns c.reschedule-told.new.next c.reschedule-told.new.prev
+    c.reschedule-told.new.bucket c.reschedule-told.new.entry c.reschedule-told.new.generation
+    c.reschedule-told.new.serial) _
     c.requires
     (record {
       next_same = c.reschedule-told.auto.next;

@@ -34,7 +34,8 @@ slice_bounds-schedule-end-12 c =
 pub returns : goal.returns
 returns c =
     stored_done c.if-n-gt4096.false
-    (over_front _ c.if-n-gt4096.false (columns c.schedule-told.new.next c.schedule-told.new.prev c.schedule-told.new.bucket c.schedule-told.new.entry c.schedule-told.new.generation c.schedule-told.new.serial) _
+    (over_front _ c.if-n-gt4096.false (columns c.schedule-told.new.next c.schedule-told.new.prev
+    c.schedule-told.new.bucket c.schedule-told.new.entry c.schedule-told.new.generation c.schedule-told.new.serial) _
     c.requires
     (record {
       next_same = c.schedule-told.auto.next;

@@ -7,7 +7,9 @@ use Rattle.wheel_advance.proofs.pull.pull.Given as goal
 
 abbrev pub invariant-loop-event : goal.invariant-loop-event
 invariant-loop-event l =
-    Pulling (nodes l.initial.heads l.initial.tails l.initial.next l.initial.prev l.initial.bucket l.initial.entry l.initial.generation l.initial.serial) l.dated l.deadline l.initial.c (nodes l.heads l.tails l.next l.prev l.bucket l.entry l.generation l.serial)
+    Pulling (nodes l.initial.heads l.initial.tails l.initial.next l.initial.prev l.initial.bucket l.initial.entry
+    l.initial.generation l.initial.serial) l.dated l.deadline l.initial.c (nodes l.heads l.tails l.next l.prev
+    l.bucket l.entry l.generation l.serial)
     l.c
 
 abbrev pub decreases-loop-event : goal.decreases-loop-event

@@ -22,7 +22,9 @@ push-spare-requires c =
     let l = c.loop-left.invariant in
     let s = c.chosen-s in
     let r = c.release in
-    subst (λ (a : State). PushReady a s.result 0) (left_state l.1 r.new.next r.new.prev r.new.home r.new.element c.next-in-loop-left-2-1.given c.prev-in-loop-left-2-1.given c.home-in-loop-left-2-1.given c.element-in-loop-left-2-1.given _ _ _ _)
+    subst (λ (a : State). PushReady a s.result 0) (left_state l.1 r.new.next r.new.prev r.new.home r.new.element
+    c.next-in-loop-left-2-1.given c.prev-in-loop-left-2-1.given c.home-in-loop-left-2-1.given
+    c.element-in-loop-left-2-1.given _ _ _ _)
     (left_asks _ _ _ _ _ (chosen_node _ _ _ _ l.0 (part_length _ _ l.1.nodes l.1.next_len) s.ensures) (full_ready _ _ l.0) r.ensures)
 
 pub loop-left-preserved : goal.loop-left-preserved
@@ -30,5 +32,11 @@ loop-left-preserved c =
     let l = c.loop-left in
     let r = c.release in
     let p = c.push-spare in
-    replaced l.invariant.1 r.new.heads r.new.tails r.new.lens r.new.cursors r.new.next r.new.prev r.new.home r.new.element c.heads-in-loop-left-2-1.given c.tails-in-loop-left-2-1.given c.lens-in-loop-left-2-1.given c.cursors-in-loop-left-2-1.given c.next-in-loop-left-2-1.given c.prev-in-loop-left-2-1.given c.home-in-loop-left-2-1.given c.element-in-loop-left-2-1.given p.new.heads p.new.tails p.new.lens r.new.cursors p.new.next p.new.prev p.new.home p.new.element c.heads-in-loop-left-4-1.given c.tails-in-loop-left-4-1.given c.lens-in-loop-left-4-1.given c.cursors-in-loop-left-2-1.given c.next-in-loop-left-4-1.given c.prev-in-loop-left-4-1.given c.home-in-loop-left-4-1.given c.element-in-loop-left-4-1.given
+    replaced l.invariant.1 r.new.heads r.new.tails r.new.lens r.new.cursors r.new.next r.new.prev r.new.home
+    r.new.element c.heads-in-loop-left-2-1.given c.tails-in-loop-left-2-1.given c.lens-in-loop-left-2-1.given
+    c.cursors-in-loop-left-2-1.given c.next-in-loop-left-2-1.given c.prev-in-loop-left-2-1.given
+    c.home-in-loop-left-2-1.given c.element-in-loop-left-2-1.given p.new.heads p.new.tails p.new.lens r.new.cursors
+    p.new.next p.new.prev p.new.home p.new.element c.heads-in-loop-left-4-1.given c.tails-in-loop-left-4-1.given
+    c.lens-in-loop-left-4-1.given c.cursors-in-loop-left-2-1.given c.next-in-loop-left-4-1.given
+    c.prev-in-loop-left-4-1.given c.home-in-loop-left-4-1.given c.element-in-loop-left-4-1.given
     l.spare c.chosen-s.result r.result c.following-x.result p.result l.invariant.0 r.ensures p.ensures
