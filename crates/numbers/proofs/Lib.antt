@@ -6,3 +6,4 @@ pub mod Cases
 pub mod Members
 pub mod Counting
 pub mod Rows
+pub mod Numbered

@@ -1,4 +1,5 @@
--- What several modules say: Shared is what a reader reads; the others are inner.
+-- What several modules say: Shared and Refusals are what a reader reads; the others are inner.
 pub mod Shared
+pub mod Refusals
 pub mod Rows
 pub mod Lists

@@ -5,6 +5,7 @@
 ghost use Rattle.std.specs.Prelude.{◌≡◌, ◌*◌, ◌%◌, ◌^◌};
 ghost use Rattle.numbers.specs.Shared.{power_for, is_power_to};
 
+pub mod refusals; // why a call is refused
 pub mod slots; // what a link or a cursor holds where it stands at no slot
 
 const HALF: u64 = 0x1_0000_0000;
