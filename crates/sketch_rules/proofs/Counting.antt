@@ -41,6 +41,11 @@ rises_le t at k = go (ltb (counter (get_or t at 0) k) 15)
     go true = le_refl 1
     go false = zero-le
 
+pub rose_le : (hash n i : ℕ) (t : List ℕ) → rose hash n i t ≤ i
+unfolding rose
+rose_le hash n zero t = zero-le
+rose_le hash n (suc i) t = omega (arith, rose_le hash n i t, rises_le (counted hash n i t) (word_at hash i n) (counter_of hash i))
+
 pub counted_length : (hash n i : ℕ) (t : List ℕ) → length (counted hash n i t) ≡ length t
 unfolding counted
 counted_length hash n zero t = refl

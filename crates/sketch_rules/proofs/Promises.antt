@@ -55,13 +55,13 @@ not_sound_if t s why e = go (sound (length t) s) refl
 
 -- ---- a sound sketch in use is ready for the unchecked work
 
-pub in_use : (t : List ℕ) (s : Sketch) → sound (length t) s ≡ true → (s.used ≡ 0 → ⊥) → InUse s.used t
+pub in_use : (t : List ℕ) (s : Sketch) → 0 ≡ standing t s → (s.used ≡ 0 → ⊥) → InUse s.used t
 in_use t s e n =
-    let u = sound_in_use (length t) s e n in
+    let u = sound_in_use (length t) s (is_sound_if t s e) n in
     record { power = u.power; some = u.some; most = u.most; inside = u.inside }
 
-pub ready : (t : List ℕ) (s : Sketch) → sound (length t) s ≡ true → (s.used ≡ 0 → ⊥) → Ready t s
-ready t s e n = record { table = in_use t s e n; size = (sound_in_use (length t) s e n).size }
+pub ready : (t : List ℕ) (s : Sketch) → 0 ≡ standing t s → (s.used ≡ 0 → ⊥) → Ready t s
+ready t s e n = record { table = in_use t s e n; size = (sound_in_use (length t) s (is_sound_if t s e) n).size }
 
 -- ---- estimate
 
