@@ -41,7 +41,7 @@ fn sample_for(capacity: u64) -> u64
 
 // Makes the table long enough for a capacity, if it is not already: the longer table's words are all 0 then, and the
 // size count stays. Refused: 4, 15 (capacity above 65,536), 14 (the lent table is too short to grow).
-#[tactic(auto, unfolding(sketch_rules::specs::Sketch::standing, sketch_rules::specs::Sketch::ensure_refusal, sketch_rules::specs::Sketch::ensured_table, sketch_rules::specs::Sketch::ensured_sketch,))]
+#[tactic(auto, unfolding(sketch_rules::specs::Sketch::standing, sketch_rules::specs::Sketch::ensure_refusal, sketch_rules::specs::Sketch::ensured_table, sketch_rules::specs::Sketch::ensured_sketch))]
 pub fn ensure_capacity(table: &mut [u64], sketch: Sketch, capacity: u64) -> Result<Sketch, Refusal>
     ensures { Ensures table.old sketch capacity result table.new }
 {
@@ -78,7 +78,7 @@ pub fn estimate(table: &[u64], sketch: Sketch, hash: u64) -> Result<u64, Refusal
 
 // Raises the four counters of a hash that are below 15, and ages the table where the size count comes to the sample
 // size; does nothing where the sketch is unused. Refused: 4.
-#[tactic(auto, unfolding(sketch_rules::specs::Sketch::increased_table, sketch_rules::specs::Sketch::increased_sketch,))]
+#[tactic(auto, unfolding(sketch_rules::specs::Sketch::increased_table, sketch_rules::specs::Sketch::increased_sketch))]
 pub fn increase(table: &mut [u64], sketch: Sketch, hash: u64) -> Result<Sketch, Refusal>
     ensures { Increases table.old sketch hash result table.new }
 {
