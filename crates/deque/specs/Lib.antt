@@ -1,0 +1,2 @@
+-- What the contracts cite beside the definitions of deque_rules.
+pub mod Slices
