@@ -10,27 +10,21 @@ use Rattle.deque_rules.specs.Links.{Links}
 use Rattle.rules.specs.Places.{wheel01}
 use Rattle.rules.specs.Wheel.{Call, create, set_entry, schedule, reschedule, deschedule, start, pull, abandon, armed_count, next_due, Answer, refused, ok}
 use Rattle.rules.specs.Wheel.{handle, removed, number, due}
+use Rattle.wheel_rules.specs.Promise.{told, due_told}
+use Rattle.std.specs.Prelude.{Option}
+use Rattle.wheel_rules.specs.declared.calls.After.{After}
 use Rattle.wheel_rules.specs.declared.calls.Clock.{Clock}
-use Rattle.wheel_rules.specs.declared.timers.Armed.{Armed}
-use Rattle.wheel_rules.specs.declared.records.Due.{Due as Found}
-use Rattle.wheel_rules.specs.declared.records.Due.TheVariants.{At as FoundAt, Nothing}
+use Rattle.wheel_rules.specs.declared.calls.Handle.{Handle}
 use Rattle.wheel_rules.specs.Lent.{Nodes, Entries, Records, records, entries, lent}
 use Rattle.wheel_rules.specs.records.Records.{join}
 use Rattle.wheel_rules.specs.timers.Timers.{Arms, Disarms, Rearms}
-use Rattle.wheel_rules.specs.records.Counts.{Counts, due_told, FindsDue}
+use Rattle.wheel_rules.specs.records.Counts.{Counts, FindsDue}
 use Rattle.wheel_rules.specs.records.Settings.{settled, Sets}
 use Rattle.wheel_rules.specs.records.Moments.{Starts, Abandons}
 use Rattle.wheel_rules.specs.layout.Layout.{Lays}
-use Rattle.wheel_rules.specs.declared.popping.Pulled.{Pulled as Event}
-use Rattle.wheel_rules.specs.declared.popping.Pulled.TheVariants.{Expired as ExpiredEvent, Rescheduled as PlacedEvent, End as EndEvent}
-use Rattle.wheel_rules.specs.popping.Pop.{told}
+use Rattle.wheel_rules.specs.declared.calls.Event.{Event}
 use Rattle.wheel_rules.specs.pull.Pull.{Pulls}
-use Rattle.wheel_rules.specs.declared.calls.Pulled.{Pulled}
-use Rattle.wheel_rules.specs.declared.calls.Pulled.TheVariants.{Expired, Rescheduled as Placed, End}
-use Rattle.wheel_rules.specs.declared.calls.Due.{Due}
-use Rattle.wheel_rules.specs.declared.calls.Due.TheVariants.{At, Never}
-use Rattle.wheel_rules.specs.Promise.{pulled_says, pulled_clock, due_says, created_clock, empty_ends, enabling, Promised, over, Begins}
-use Rattle.wheel_rules.specs.calls.Answers.{TellsDue, TellsEvent}
+use Rattle.wheel_rules.specs.Promise.{handle_told, created_clock, empty_ends, enabling, Promised, over, Begins}
 use Rattle.wheel_rules.specs.refusals.Refuse.{rows_on, RefusesEnable, RefusesCount, RefusesClosed, RefusesOpen, RefusesSet, RefusesSchedule}
 use Rattle.wheel_rules.specs.refusals.Refuse.{RefusesHandle}
 use Rattle.wheel_rules.specs.calls.Work.{entry_set, descheduled, moved}
@@ -70,10 +64,10 @@ module _ (N : Nodes) (E : Entries) (c : Clock) (e h k : ℕ) (f : RefusesSchedul
   pub schedule_no : (k ≡ 0 → ⊥) → Promised (schedule e h) (records N E c) (records N E c) (refused k)
   schedule_no n = no (schedule e h) (records N E c) k tt f.by n
 
-  pub schedule_yes : (N' : Nodes) (r : Armed) → k ≡ 0 → Arms wheel01 N c N' r e h (get_or E.deadline e 0)
-      → Promised (schedule e h) (records N E c) (records N' E r.clock) (handle r.slot r.serial)
+  pub schedule_yes : (N' : Nodes) (r : After Handle) → k ≡ 0 → Arms wheel01 N c N' r e h (get_or E.deadline e 0)
+      → Promised (schedule e h) (records N E c) (records N' E r.clock) (handle_told r.answer)
   schedule_yes N' r z u =
-      yes (schedule e h) (records N E c) (records N' E r.clock) (handle r.slot r.serial) k tt f.by z
+      yes (schedule e h) (records N E c) (records N' E r.clock) (handle_told r.answer) k tt f.by z
       (λ i. handle (u.slot_is i) (u.serial_is i)) (λ i. records (u.is i) E (u.clock_is i))
 
 -- ---- deschedule, reschedule
@@ -139,36 +133,17 @@ module _ (N : Nodes) (E : Entries) (c : Clock) (k : ℕ) where
   abandon_yes c' f z u = yes abandon (records N E c) (records N E c') ok k tt f.by z refl (λ i. records N E (u.is i))
 
 -- ---- pull
-module _ (a : Event) (k : Clock) where
-  pub tells_expired : (e n d : ℕ) → a ≡ ExpiredEvent e n d → TellsEvent a k (Expired e n d k)
-  tells_expired e n d i = record { is = ap told (sym i); clock_is = λ c. refl }
-
-  pub tells_placed : (e n b : ℕ) → a ≡ PlacedEvent e n b → TellsEvent a k (Placed e n b k)
-  tells_placed e n b i = record { is = ap told (sym i); clock_is = λ c. refl }
-
-  pub tells_end : a ≡ EndEvent → TellsEvent a k (End k)
-  tells_end i = record { is = ap told (sym i); clock_is = λ c. refl }
-
-pub ruleset tells = (tells_expired, tells_placed, tells_end)
-
 module _ (N : Nodes) (t : List Bool) (d m : List ℕ) (c : Clock) (k : ℕ) (f : RefusesOpen (records N (entries t d m) c) k) where
   pub pull_no : (k ≡ 0 → ⊥) → Promised pull (records N (entries t d m) c) (records N (entries t d m) c) (refused k)
   pull_no n = no pull (records N (entries t d m) c) k tt f.by n
 
-  pub pull_yes : (N' : Nodes) (c' : Clock) (a : Event) (r : Pulled) → k ≡ 0 → Pulls wheel01 N t d c N' c' a → TellsEvent a c' r
-      → Promised pull (records N (entries t d m) c) (records N' (entries t d m) (pulled_clock c r)) (pulled_says r)
-  pull_yes N' c' a r z u v =
+  pub pull_yes : (N' : Nodes) (c' : Clock) (a : Event) → k ≡ 0 → Pulls wheel01 N t d c N' c' a
+      → Promised pull (records N (entries t d m) c) (records N' (entries t d m) c') (told a)
+  pull_yes N' c' a z u =
       let E : Entries = entries t d m in
-      yes pull (records N E c) (records N' E (pulled_clock c r)) (pulled_says r) k tt f.by z (v.is ∙ ap told u.event_is)
-      ((λ i. records N' E (v.clock_is c i)) ∙ (λ i. records (u.is i) E (u.clock_is i)))
+      yes pull (records N E c) (records N' E c') (told a) k tt f.by z (ap told u.event_is) (λ i. records (u.is i) E (u.clock_is i))
 
 -- ---- the two counts
-pub tells_due : (v : Found) (d : ℕ) → v ≡ FoundAt d → TellsDue v (At d)
-tells_due v d e = record { is = ap (λ (m : Found). due (due_told m)) (sym e) }
-
-pub tells_never : (v : Found) → v ≡ Nothing → TellsDue v Never
-tells_never v e = record { is = ap (λ (m : Found). due (due_told m)) (sym e) }
-
 module _ (h t n p b ee g s : List ℕ) (d : List Bool) (l m : List ℕ) (c : Clock) (k : ℕ) where
   abbrev R : Records
   R = lent h t n p b ee g s d l m c
@@ -182,5 +157,5 @@ module _ (h t n p b ee g s : List ℕ) (d : List Bool) (l m : List ℕ) (c : Clo
   pub due_no : RefusesClosed R k → (k ≡ 0 → ⊥) → Promised next_due R R (refused k)
   due_no f z = no next_due R k tt f.by z
 
-  pub due_yes : (r : Due) (v : Found) → RefusesClosed R k → k ≡ 0 → FindsDue wheel01 h b ee d l v → TellsDue v r → Promised next_due R R (due_says r)
-  due_yes r v f z u i = yes next_due R R (due_says r) k tt f.by z (i.is ∙ ap due u.is) refl
+  pub due_yes : (v : Option ℕ) → RefusesClosed R k → k ≡ 0 → FindsDue wheel01 h b ee d l v → Promised next_due R R (due (due_told v))
+  due_yes v f z u = yes next_due R R (due (due_told v)) k tt f.by z (ap due u.is) refl
