@@ -16,7 +16,7 @@ use Rattle.deque_rules.proofs.Laws.{first_in}
 use Rattle.rules.specs.Places.{wheel01, buckets}
 use Rattle.rules.specs.Wheel.{Slot as Node, Entry, Wheel}
 use Rattle.wheel_rules.specs.declared.calls.Clock.{Clock}
-use Rattle.wheel_rules.specs.Lent.{Nodes, Entries, Records, records, nodes, entries, Shows, Armed, SoundRecords, wheel_of as shown, lent}
+use Rattle.wheel_rules.specs.Lent.{Nodes, Entries, Records, records, Shows, Armed, SoundRecords, wheel_of as shown}
 use Rattle.wheel_rules.specs.records.Records.{join}
 use Rattle.wheel_rules.specs.timers.Timers.{Ready, ArmReady, SlotReady, MoveReady}
 use Rattle.wheel_rules.specs.records.Counts.{DueReady}

@@ -2,7 +2,6 @@
 use Prim.Native.Nat.{ℕ}
 use mathlib.Core.Path.{◌≡◌, refl, sym, ap, ◌∙◌}
 use mathlib.Core.Bool.{Bool, true, false, cond, not}
-use mathlib.Core.Option.{none, some}
 use mathlib.Core.List.{List}
 use lib.ListN.{get_or}
 use borrow.Author.Tests.{not-true, not-false}
@@ -21,7 +20,7 @@ use mathlib.Core.Path.{subst}
 use Rattle.wheel_rules.specs.declared.calls.After.{After}
 use Rattle.wheel_rules.specs.declared.calls.Clock.{Clock}
 use Rattle.wheel_rules.specs.declared.calls.Handle.{Handle}
-use Rattle.wheel_rules.specs.Lent.{Nodes, Entries, Records, records, entries, lent}
+use Rattle.wheel_rules.specs.Lent.{Nodes, Entries, Records, records}
 use Rattle.wheel_rules.specs.records.Records.{with_links}
 use Rattle.wheel_rules.specs.timers.Timers.{Arms, Disarms, Rearms}
 use Rattle.wheel_rules.specs.records.Counts.{Counts, FindsDue}
@@ -33,7 +32,7 @@ use Rattle.wheel_rules.specs.pull.Pull.{Pulls}
 use Rattle.wheel_rules.specs.Promise.{handle_told, created_clock, empty_ends, enabling, Promised, over, Begins}
 use Rattle.wheel_rules.specs.refusals.Refuse.{rows_on, RefusesEnable, RefusesCount, RefusesClosed, RefusesOpen, RefusesSet, RefusesSchedule}
 use Rattle.wheel_rules.specs.refusals.Refuse.{RefusesHandle}
-use Rattle.wheel_rules.specs.calls.Work.{entry_set, descheduled, moved}
+use Rattle.wheel_rules.specs.calls.Work.{descheduled, moved}
 use Rattle.wheel_rules.specs.calls.Calls.{written, says}
 use Rattle.wheel_rules.proofs.calls.Deciding.{LentTo}
 use Rattle.wheel_rules.proofs.calls.Promising.{promise}
