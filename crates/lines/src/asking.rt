@@ -1,6 +1,6 @@
 // A line as a word of a table and up to three numbers.
 use crate::collecting::{Kind, Source, kind_of};
-use crate::parts::{count, first, part, same};
+use crate::parts::{count, first, part};
 use crate::reading::{Number, number_at};
 
 // In place of a word: no line or one that answers nothing, and one that begins with no word of the table.
@@ -49,13 +49,10 @@ fn numbered(line: &[u8], word: usize) -> Asked {
 
 // The place of the word in the table.
 fn place_of(word: &[u8], words: &[u8]) -> usize {
-    let most = count(words);
-    let mut k: usize = 0;
-    while k < most {
-        if same(word, part(words, k)) {
+    for k in 0..count(words) {
+        if part(words, k) == word {
             return k;
         }
-        k += 1;
     }
     NO_WORD
 }

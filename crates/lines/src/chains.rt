@@ -14,15 +14,12 @@ pub fn say_chain(
 ) -> usize {
     let mut waiting = append(rt, out, at, word);
     let mut x = head;
-    let mut left = next.len();
-    while left > 0 {
-        left -= 1;
-        if x < next.len() && x as u64 != NONE {
-            waiting = append_field(rt, out, waiting, x as u64);
-            x = next[x];
-        } else {
-            left = 0;
+    for _ in 0..next.len() {
+        if x >= next.len() || x as u64 == NONE {
+            break;
         }
+        waiting = append_field(rt, out, waiting, x as u64);
+        x = next[x];
     }
     append(rt, out, waiting, b"\n")
 }

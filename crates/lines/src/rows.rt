@@ -47,11 +47,9 @@ fn digest_row(h: u64, row: Row) -> u64 {
     let count = row.count;
     let mut links = row.links;
     let mut digest = h;
-    let mut k: usize = 0;
-    while k < 10 {
+    for k in 0..10 {
         digest = digest_value(digest, k < count, links % 2 == 1, values[k]);
         links = links / 2;
-        k += 1;
     }
     digest
 }
@@ -74,11 +72,9 @@ fn say_values(rt: &impl Print, out: &mut [u8; 65536], at: usize, row: Row) -> us
     let count = row.count;
     let mut links = row.links;
     let mut waiting = at;
-    let mut k: usize = 0;
-    while k < 10 {
+    for k in 0..10 {
         waiting = say_value(rt, out, waiting, k < count, links % 2 == 1, values[k]);
         links = links / 2;
-        k += 1;
     }
     waiting
 }
