@@ -6,6 +6,7 @@
 
 pub mod change; // push, remove, move to the back, turn until a member is last
 mod free; // take a free slot, give one back
+pub mod linked; // the records lent together, for reading and for changing
 pub mod layout; // all deques empty, all slots free
 pub mod read; // the front of a deque, the slot after a slot
 pub mod sound; // the test of links and free chain, which asks nothing
