@@ -25,7 +25,7 @@ pub fn word_at(hash: u64, depth: u64, words: u64) -> u64
 }
 
 // For the host: the word of a hash at a depth, in a table of `mask` + 1 words; 65,536 where the depth is above 3 or
-// `mask` + 1 is not a power of two up to 65,536.
+// `mask` + 1 is not a power of two up to 65,536. A number and no Option: the C interface has this answer.
 pub fn word_index(hash: u64, depth: u64, mask: u64) -> u64
     ensures { result ≡ word_index hash depth mask }
 {

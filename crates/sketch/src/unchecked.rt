@@ -1,4 +1,5 @@
-// The sketch's work on a sound record, unchecked: for proved code only.
+// The sketch's work on a sound record, unchecked: for proved code only. The table and the length in use stay two
+// parameters with a `requires` on both: a type that holds the fact would ask more of who calls these public functions.
 ghost use Rattle.std.specs.Prelude.{◌≡◌, ◌<◌, ◌≤◌, ◌++◌, length, drop, replicate};
 ghost use Rattle.sketch_rules.specs.Aging.{Ready, Settles, Raises};
 ghost use Rattle.sketch_rules.specs.Hashes.{InUse, Counts};

@@ -1,6 +1,6 @@
 -- The rows of refusals, and what a sketch that no row stops is ready for.
-use mathlib.Core.Path.{◌≡◌, refl}
-use mathlib.Core.Bool.{Bool, true, false}
+use mathlib.Core.Path.{◌≡◌}
+use mathlib.Core.Bool.{true}
 use mathlib.Core.List.{List}
 use Prim.Native.Nat.{ℕ, ◌≤◌, ◌<◌}
 use native.Mathlib.Omega.{arith}
@@ -15,21 +15,13 @@ use Rattle.sketch_rules.proofs.Soundness.{sound_in_use}
 
 -- ---- the first row, of all three calls
 
-not_standing : (t : List ℕ) (s : Sketch) → sound (length t) s ≡ false → standing t s ≡ 4
-unfolding standing
-not_standing t s e = simp e
-
 pub stands : (t : List ℕ) (s : Sketch) → sound (length t) s ≡ true → standing t s ≡ 0
 unfolding standing
 stands t s e = simp e
 
--- it is the only number that it gives
 pub is_sound_if : (t : List ℕ) (s : Sketch) → 0 ≡ standing t s → sound (length t) s ≡ true
-is_sound_if t s e = go (sound (length t) s) refl
-  where
-    go : (b : Bool) → sound (length t) s ≡ b → b ≡ true
-    go true f = refl
-    go false f = absurd (omega (arith, not_standing t s f))
+unfolding standing
+is_sound_if t s e = grind arith
 
 -- ---- a sound sketch in use is ready for the unchecked work
 

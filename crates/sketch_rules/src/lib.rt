@@ -3,7 +3,8 @@
 #![tactic(auto)]
 
 // The sketch's record: how many words of the lent table are in use (0: none yet), at which size count the table is
-// aged, and the size count, which rises with each increase that raised a counter.
+// aged, and the size count, which rises with each increase that raised a counter. Three numbers and no Option for none
+// in use: the soundness that 01 states, and its promises, speak of any three (project rule: 01's records).
 #[derive(Clone, Copy, Debug, PartialEq, Eq)]
 pub struct Sketch {
     pub used: usize,

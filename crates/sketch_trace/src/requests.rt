@@ -34,7 +34,8 @@ pub fn requested(line: &[u8], is_lent: bool) -> Request {
     }
 }
 
-// The call that a line is, if it has as many numbers as the call. No more words can be lent than there are.
+// The call that a line is, by the place of its word in the table, if it has as many numbers as the call. No more words
+// can be lent than there are.
 fn call_of(asked: Asked) -> Request {
     let Some(name) = asked.word else {
         return Request::Bad;
