@@ -32,5 +32,5 @@ pub fn next_due(
         (records (nodes_of nodes.entry) (entries_of entries.entry) clock) (due_says result) }
 {
     closed_refusal(nodes, entries, clock)?;
-    Ok(nodes.next_due(entries))
+    Ok(nodes.next_due(&entries))
 }

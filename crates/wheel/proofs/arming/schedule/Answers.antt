@@ -1,20 +1,18 @@
--- `schedule` meets its promise.
-use Rattle.wheel_rules.proofs.calls.Calling.{schedule_no, schedule_yes}
-use Rattle.wheel_rules.proofs.calls.Acting.{arm_ready, due_bytes, due_index}
+use Rattle.std.proofs.Common.{rules, ◌≡◌, ℕ, ◌+◌, ◌-◌, ◌*◌, ◌<◌, ◌≤◌, length, ◌/◌, ◌%◌, Bool, true, false, nat_eq, nat_lt, List, [], ◌∷◌, ◌++◌, slice_index_or, slice_set, bit_and, bit_or, Fits, w8, w32, w64, Bor, MutBor}
+use Rattle.rules.specs.Wheel.{schedule}
+use Rattle.wheel_rules.specs.Lent.{records}
+use Rattle.wheel_rules.specs.Promise.{clock_after, scheduled_says, Promised}
+use Rattle.wheel_timers.specs.Slices.{nodes_now, entries_of, SameNodes}
 use Rattle.wheel.proofs.arming.schedule.Goals as goal
 
-pub returns-then-no-ne0 : goal.returns-then-no-ne0
-returns-then-no-ne0 c = search schedule_no
+-- src/arming.rt:25:5
+pub returns-in_err-schedule_refusal-clause-does : goal.returns-in_err-schedule_refusal-clause-does
+returns-in_err-schedule_refusal-clause-does c = ?
 
-pub offset_bounds-deadline-e : goal.offset_bounds-deadline-e
-offset_bounds-deadline-e c = due_bytes _ _ _ _ _ _ _ _ _ _ _ _ _ _ _ c.schedule_refusal-no.ensures c.if-no-ne0.false
+-- src/arming.rt:27:8
+pub arm-requires : goal.arm-requires
+arm-requires c = ?
 
-pub bounds-deadline-e : goal.bounds-deadline-e
-bounds-deadline-e c = due_index _ _ _ _ _ _ _ _ _ _ _ _ _ _ _ c.schedule_refusal-no.ensures c.if-no-ne0.false
-
-pub arm-armed-requires : goal.arm-armed-requires
-arm-armed-requires c = arm_ready _ _ _ _ _ _ c.schedule_refusal-no.ensures
-    c.if-no-ne0.false
-
-pub returns : goal.returns
-returns c = search schedule_yes
+-- src/arming.rt:14:1
+pub returns-clause-does : goal.returns-clause-does
+returns-clause-does c = ?
