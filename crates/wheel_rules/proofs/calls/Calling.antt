@@ -9,8 +9,9 @@ use Rattle.deque_rules.specs.Links.{Links}
 use Rattle.rules.specs.Places.{wheel01}
 use Rattle.rules.specs.Wheel.{Call, create, set_entry, schedule, reschedule, deschedule, start, pull, abandon, armed_count, next_due, Answer, refused, ok}
 use Rattle.rules.specs.Wheel.{handle, removed, number, due}
+use Rattle.wheel_rules.specs.Promise.{timed_says, timed_clock, clock_after, says as tells}
 use Rattle.wheel_rules.specs.Promise.{told, due_told}
-use Rattle.std.specs.Prelude.{Option, Some, None, Result, Ok, Err, is_some, unwrap_or}
+use Rattle.std.specs.Prelude.{Option, Some, None, Result, Ok, Err, is_some, unwrap_or, IsErr, IsErrAnd}
 use Rattle.numbers.proofs.Numbered.{number_above}
 use Rattle.numbers.specs.Refusals.{number_of, refusal_in}
 use Rattle.numbers.specs.declared.refusals.Refusal.{Refusal}
@@ -91,6 +92,17 @@ module _ (R : Records) (why : Refusal) where
 
   pub due_no : RefusesClosed R (number_of why) → Promised next_due R R (refused (number_of why))
   due_no f = no next_due R why tt f.by
+
+-- ---- what a call answers that hands a refusal on: no clock but its own, and what is said of a refusal
+module _ (c : Call) (N : Nodes) (E : Entries) (k : Clock) (why : Refusal) (p : Promised c (records N E k) (records N E k) (refused (number_of why))) where
+  pub refused_timed : (q : Result Clock Refusal) → IsErr q × IsErrAnd q (λ v. v ≡ why) → Promised c (records N E k) (records N E (timed_clock k q)) (timed_says q)
+  refused_timed (Ok v) e = absurd e.0
+  refused_timed (Err v) e = subst (λ w. Promised c (records N E k) (records N E k) (refused (number_of w))) (sym e.1) p
+
+  pub refused_after : {A : Type 0} (f : A → Answer) (q : Result (After A) Refusal) → IsErr q × IsErrAnd q (λ v. v ≡ why)
+      → Promised c (records N E k) (records N E (clock_after k q)) (tells (λ r. f r.answer) q)
+  refused_after f (Ok v) e = absurd e.0
+  refused_after f (Err v) e = subst (λ w. Promised c (records N E k) (records N E k) (refused (number_of w))) (sym e.1) p
 
 -- ---- not refused
 module _ (N : Nodes) (E : Entries) (c : Clock) where

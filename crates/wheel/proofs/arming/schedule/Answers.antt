@@ -1,18 +1,14 @@
-use Rattle.std.proofs.Common.{rules, ◌≡◌, ℕ, ◌+◌, ◌-◌, ◌*◌, ◌<◌, ◌≤◌, length, ◌/◌, ◌%◌, Bool, true, false, nat_eq, nat_lt, List, [], ◌∷◌, ◌++◌, slice_index_or, slice_set, bit_and, bit_or, Fits, w8, w32, w64, Bor, MutBor}
-use Rattle.rules.specs.Wheel.{schedule}
-use Rattle.wheel_rules.specs.Lent.{records}
-use Rattle.wheel_rules.specs.Promise.{clock_after, scheduled_says, Promised}
-use Rattle.wheel_timers.specs.Slices.{nodes_now, entries_of, SameNodes}
+-- `schedule` meets its promise.
+use Rattle.wheel_rules.proofs.calls.Calling.{schedule_no, schedule_yes}
+use Rattle.wheel_rules.proofs.calls.Acting.{arm_ready}
+use Rattle.std.proofs.Common.{rules, sym}
 use Rattle.wheel.proofs.arming.schedule.Goals as goal
 
--- src/arming.rt:25:5
 pub returns-in_err-schedule_refusal-clause-does : goal.returns-in_err-schedule_refusal-clause-does
-returns-in_err-schedule_refusal-clause-does c = ?
+returns-in_err-schedule_refusal-clause-does c = rw (sym c.as_read.ensures.nodes) (search (rules, schedule_no))
 
--- src/arming.rt:27:8
 pub arm-requires : goal.arm-requires
-arm-requires c = ?
+arm-requires c = rw (sym c.as_read.ensures.nodes) (arm_ready _ _ _ _ _ c.in_ok-schedule_refusal.ensures)
 
--- src/arming.rt:14:1
 pub returns-clause-does : goal.returns-clause-does
-returns-clause-does c = ?
+returns-clause-does c = rw (sym c.as_read.ensures.nodes) (search (rules, schedule_yes))
