@@ -11,12 +11,8 @@ fn empty(heads: &mut [usize], tails: &mut [usize])
     requires { length tails.old ≡ length heads.old }
     ensures { Empties heads.old heads.new tails.new }
 {
-    let mut d: usize = 0;
-    while d < heads.len() {
-        heads[d] = NONE;
-        tails[d] = NONE;
-        d += 1;
-    }
+    heads.fill(NONE);
+    tails.fill(NONE);
 }
 
 // Makes every slot free, each followed by the one above it.
@@ -24,13 +20,11 @@ fn string(next: &mut [usize], prev: &mut [usize], home: &mut [usize]) -> usize
     requires { (length prev.old ≡ length next.old) × (length home.old ≡ length next.old) }
     ensures { Strings next.old next.new prev.new home.new result }
 {
+    prev.fill(NONE);
+    home.fill(NONE);
     let mut free = NONE;
-    let mut s = next.len();
-    while 0 < s {
-        s -= 1;
+    for s in (0..next.len()).rev() {
         next[s] = free;
-        prev[s] = NONE;
-        home[s] = NONE;
         free = s;
     }
     free

@@ -30,18 +30,10 @@ impl Linked<'_> {
     pub fn sized(self) -> bool
         ensures { Sized (links_of self.entry) result }
     {
-        if NONE < self.heads.len() {
-            return false;
-        }
-        if NONE < self.next.len() {
-            return false;
-        }
-        if self.tails.len() != self.heads.len() {
-            return false;
-        }
-        if self.prev.len() != self.next.len() {
-            return false;
-        }
-        self.home.len() == self.next.len()
+        self.heads.len() <= NONE
+            && self.next.len() <= NONE
+            && self.tails.len() == self.heads.len()
+            && self.prev.len() == self.next.len()
+            && self.home.len() == self.next.len()
     }
 }
