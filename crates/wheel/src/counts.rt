@@ -10,11 +10,7 @@ use wheel_rules::calls::Clock;
 use wheel_timers::lent::{Entries, Nodes};
 
 // How many slots are armed. It answers while an advance is open too. Refuses (1, 4).
-pub fn armed_count(
-    nodes: Nodes<'_>,
-    entries: Entries<'_>,
-    clock: Clock,
-) -> Result<usize, Refusal>
+pub fn armed_count(nodes: Nodes<'_>, entries: Entries<'_>, clock: Clock) -> Result<usize, Refusal>
     ensures { Promised armed_count (records (nodes_of nodes.entry) (entries_of entries.entry) clock)
         (records (nodes_of nodes.entry) (entries_of entries.entry) clock) (counted_says result) }
 {

@@ -10,7 +10,7 @@ pub mod counts; // armed count, next due
 pub mod enabling; // enable
 pub mod handles; // reschedule, deschedule
 pub mod making; // create
-
+pub mod pulling; // pull
 pub mod settings; // set entry
 
 pub use crate::advancing::{abandon, start};
@@ -19,7 +19,7 @@ pub use crate::counts::{armed_count, next_due};
 pub use crate::enabling::enable;
 pub use crate::handles::{deschedule, reschedule};
 pub use crate::making::create;
-
+pub use crate::pulling::pull;
 pub use crate::settings::set_entry;
 pub use numbers::refusals::Refusal;
 pub use wheel_rules::calls::{After, Clock, Created, Event, Handle, Rescheduled};

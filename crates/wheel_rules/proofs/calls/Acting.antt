@@ -4,20 +4,18 @@ use native.Mathlib.Omega.{arith}
 use mathlib.Core.Path.{◌≡◌, refl, sym, ap, ◌∙◌}
 use mathlib.Core.Bool.{Bool, true, false, cond}
 use mathlib.Core.Option.{none, some}
-use mathlib.Core.List.{List}
 use lib.ListN.{length, get_or}
 use borrow.Author.Tests.{lt-ltb}
 use borrow.Author.Rules.{scaled_Fits}
 use mir.Syntax.{w64}
 use mir.Val.{Fits}
-use Rattle.deque_rules.specs.Links.{Links, home_of}
+use Rattle.deque_rules.specs.Links.{home_of}
 use Rattle.numbers.specs.Shared.{no_slot, unless, not_refused as answered}
 use Rattle.deque_rules.proofs.Laws.{first_in}
 use Rattle.rules.specs.Places.{wheel01, buckets}
 use Rattle.rules.specs.Wheel.{Slot as Node, Entry, Wheel}
 use Rattle.wheel_rules.specs.declared.calls.Clock.{Clock}
 use Rattle.wheel_rules.specs.Lent.{Nodes, Entries, Records, records, Shows, Armed, SoundRecords, wheel_of as shown}
-use Rattle.wheel_rules.specs.records.Records.{join}
 use Rattle.wheel_rules.specs.timers.Timers.{Ready, ArmReady, SlotReady, MoveReady}
 use Rattle.wheel_rules.specs.records.Counts.{DueReady}
 use Rattle.wheel_rules.specs.records.Settings.{EntryReady}

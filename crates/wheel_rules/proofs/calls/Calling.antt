@@ -13,7 +13,7 @@ use Rattle.wheel_rules.specs.Promise.{timed_says, timed_clock, clock_after, says
 use Rattle.wheel_rules.specs.Promise.{told, due_told}
 use Rattle.std.specs.Prelude.{Option, Some, None, Result, Ok, Err, is_some, unwrap_or, IsErr, IsErrAnd}
 use Rattle.numbers.proofs.Numbered.{number_above}
-use Rattle.numbers.specs.Refusals.{number_of, refusal_in}
+use Rattle.numbers.specs.Refusals.{number_of}
 use Rattle.numbers.specs.declared.refusals.Refusal.{Refusal}
 use Rattle.wheel_rules.specs.declared.calls.Event.{Event}
 use native.Mathlib.Omega.{arith}
@@ -96,12 +96,12 @@ module _ (R : Records) (why : Refusal) where
 -- ---- what a call answers that hands a refusal on: no clock but its own, and what is said of a refusal
 module _ (c : Call) (N : Nodes) (E : Entries) (k : Clock) (why : Refusal) (p : Promised c (records N E k) (records N E k) (refused (number_of why))) where
   pub refused_timed : (q : Result Clock Refusal) → IsErr q × IsErrAnd q (λ v. v ≡ why) → Promised c (records N E k) (records N E (timed_clock k q)) (timed_says q)
-  refused_timed (Ok v) e = absurd e.0
+  refused_timed (Ok v) e = absurd e.1
   refused_timed (Err v) e = subst (λ w. Promised c (records N E k) (records N E k) (refused (number_of w))) (sym e.1) p
 
   pub refused_after : {A : Type 0} (f : A → Answer) (q : Result (After A) Refusal) → IsErr q × IsErrAnd q (λ v. v ≡ why)
       → Promised c (records N E k) (records N E (clock_after k q)) (tells (λ r. f r.answer) q)
-  refused_after f (Ok v) e = absurd e.0
+  refused_after f (Ok v) e = absurd e.1
   refused_after f (Err v) e = subst (λ w. Promised c (records N E k) (records N E k) (refused (number_of w))) (sym e.1) p
 
 -- ---- not refused
