@@ -50,7 +50,7 @@ module _ (a : Links) (d : ℕ) (z : Sizes a × (d < length a.heads)) where
     stuck : ((ys : List ℕ) → Runs a d b ys → ⊥) → Walked a d 4097
     stuck n = record { found = λ i. absurd (omega (arith, i)); bad = λ _ xs h. n (g.ahead xs h).0 (g.ahead xs h).1 }
 
-    pub full : (x ≡ none → ⊥) → k ≡ length a.next → Walked a d 4097
+    pub full : (x ≡ none → ⊥) → length a.next ≤ k → Walked a d 4097
     full n e =
         stuck (λ ys h.
         let u = passed n ys h in
@@ -66,7 +66,7 @@ module _ (a : Links) (d : ℕ) (z : Sizes a × (d < length a.heads)) where
     pub stranger : (x ≡ none → ⊥) → (get_or a.home x 0 ≡ d → ⊥) → Walked a d 4097
     stranger n e = stuck (λ ys h. e (passed n ys h).4)
 
-    pub goes : (x ≡ none → ⊥) → (k ≡ length a.next → ⊥) → x < length a.next → get_or a.prev x 0 ≡ b → get_or a.home x 0 ≡ d → Going a d x
+    pub goes : (x ≡ none → ⊥) → k < length a.next → x < length a.next → get_or a.prev x 0 ≡ b → get_or a.home x 0 ≡ d → Going a d x
         (get_or a.next x 0) (k + 1)
     goes n l i p o =
         record {

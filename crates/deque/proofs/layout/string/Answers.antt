@@ -1,5 +1,4 @@
 -- `string` meets its contract.
-use borrow.Author.Rules.{rules}
 use Rattle.std.proofs.lemmas.Grind.{common_steps}
 use native.Mathlib.Omega.{arith}
 use Rattle.deque_rules.proofs.Laying.{string_starts, string_goes, string_links, string_first}
