@@ -8,7 +8,8 @@ use crate::parts::part;
 
 const DASH: &[u8] = b"-";
 
-// What a part says: a number up to 2^64 - 1, none, or something else.
+// What a part says: a number up to 2^64 - 1, none, or something else. (A Result of an Option is no plainer: it nests what
+// are three cases with names here.)
 #[derive(Clone, Copy)]
 pub enum Number {
     Is(u64),
