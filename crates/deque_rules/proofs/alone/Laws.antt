@@ -19,11 +19,7 @@ use Rattle.deque_rules.specs.Deque.{DequeAnswer as Told, refused, nothing, value
 use Rattle.deque_rules.specs.Deque.{pop_front, move_to_back, unlink_and_drop, DequePromised as Promised, push_back as pushCall}
 use Rattle.deque_rules.specs.alone.State.{Shows}
 use Rattle.deque_rules.specs.alone.Work.{to_back}
-use Rattle.deque_rules.specs.declared.alone.Made.TheVariants.{First}
-use Rattle.deque_rules.specs.declared.alone.Pushed.TheVariants.{At}
-use Rattle.deque_rules.specs.declared.alone.Popped.TheVariants.{Node as PoppedNode, Nothing as PoppedNothing}
-use Rattle.deque_rules.specs.declared.alone.Dropped.TheVariants.{Element}
-use Rattle.deque_rules.specs.declared.alone.Done.TheVariants.{Done as Did}
+use Rattle.std.specs.Prelude.{Ok, Some, None}
 use Rattle.deque_rules.proofs.alone.Refusing.{deque_ready, push_ready, node_ready}
 use Rattle.deque_rules.proofs.alone.Keeping.{made_shows}
 use Rattle.deque_rules.proofs.alone.Relinking.{pushed_shows, released_shows, moved_shows}
@@ -105,7 +101,7 @@ next_refused a d k e =
     (same? (cursor_node a d) past_end)
 
 -- ---- make: all deques empty, all nodes free in ascending order from 0, sound
-pub make_lists : (a b : State) (free f : ℕ) → Promised make a free b (First f) → Shows b f (all_free (deques a) (nodes a)) × (f ≡ first (up_from (nodes a) 0))
+pub make_lists : (a b : State) (free f : ℕ) → Promised make a free b (Ok f) → Shows b f (all_free (deques a) (nodes a)) × (f ≡ first (up_from (nodes a) 0))
 make_lists a b free f m =
     let u = by_0 _ a b _ _ _ m.meets (not_refused_lem (f ∷ [])) in
     let z : Lent a = ⊎_elim (λ w. absurd (omega (arith, w.1, u.2))) (λ w. w.0) u.1 in
@@ -124,7 +120,7 @@ module _ (a b : State) (free : ℕ) (v : Lists) (s : Shows a free v) (d : ℕ) w
   count_of w t h = omega (arith, h, t.rep.heads_len, s.rep.heads_len)
 
   -- push back: the first free node, with the element, is the last of its deque
-  pub push_lists : (e x f : ℕ) → Promised (pushCall d e) a free b (At x f) → (v.free ≡ x ∷ rest v.free) × (element_of b x ≡ e) × Shows b f (push_back d x (taken v))
+  pub push_lists : (e x f : ℕ) → Promised (pushCall d e) a free b (Ok (record { slot = x; free = f })) → (v.free ≡ x ∷ rest v.free) × (element_of b x ≡ e) × Shows b f (push_back d x (taken v))
   push_lists e x f m =
       let u = by_0 _ a b _ _ _ m.meets (not_refused_lem (x ∷ f ∷ [])) in
       let y = push_ready a free d u.0 u.2 (record { by = u.1 }) in
@@ -140,7 +136,7 @@ module _ (a b : State) (free : ℕ) (v : Lists) (s : Shows a free v) (d : ℕ) w
       two x y z w e = (cc, cc)
 
   -- pop front: the first of the deque leaves it and is the next node to be taken; where there is none nothing happens
-  pub pop_lists : (x e f : ℕ) → Promised (pop_front d) a free b (PoppedNode x e f) → (deq v d ≡ x ∷ rest (deq v d)) × (e ≡ element_of a x) × (f ≡ x) × Shows b x
+  pub pop_lists : (x e f : ℕ) → Promised (pop_front d) a free b (Ok (Some (record { slot = x; element = e; free = f }))) → (deq v d ≡ x ∷ rest (deq v d)) × (e ≡ element_of a x) × (f ≡ x) × Shows b x
       (freed x (with_deque d (rest (deq v d)) v))
   pop_lists x e f m =
       let u = by_0 _ a b _ _ _ m.meets (not_refused_lem (x ∷ e ∷ f ∷ [])) in
@@ -166,7 +162,7 @@ module _ (a b : State) (free : ℕ) (v : Lists) (s : Shows a free v) (d : ℕ) w
       three : (x y z u w : ℕ) → values (x ∷ y ∷ z ∷ []) ≡ values (u ∷ w ∷ u ∷ []) → (x ≡ u) × (y ≡ w) × (z ≡ u)
       three x y z u w e = (cc, cc, cc)
 
-  pub pop_empty : Promised (pop_front d) a free b PoppedNothing → (deq v d ≡ []) × (b ≡ a)
+  pub pop_empty : Promised (pop_front d) a free b (Ok None) → (deq v d ≡ []) × (b ≡ a)
   pop_empty m =
       let u = by_0 _ a b _ _ _ m.meets nothing_refused in
       let y = deque_ready a free d u.0 u.2 (record { by = u.1 }) in
@@ -185,7 +181,7 @@ module _ (a b : State) (free : ℕ) (v : Lists) (s : Shows a free v) (d : ℕ) w
       no_first (x ∷ xs) p i = absurd (p x (inl refl) i)
 
   -- unlink and drop: the node leaves its deque and is the next to be taken
-  pub drop_lists : (x e f : ℕ) → Promised (unlink_and_drop d x) a free b (Element e f) → In x (deq v d) × (e ≡ element_of a x) × (f ≡ x) × Shows b x (freed x (take_out d x v))
+  pub drop_lists : (x e f : ℕ) → Promised (unlink_and_drop d x) a free b (Ok (record { element = e; free = f })) → In x (deq v d) × (e ≡ element_of a x) × (f ≡ x) × Shows b x (freed x (take_out d x v))
   drop_lists x e f m =
       let u = by_0 _ a b _ _ _ m.meets (not_refused_lem (e ∷ f ∷ [])) in
       let y = node_ready a free d u.0 u.2 x (record { by = u.1 }) in
@@ -198,7 +194,7 @@ module _ (a b : State) (free : ℕ) (v : Lists) (s : Shows a free v) (d : ℕ) w
       two x y z w e = (cc, cc)
 
   -- move to back: the node is the last of its deque, the others in their order
-  pub move_lists : (x : ℕ) → Promised (move_to_back d x) a free b Did → In x (deq v d) × Shows b free (to_back d x v)
+  pub move_lists : (x : ℕ) → Promised (move_to_back d x) a free b (Ok tt) → In x (deq v d) × Shows b free (to_back d x v)
   move_lists x m =
       let u = by_0 _ a b _ _ _ m.meets (not_refused_lem []) in
       let y = node_ready a free d u.0 u.2 x (record { by = u.1 }) in

@@ -14,7 +14,7 @@ use Rattle.numbers.proofs.Cases.{same?}
 use Rattle.deque_rules.specs.Deque.{State, state, moved_on, cursor_node, with_cursor, nothing, values, look_told}
 use Rattle.deque_rules.specs.alone.Ready.{DequeReady}
 use Rattle.deque_rules.specs.alone.Work.{LooksFront, LooksBack, Steps}
-use Rattle.deque_rules.specs.declared.alone.Looked.TheVariants.{Node as LookedNode, Nothing as LookedNothing}
+use Rattle.std.specs.Prelude.{Some, None}
 use Rattle.deque_rules.proofs.alone.Keeping.{front_in, back_in, start_stands}
 
 module _ (h t l c n p o e : List ℕ) (free d : ℕ) where
@@ -41,21 +41,21 @@ module _ (h t l c n p o e : List ℕ) (free d : ℕ) where
     real x i k = omega (arith, i, k, y.shows.rep.next_len, y.shows.rep.small)
 
     -- ---- looks
-    pub front_empty : length n ≤ get_or h d 0 → LooksFront (state h t l c n p o e) d LookedNothing
+    pub front_empty : length n ≤ get_or h d 0 → LooksFront (state h t l c n p o e) d None
     front_empty i = record { told = simp (eq-eqb (get_or h d 0) none (head_none i)) }
 
-    pub front_does : get_or h d 0 < length n → LooksFront (state h t l c n p o e) d (LookedNode (get_or h d 0) (get_or e (get_or h d 0) 0))
+    pub front_does : get_or h d 0 < length n → LooksFront (state h t l c n p o e) d (Some (record { slot = get_or h d 0; element = get_or e (get_or h d 0) 0 }))
     front_does i = record { told = simp (ne_eqb (get_or h d 0) none (real (get_or h d 0) i)) }
 
-    pub back_empty : length n ≤ get_or t d 0 → LooksBack (state h t l c n p o e) d LookedNothing
+    pub back_empty : length n ≤ get_or t d 0 → LooksBack (state h t l c n p o e) d None
     back_empty i = record { told = simp (eq-eqb (get_or t d 0) none (tail_none i)) }
 
-    pub back_does : get_or t d 0 < length n → LooksBack (state h t l c n p o e) d (LookedNode (get_or t d 0) (get_or e (get_or t d 0) 0))
+    pub back_does : get_or t d 0 < length n → LooksBack (state h t l c n p o e) d (Some (record { slot = get_or t d 0; element = get_or e (get_or t d 0) 0 }))
     back_does i = record { told = simp (ne_eqb (get_or t d 0) none (real (get_or t d 0) i)) }
 
     -- ---- next by cursor, from the node x
     pub step_ends : (x : ℕ) → x ≡ cursor_node (state h t l c n p o e) d → length n ≤ x → Steps (state h t l c n p o e) (state h t l (set c d none) n p o e) d
-        LookedNothing
+        None
     step_ends x i k =
         ⊎_elim
         (λ (m : cursor_node a d ≡ none).
@@ -79,7 +79,7 @@ module _ (h t l c n p o e : List ℕ) (free d : ℕ) where
         go z (inr m) = simp (eq-eqb z past_end m)
 
     pub step_does : (x q : ℕ) → x ≡ cursor_node (state h t l c n p o e) d → x < length n → q ≡ moved_on n x → Steps (state h t l c n p o e)
-        (state h t l (set c d q) n p o e) d (LookedNode x (get_or e x 0))
+        (state h t l (set c d q) n p o e) d (Some (record { slot = x; element = get_or e x 0 }))
     step_does x q i k j =
         let f : cursor_node a d ≡ none → ⊥ = λ z. real x k (i ∙ z) in
         let g : cursor_node a d ≡ past_end → ⊥ = λ z. omega (arith, k, i, z, y.shows.rep.next_len, y.shows.rep.small) in

@@ -13,7 +13,7 @@ use Rattle.deque_rules.specs.Change.{Pushable, PushesBack, Held, Removes, Ahead,
 use Rattle.deque_rules.specs.Deque.{State, state, moved_on, step_off, pushed, released, moved_back}
 use Rattle.deque_rules.specs.alone.State.{Shows}
 use Rattle.deque_rules.specs.alone.Ready.{DequeReady, PushReady, NodeReady}
-use Rattle.deque_rules.specs.declared.alone.Popped.TheVariants.{Node as PoppedNode, Nothing as PoppedNothing}
+use Rattle.std.specs.Prelude.{Some, None}
 use Rattle.deque_rules.proofs.alone.Keeping.{front_in}
 use Rattle.deque_rules.proofs.alone.Looking.{head_none, real}
 use Rattle.deque_rules.specs.alone.Work.{Pushes, Drops, Moves, Pops}
@@ -99,7 +99,7 @@ module _ (h t l c n p o e : List ℕ) (free d : ℕ) where
   -- ---- a deque
   module _ (y : DequeReady (state h t l c n p o e) free d) where
     -- ---- pop front
-    pub pop_empty : length n ≤ get_or h d 0 → Pops (state h t l c n p o e) (state h t l c n p o e) free d PoppedNothing
+    pub pop_empty : length n ≤ get_or h d 0 → Pops (state h t l c n p o e) (state h t l c n p o e) free d None
     pop_empty i =
         let k = head_none h t l c n p o e free d y i in
         record { is = simp (eq-eqb (get_or h d 0) none k); told = simp (eq-eqb (get_or h d 0) none k) }
@@ -111,7 +111,7 @@ module _ (h t l c n p o e : List ℕ) (free d : ℕ) where
         record { v = y.v; shows = y.shows; slot = u.0; deque = y.deque; homed = u.1 }
 
     pub pop_does : (b : State) (s r : ℕ) → s ≡ get_or h d 0 → s < length n → Drops (state h t l c n p o e) b free d s r → Pops (state h t l c n p o e) b free d
-        (PoppedNode s r s)
+        (Some (record { slot = s; element = r; free = s }))
     pop_does b s r i j k =
         let m : get_or h d 0 ≡ none → ⊥ = λ z. real h t l c n p o e free d y s j (i ∙ z) in
         record {

@@ -1,25 +1,25 @@
 -- inner: what the unchecked functions do: the equation on the records, what is told, and the law on the lists that they
 -- stand for.
-use Rattle.std.specs.Prelude.{ℕ, List, [], ◌∷◌, ◌++◌, ◌≡◌, length, replicate}
+use Rattle.std.specs.Prelude.{ℕ, List, [], ◌∷◌, ◌++◌, ◌≡◌, length, replicate, Ok, Option}
 use Rattle.deque_rules.specs.Deque.{State, front_of, back_of, stepped, next_of, element_of, pushed, released, moved_back, popped, looked_told, look_told}
 use Rattle.deque_rules.specs.Deque.{next_told, popped_told, pop_told}
 use Rattle.deque_rules.specs.Links.{Deques, deq}
 use Rattle.deque_rules.specs.Lists.{with_deque, push_back, take_out, taken, freed}
 use Rattle.deque_rules.specs.alone.State.{Shows}
-use Rattle.deque_rules.specs.declared.alone.Looked.{Looked}
-use Rattle.deque_rules.specs.declared.alone.Popped.{Popped}
+use Rattle.deque_rules.specs.declared.alone.Node.{Node}
+use Rattle.deque_rules.specs.declared.alone.Taken.{Taken}
 use Rattle.numbers.specs.Lists.{remove}
 use Rattle.numbers.specs.Shared.{no_slot}
 
-pub record LooksFront (a : State) (d : ℕ) (r : Looked) : Type 0 where
-  pub told : looked_told r ≡ look_told a (front_of a d)
+pub record LooksFront (a : State) (d : ℕ) (r : Option Node) : Type 0 where
+  pub told : looked_told (Ok r) ≡ look_told a (front_of a d)
 
-pub record LooksBack (a : State) (d : ℕ) (r : Looked) : Type 0 where
-  pub told : looked_told r ≡ look_told a (back_of a d)
+pub record LooksBack (a : State) (d : ℕ) (r : Option Node) : Type 0 where
+  pub told : looked_told (Ok r) ≡ look_told a (back_of a d)
 
-pub record Steps (a b : State) (d : ℕ) (r : Looked) : Type 0 where
+pub record Steps (a b : State) (d : ℕ) (r : Option Node) : Type 0 where
   pub is : b ≡ stepped a d
-  pub told : looked_told r ≡ next_told a d
+  pub told : looked_told (Ok r) ≡ next_told a d
 
 -- every recorded length 0 and every cursor at none
 pub record Clears (lens₀ lens cursors : List ℕ) : Type 0 where
@@ -46,6 +46,6 @@ pub record Moves (a b : State) (free d s : ℕ) : Type 0 where
   pub is : b ≡ moved_back a d s
   pub does : (v : Deques) → Shows a free v → Shows b free (to_back d s v)
 
-pub record Pops (a b : State) (free d : ℕ) (r : Popped) : Type 0 where
+pub record Pops (a b : State) (free d : ℕ) (r : Option Taken) : Type 0 where
   pub is : b ≡ popped a free d
-  pub told : popped_told r ≡ pop_told a d
+  pub told : popped_told (Ok r) ≡ pop_told a d
