@@ -1,5 +1,7 @@
 // The public calls that look, count or move a cursor: refusals in order, then the work. None asks anything of its
 // input. A refused call leaves every record as found.
+#![tactic(auto, using(deque_rules::proofs::alone::Refusing::ready))]
+
 ghost use Rattle.deque_rules.specs.Deque.{DequePromised, look_front, look_back, length_of, next_by_cursor, reset_cursor, state};
 
 use crate::NONE;
@@ -7,7 +9,7 @@ use crate::looks::{back, front, step};
 use crate::refuse::deque_refusal;
 use deque_rules::alone::{Done, Looked, Measured};
 
-// Looks at the front of the deque d: the node and its element, Nothing where the deque is empty, or refuses (4, 16).
+// Looks at the front of the deque d: the node and its element, None where the deque is empty, or refuses (4, 16).
 pub fn look_front(
     heads: &[usize],
     tails: &[usize],
@@ -24,18 +26,15 @@ pub fn look_front(
         (state heads.now tails.now lens.now cursors.now next.now prev.now home.now element.now) free
         (state heads.now tails.now lens.now cursors.now next.now prev.now home.now element.now) result }
 {
-    let no = deque_refusal(
+    deque_refusal(
         heads, tails, lens, cursors, next, prev, home, element, free, d,
-    );
-    if no != 0 {
-        return Looked::Refused(no);
-    }
-    front(
+    )?;
+    Ok(front(
         heads, tails, lens, cursors, next, prev, home, element, free, d,
-    )
+    ))
 }
 
-// Looks at the back of the deque d: the node and its element, Nothing where the deque is empty, or refuses (4, 16).
+// Looks at the back of the deque d: the node and its element, None where the deque is empty, or refuses (4, 16).
 pub fn look_back(
     heads: &[usize],
     tails: &[usize],
@@ -52,15 +51,12 @@ pub fn look_back(
         (state heads.now tails.now lens.now cursors.now next.now prev.now home.now element.now) free
         (state heads.now tails.now lens.now cursors.now next.now prev.now home.now element.now) result }
 {
-    let no = deque_refusal(
+    deque_refusal(
         heads, tails, lens, cursors, next, prev, home, element, free, d,
-    );
-    if no != 0 {
-        return Looked::Refused(no);
-    }
-    back(
+    )?;
+    Ok(back(
         heads, tails, lens, cursors, next, prev, home, element, free, d,
-    )
+    ))
 }
 
 // The length of the deque d, or refuses (4, 16).
@@ -80,17 +76,13 @@ pub fn length_of(
         (state heads.now tails.now lens.now cursors.now next.now prev.now home.now element.now) free
         (state heads.now tails.now lens.now cursors.now next.now prev.now home.now element.now) result }
 {
-    let no = deque_refusal(
+    deque_refusal(
         heads, tails, lens, cursors, next, prev, home, element, free, d,
-    );
-    if no != 0 {
-        return Measured::Refused(no);
-    }
-    let n = lens[d];
-    Measured::Length(n)
+    )?;
+    Ok(lens[d])
 }
 
-// The node at the cursor of the deque d, which starts at the head and moves on; after the last Nothing once. Refuses
+// The node at the cursor of the deque d, which starts at the head and moves on; after the last None once. Refuses
 // (4, 16).
 pub fn next_by_cursor(
     heads: &[usize],
@@ -108,15 +100,12 @@ pub fn next_by_cursor(
         (state heads.now tails.now lens.now cursors.old next.now prev.now home.now element.now) free
         (state heads.now tails.now lens.now cursors.new next.now prev.now home.now element.now) result }
 {
-    let no = deque_refusal(
+    deque_refusal(
         heads, tails, lens, cursors, next, prev, home, element, free, d,
-    );
-    if no != 0 {
-        return Looked::Refused(no);
-    }
-    step(
+    )?;
+    Ok(step(
         heads, tails, lens, cursors, next, prev, home, element, free, d,
-    )
+    ))
 }
 
 // Puts the cursor of the deque d back to none, or refuses (4, 16).
@@ -136,12 +125,9 @@ pub fn reset_cursor(
         (state heads.now tails.now lens.now cursors.old next.now prev.now home.now element.now) free
         (state heads.now tails.now lens.now cursors.new next.now prev.now home.now element.now) result }
 {
-    let no = deque_refusal(
+    deque_refusal(
         heads, tails, lens, cursors, next, prev, home, element, free, d,
-    );
-    if no != 0 {
-        return Done::Refused(no);
-    }
+    )?;
     cursors[d] = NONE;
-    Done::Done
+    Ok(())
 }

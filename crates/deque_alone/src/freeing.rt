@@ -1,12 +1,14 @@
 // The public calls that take a node out and free it: refusals in order, then the work. None asks anything of its input.
 // A refused call leaves every record as found.
+#![tactic(auto, using(deque_rules::proofs::alone::Refusing::ready))]
+
 ghost use Rattle.deque_rules.specs.Deque.{DequePromised, pop_front, unlink_and_drop, state};
 
 use crate::refuse::{deque_refusal, node_refusal};
 use crate::unchecked::{pop, release};
-use deque_rules::alone::{Dropped, Popped};
+use deque_rules::alone::{Dropped, Freed, Popped};
 
-// Takes the front of the deque d out and frees its node. Answers the node and its element, Nothing where the deque is
+// Takes the front of the deque d out and frees its node. Answers the node and its element, None where the deque is
 // empty, or refuses (4, 16).
 pub fn pop_front(
     heads: &mut [usize],
@@ -24,15 +26,12 @@ pub fn pop_front(
         (state heads.old tails.old lens.old cursors.old next.old prev.old home.old element.old) free
         (state heads.new tails.new lens.new cursors.new next.new prev.new home.new element.new) result }
 {
-    let no = deque_refusal(
+    deque_refusal(
         heads, tails, lens, cursors, next, prev, home, element, free, d,
-    );
-    if no != 0 {
-        return Popped::Refused(no);
-    }
-    pop(
+    )?;
+    Ok(pop(
         heads, tails, lens, cursors, next, prev, home, element, free, d,
-    )
+    ))
 }
 
 // Unlinks the node s of the deque d and frees it. Answers its element, or refuses (4, 16, 17).
@@ -53,17 +52,11 @@ pub fn unlink_and_drop(
         (state heads.old tails.old lens.old cursors.old next.old prev.old home.old element.old) free
         (state heads.new tails.new lens.new cursors.new next.new prev.new home.new element.new) result }
 {
-    let no = node_refusal(
+    node_refusal(
+        heads, tails, lens, cursors, next, prev, home, element, free, d, s,
+    )?;
+    let element = release(
         heads, tails, lens, cursors, next, prev, home, element, free, d, s,
     );
-    if no != 0 {
-        return Dropped::Refused(no);
-    }
-    let e = release(
-        heads, tails, lens, cursors, next, prev, home, element, free, d, s,
-    );
-    Dropped::Element {
-        element: e,
-        free: s,
-    }
+    Ok(Freed { element, free: s })
 }

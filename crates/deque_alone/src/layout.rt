@@ -9,21 +9,13 @@ pub fn clear(lens: &mut [usize], cursors: &mut [usize])
     requires { length cursors.old ≡ length lens.old }
     ensures { Clears lens.old lens.new cursors.new }
 {
-    let mut d: usize = 0;
-    while d < lens.len() {
-        lens[d] = 0;
-        cursors[d] = NONE;
-        d += 1;
-    }
+    lens.fill(0);
+    cursors.fill(NONE);
 }
 
 // Every element 0.
 pub fn zero(element: &mut [u64])
     ensures { element.new ≡ replicate (length element.old) 0 }
 {
-    let mut s: usize = 0;
-    while s < element.len() {
-        element[s] = 0;
-        s += 1;
-    }
+    element.fill(0);
 }

@@ -18,5 +18,7 @@ pub use crate::asking::{length_of, look_back, look_front, next_by_cursor, reset_
 pub use crate::freeing::{pop_front, unlink_and_drop};
 pub use crate::linking::{move_to_back, push_back};
 pub use crate::making::make;
-pub use deque_rules::alone::{Done, Dropped, Looked, Made, Measured, Popped, Pushed};
+pub use deque_rules::alone::{
+    Done, Dropped, Freed, Looked, Made, Measured, Node, Placed, Popped, Pushed, Taken,
+};
 pub use numbers::slots::{NONE, PAST_END};

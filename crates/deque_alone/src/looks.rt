@@ -3,10 +3,10 @@
 ghost use Rattle.std.specs.Prelude.{◌<◌, ◌≡◌, length};
 ghost use Rattle.deque_rules.specs.Deque.{state, moved_on, start_at};
 ghost use Rattle.deque_rules.specs.alone.Ready.{DequeReady};
-ghost use Rattle.deque_rules.specs.alone.Work.{LooksFront, LooksBack, Steps};
+ghost use Rattle.deque_rules.specs.alone.Work.{ReadsNode, LooksFront, LooksBack, Steps};
 
 use crate::{NONE, PAST_END};
-use deque_rules::alone::Looked;
+use deque_rules::alone::Node;
 
 // Where the cursor goes from the node s: to the node after it, or past the end.
 pub fn moved_on(next: &[usize], s: usize) -> usize
@@ -14,10 +14,15 @@ pub fn moved_on(next: &[usize], s: usize) -> usize
     ensures { result ≡ moved_on next.now s }
 {
     let q = next[s];
-    if q == NONE {
-        return PAST_END;
-    }
-    q
+    if q == NONE { PAST_END } else { q }
+}
+
+// The node x with its element, if it is one.
+fn node_at(element: &[u64], x: usize) -> Option<Node>
+    ensures { ReadsNode element.now x result }
+{
+    let element = *element.get(x)?;
+    Some(Node { slot: x, element })
 }
 
 // The front of the deque d, if there is one.
@@ -32,20 +37,13 @@ pub fn front(
     element: &[u64],
     free: usize,
     d: usize,
-) -> Looked
+) -> Option<Node>
     requires { DequeReady (state heads.now tails.now lens.now cursors.now next.now prev.now home.now element.now) free
         d }
     ensures { LooksFront (state heads.now tails.now lens.now cursors.now next.now prev.now home.now element.now) d
         result }
 {
-    let x = heads[d];
-    if next.len() <= x {
-        return Looked::Nothing;
-    }
-    Looked::Node {
-        slot: x,
-        element: element[x],
-    }
+    node_at(element, heads[d])
 }
 
 // The back of the deque d, if there is one.
@@ -60,20 +58,13 @@ pub fn back(
     element: &[u64],
     free: usize,
     d: usize,
-) -> Looked
+) -> Option<Node>
     requires { DequeReady (state heads.now tails.now lens.now cursors.now next.now prev.now home.now element.now) free
         d }
     ensures { LooksBack (state heads.now tails.now lens.now cursors.now next.now prev.now home.now element.now) d
         result }
 {
-    let x = tails[d];
-    if next.len() <= x {
-        return Looked::Nothing;
-    }
-    Looked::Node {
-        slot: x,
-        element: element[x],
-    }
+    node_at(element, tails[d])
 }
 
 // The node that next by cursor answers: the cursor's, or the head where the cursor stands at none. Past the end, and in
@@ -83,10 +74,7 @@ fn start(heads: &[usize], cursors: &[usize], d: usize) -> usize
     ensures { result ≡ start_at heads.now cursors.now d }
 {
     let c = cursors[d];
-    if c == NONE {
-        return heads[d];
-    }
-    c
+    if c == NONE { heads[d] } else { c }
 }
 
 // Next by cursor: the node at the cursor, which starts at the head; from past the end, and where there is no node, back
@@ -102,7 +90,7 @@ pub fn step(
     element: &[u64],
     free: usize,
     d: usize,
-) -> Looked
+) -> Option<Node>
     requires { DequeReady (state heads.now tails.now lens.now cursors.old next.now prev.now home.now element.now) free
         d }
     ensures { Steps (state heads.now tails.now lens.now cursors.old next.now prev.now home.now element.now)
@@ -111,11 +99,11 @@ pub fn step(
     let s = start(heads, cursors, d);
     if next.len() <= s {
         cursors[d] = NONE;
-        return Looked::Nothing;
+        return None;
     }
     cursors[d] = moved_on(next, s);
-    Looked::Node {
+    Some(Node {
         slot: s,
         element: element[s],
-    }
+    })
 }

@@ -6,6 +6,7 @@ use crate::layout::{clear, zero};
 use crate::sound::lent;
 use deque::layout::lay_out;
 use deque_rules::alone::Made;
+use numbers::refusals::Refusal;
 
 // Makes heads.len() empty deques over next.len() free nodes, whatever the records held. Answers the first free node, or
 // refuses (3).
@@ -24,10 +25,9 @@ pub fn make(
         (state heads.new tails.new lens.new cursors.new next.new prev.new home.new element.new) result }
 {
     if !lent(heads, tails, lens, cursors, next, prev, home, element) {
-        return Made::Refused(3);
+        return Err(Refusal::LengthsOutOfRange);
     }
     clear(lens, cursors);
     zero(element);
-    let free = lay_out(heads, tails, next, prev, home);
-    Made::First(free)
+    Ok(lay_out(heads, tails, next, prev, home))
 }

@@ -1,9 +1,11 @@
-// Which refusal applies: the lowest number of 01 whose row holds, or 0. Each reads the records and changes nothing.
+// Which refusal applies: that of the lowest number of 01 whose row holds. Each reads the records and changes nothing.
 ghost use Rattle.deque_rules.specs.Deque.{state};
 ghost use Rattle.deque_rules.specs.alone.Refuse.{RefusesDeque, RefusesPush, RefusesNode};
+ghost use Rattle.numbers.specs.Refusals.{refusal_in};
 
 use crate::NONE;
 use crate::sound::sound;
+use numbers::refusals::Refusal;
 
 // Length, pop front, looks, next by cursor, reset cursor: 4, 16.
 pub fn deque_refusal(
@@ -17,17 +19,17 @@ pub fn deque_refusal(
     element: &[u64],
     free: usize,
     d: usize,
-) -> u32
+) -> Result<(), Refusal>
     ensures { RefusesDeque (state heads.now tails.now lens.now cursors.now next.now prev.now home.now element.now)
-        free d result }
+        free d (refusal_in result) }
 {
     if !sound(heads, tails, lens, cursors, next, prev, home, element, free) {
-        return 4;
+        return Err(Refusal::NotSound);
     }
     if heads.len() <= d {
-        return 16;
+        return Err(Refusal::NoSuchDeque);
     }
-    0
+    Ok(())
 }
 
 // Push back: 4, 10, 16.
@@ -42,20 +44,20 @@ pub fn push_refusal(
     element: &[u64],
     free: usize,
     d: usize,
-) -> u32
+) -> Result<(), Refusal>
     ensures { RefusesPush (state heads.now tails.now lens.now cursors.now next.now prev.now home.now element.now) free
-        d result }
+        d (refusal_in result) }
 {
     if !sound(heads, tails, lens, cursors, next, prev, home, element, free) {
-        return 4;
+        return Err(Refusal::NotSound);
     }
     if free == NONE {
-        return 10;
+        return Err(Refusal::NoFreeSlot);
     }
     if heads.len() <= d {
-        return 16;
+        return Err(Refusal::NoSuchDeque);
     }
-    0
+    Ok(())
 }
 
 // Move to back, unlink and drop: 4, 16, 17.
@@ -71,21 +73,18 @@ pub fn node_refusal(
     free: usize,
     d: usize,
     s: usize,
-) -> u32
+) -> Result<(), Refusal>
     ensures { RefusesNode (state heads.now tails.now lens.now cursors.now next.now prev.now home.now element.now) free
-        d s result }
+        d s (refusal_in result) }
 {
     if !sound(heads, tails, lens, cursors, next, prev, home, element, free) {
-        return 4;
+        return Err(Refusal::NotSound);
     }
     if heads.len() <= d {
-        return 16;
+        return Err(Refusal::NoSuchDeque);
     }
-    if home.len() <= s {
-        return 17;
+    if home.len() <= s || home[s] != d {
+        return Err(Refusal::NotInThisDeque);
     }
-    if home[s] != d {
-        return 17;
-    }
-    0
+    Ok(())
 }

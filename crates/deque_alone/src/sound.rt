@@ -100,8 +100,7 @@ pub fn sound(
         return false;
     }
     let mut total: usize = 0;
-    let mut d: usize = 0;
-    while d < heads.len() {
+    for d in 0..heads.len() {
         let c = walk(heads, tails, next, prev, home, d);
         if NONE < c {
             return false;
@@ -113,7 +112,6 @@ pub fn sound(
             return false;
         }
         total += c;
-        d += 1;
     }
     let c = walk_free(next, home, free);
     if NONE < c {

@@ -8,17 +8,16 @@ ghost use Rattle.deque_rules.specs.alone.Work.{Pushes, Drops, Moves, Pops};
 use crate::looks::moved_on;
 pub use crate::looks::{back, front, step};
 use deque::change::{move_to_back, remove};
-use deque_rules::alone::Popped;
+use deque_rules::alone::Taken;
 
 // Moves the cursor of the deque d on if it stands at s.
 fn step_off(cursors: &mut [usize], next: &[usize], d: usize, s: usize)
     requires { (d < length cursors.old) × (s < length next.now) }
     ensures { cursors.new ≡ step_off cursors.old next.now d s }
 {
-    if cursors[d] != s {
-        return;
+    if cursors[d] == s {
+        cursors[d] = moved_on(next, s);
     }
-    cursors[d] = moved_on(next, s);
 }
 
 // Push back, where a node is free and d is a deque. Answers the first free node then.
@@ -85,24 +84,24 @@ pub fn pop(
     element: &mut [u64],
     free: usize,
     d: usize,
-) -> Popped
+) -> Option<Taken>
     requires { DequeReady (state heads.old tails.old lens.old cursors.old next.old prev.old home.old element.old) free
         d }
     ensures { Pops (state heads.old tails.old lens.old cursors.old next.old prev.old home.old element.old)
         (state heads.new tails.new lens.new cursors.new next.new prev.new home.new element.new) free d result }
 {
-    let s = heads[d];
-    if next.len() <= s {
-        return Popped::Nothing;
+    let slot = heads[d];
+    if next.len() <= slot {
+        return None;
     }
-    let e = release(
-        heads, tails, lens, cursors, next, prev, home, element, free, d, s,
+    let element = release(
+        heads, tails, lens, cursors, next, prev, home, element, free, d, slot,
     );
-    Popped::Node {
-        slot: s,
-        element: e,
-        free: s,
-    }
+    Some(Taken {
+        slot,
+        element,
+        free: slot,
+    })
 }
 
 // Moves the node s of the deque d to its back. The tail stays where it is, and the cursor on it too.

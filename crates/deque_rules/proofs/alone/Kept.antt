@@ -60,7 +60,7 @@ module _ (a b : State) (free : ℕ) (s : Sound a free) where
     by_deque after answer then f m =
         ⊎_elim
         (λ (z : m.number ≡ 0).
-        let y = deque_ready a free d m.number z (record { by = m.by }) in
+        let y = deque_ready a free d (record { by = subst (deque_rows a free d) z m.by }) in
         rw (m.result z).1 (shows_sound _ free _ (f y.v y.shows y.deque)))
         (λ (z : m.number ≡ 0 → ⊥). same (m.refusal z).1)
         (same? m.number 0)

@@ -1,6 +1,6 @@
 -- inner: what the unchecked functions do: the equation on the records, what is told, and the law on the lists that they
 -- stand for.
-use Rattle.std.specs.Prelude.{ℕ, List, [], ◌∷◌, ◌++◌, ◌≡◌, length, replicate, Ok, Option}
+use Rattle.std.specs.Prelude.{ℕ, ◌<◌, ◌≤◌, List, [], ◌∷◌, ◌++◌, ◌≡◌, length, get_or, replicate, Ok, Option, Some, None}
 use Rattle.deque_rules.specs.Deque.{State, front_of, back_of, stepped, next_of, element_of, pushed, released, moved_back, popped, looked_told, look_told}
 use Rattle.deque_rules.specs.Deque.{next_told, popped_told, pop_told}
 use Rattle.deque_rules.specs.Links.{Deques, deq}
@@ -10,6 +10,11 @@ use Rattle.deque_rules.specs.declared.alone.Node.{Node}
 use Rattle.deque_rules.specs.declared.alone.Taken.{Taken}
 use Rattle.numbers.specs.Lists.{remove}
 use Rattle.numbers.specs.Shared.{no_slot}
+
+-- the node x with its element, if it is one
+pub record ReadsNode (elements : List ℕ) (x : ℕ) (r : Option Node) : Type 0 where
+  pub node : x < length elements → r ≡ Some (record { slot = x; element = get_or elements x 0 })
+  pub none : length elements ≤ x → r ≡ None
 
 pub record LooksFront (a : State) (d : ℕ) (r : Option Node) : Type 0 where
   pub told : looked_told (Ok r) ≡ look_told a (front_of a d)

@@ -1,13 +1,9 @@
 -- `move_to_back` meets its promise.
-use Rattle.deque_rules.proofs.alone.Calling.{move_no, move_yes}
-use Rattle.deque_rules.proofs.alone.Refusing.{node_ready}
+use Rattle.std.proofs.Common.{rules, ◌≡◌, Err}
+use Rattle.deque_rules.proofs.alone.Calling.{move_no}
 use Rattle.deque_alone.proofs.linking.move_to_back.Goals as goal
 
-pub returns-then-no-ne0 : goal.returns-then-no-ne0
-returns-then-no-ne0 c = search move_no
-
-pub shift-requires : goal.shift-requires
-shift-requires c = search node_ready
-
-pub returns : goal.returns
-returns c = search move_yes
+pub returns-in_err-node_refusal : goal.returns-in_err-node_refusal
+returns-in_err-node_refusal c =
+    let e : c.from_residual.result ≡ Err c.in_err-node_refusal.field-0.0 = search rules in
+    rw e (move_no _ _ _ _ _ c.in_err-node_refusal.ensures)

@@ -10,8 +10,8 @@ returns-then-not-lent c = λ free. search make_no
 pub clear-requires : goal.clear-requires
 clear-requires c = search make_clears
 
-pub lay_out-free-requires : goal.lay_out-free-requires
-lay_out-free-requires c = make_sizes _ _ _ _ _ _ _ _ _ c.lent.ensures (ap not c.if-not-lent.false)
+pub lay_out-requires : goal.lay_out-requires
+lay_out-requires c = make_sizes _ _ _ _ _ _ _ _ _ c.lent.ensures (ap not c.if-not-lent.false)
 
 pub returns : goal.returns
 returns c =
@@ -19,4 +19,4 @@ returns c =
     make_yes _ _ _ _ _ _ _ _ _ c.lent.ensures
     (ap not c.if-not-lent.false)
     _ _ _ _ _ _ _ _ free _ c.clear.ensures
-    c.zero.ensures c.lay_out-free.ensures
+    c.zero.ensures c.lay_out.ensures
