@@ -1,10 +1,12 @@
 // For proved code only, unchecked: looks at the ends and the cursor, on records known to be sound. A caller shows that
 // the records are sound (or tests it once).
 ghost use Rattle.std.specs.Prelude.{◌<◌, ◌≡◌, length};
-ghost use Rattle.deque_rules.specs.Deque.{state, moved_on, start_at};
+ghost use Rattle.deque_rules.specs.Deque.{moved_on, start_at};
 ghost use Rattle.deque_rules.specs.alone.Ready.{DequeReady};
 ghost use Rattle.deque_rules.specs.alone.Work.{ReadsNode, LooksFront, LooksBack, Steps};
+ghost use Rattle.deque_alone.specs.Slices.{state_of};
 
+use crate::lending::Deques;
 use crate::{NONE, PAST_END};
 use deque_rules::alone::Node;
 
@@ -25,48 +27,6 @@ fn node_at(element: &[u64], x: usize) -> Option<Node>
     Some(Node { slot: x, element })
 }
 
-// The front of the deque d, if there is one.
-pub fn front(
-    heads: &[usize],
-    tails: &[usize],
-    lens: &[usize],
-    cursors: &[usize],
-    next: &[usize],
-    prev: &[usize],
-    home: &[usize],
-    element: &[u64],
-    free: usize,
-    d: usize,
-) -> Option<Node>
-    requires { DequeReady (state heads.now tails.now lens.now cursors.now next.now prev.now home.now element.now) free
-        d }
-    ensures { LooksFront (state heads.now tails.now lens.now cursors.now next.now prev.now home.now element.now) d
-        result }
-{
-    node_at(element, heads[d])
-}
-
-// The back of the deque d, if there is one.
-pub fn back(
-    heads: &[usize],
-    tails: &[usize],
-    lens: &[usize],
-    cursors: &[usize],
-    next: &[usize],
-    prev: &[usize],
-    home: &[usize],
-    element: &[u64],
-    free: usize,
-    d: usize,
-) -> Option<Node>
-    requires { DequeReady (state heads.now tails.now lens.now cursors.now next.now prev.now home.now element.now) free
-        d }
-    ensures { LooksBack (state heads.now tails.now lens.now cursors.now next.now prev.now home.now element.now) d
-        result }
-{
-    node_at(element, tails[d])
-}
-
 // The node that next by cursor answers: the cursor's, or the head where the cursor stands at none. Past the end, and in
 // an empty deque, no node.
 fn start(heads: &[usize], cursors: &[usize], d: usize) -> usize
@@ -77,33 +37,38 @@ fn start(heads: &[usize], cursors: &[usize], d: usize) -> usize
     if c == NONE { heads[d] } else { c }
 }
 
-// Next by cursor: the node at the cursor, which starts at the head; from past the end, and where there is no node, back
-// to none.
-pub fn step(
-    heads: &[usize],
-    tails: &[usize],
-    lens: &[usize],
-    cursors: &mut [usize],
-    next: &[usize],
-    prev: &[usize],
-    home: &[usize],
-    element: &[u64],
-    free: usize,
-    d: usize,
-) -> Option<Node>
-    requires { DequeReady (state heads.now tails.now lens.now cursors.old next.now prev.now home.now element.now) free
-        d }
-    ensures { Steps (state heads.now tails.now lens.now cursors.old next.now prev.now home.now element.now)
-        (state heads.now tails.now lens.now cursors.new next.now prev.now home.now element.now) d result }
-{
-    let s = start(heads, cursors, d);
-    if next.len() <= s {
-        cursors[d] = NONE;
-        return None;
+impl Deques<'_> {
+    // The front of the deque d, if there is one.
+    pub fn front(self, cursors: &[usize], free: usize, d: usize) -> Option<Node>
+        requires { DequeReady (state_of self cursors.now) free d }
+        ensures { LooksFront (state_of self.entry cursors.now) d result }
+    {
+        node_at(self.element, self.links.heads[d])
     }
-    cursors[d] = moved_on(next, s);
-    Some(Node {
-        slot: s,
-        element: element[s],
-    })
+
+    // The back of the deque d, if there is one.
+    pub fn back(self, cursors: &[usize], free: usize, d: usize) -> Option<Node>
+        requires { DequeReady (state_of self cursors.now) free d }
+        ensures { LooksBack (state_of self.entry cursors.now) d result }
+    {
+        node_at(self.element, self.links.tails[d])
+    }
+
+    // Next by cursor: the node at the cursor, which starts at the head; from past the end, and where there is no node,
+    // back to none.
+    pub fn step(self, cursors: &mut [usize], free: usize, d: usize) -> Option<Node>
+        requires { DequeReady (state_of self cursors.old) free d }
+        ensures { Steps (state_of self.entry cursors.old) (state_of self.entry cursors.new) d result }
+    {
+        let s = start(self.links.heads, cursors, d);
+        if self.links.next.len() <= s {
+            cursors[d] = NONE;
+            return None;
+        }
+        cursors[d] = moved_on(self.links.next, s);
+        Some(Node {
+            slot: s,
+            element: self.element[s],
+        })
+    }
 }

@@ -1,12 +1,9 @@
 -- `shift` meets its contract.
-use Rattle.deque_rules.proofs.alone.Working.{shift_stays, node_ahead, shift_does}
+use Rattle.deque_rules.proofs.alone.Working.{shift_stays, shift_does}
 use Rattle.deque_alone.proofs.unchecked.shift.Goals as goal
 
-pub returns-then-tails-d : goal.returns-then-tails-d
-returns-then-tails-d c = search shift_stays
+pub returns-then-links-d-clause-does : goal.returns-then-links-d-clause-does
+returns-then-links-d-clause-does c = search shift_stays
 
-pub move_to_back-requires : goal.move_to_back-requires
-move_to_back-requires c = search node_ahead
-
-pub returns : goal.returns
-returns c = search shift_does
+pub returns-clause-does : goal.returns-clause-does
+returns-clause-does c = let moved = rw c.as_read.ensures.next at c.step_off.ensures in search shift_does
