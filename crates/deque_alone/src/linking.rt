@@ -9,7 +9,7 @@ ghost use Rattle.deque.specs.Slices.{links_of, links_now, SameSlices};
 ghost use Rattle.deque_alone.specs.Slices.{records, state_now, SameDeques};
 
 use crate::lending::{Deques, DequesMut};
-use crate::unchecked::shift;
+use crate::unchecked::{shift, to_back};
 use deque::linked::{Linked, LinkedMut};
 use deque_rules::alone::{Done, Placed, Pushed};
 use numbers::refusals::Refusal;
@@ -28,10 +28,20 @@ impl DequesMut<'_> {
             free: rest,
         })
     }
+
+    // Moves the node s of the deque d to its back, or refuses (4, 16, 17).
+    pub fn move_to_back(&mut self, cursors: &mut [usize], free: usize, d: usize, s: usize) -> Done
+        ensures does { DequePromised (move_to_back d s) (state_now self.old cursors.old) free
+            (state_now self.new cursors.new) result }
+        ensures same { SameDeques self.old self.new }
+    {
+        self.as_read().node_refusal(cursors, free, d, s)?;
+        to_back(&mut self.links, cursors, d, s);
+        Ok(())
+    }
 }
 
-// Moves the node s of the deque d to its back, or refuses (4, 16, 17). It writes no length and no element: to take them
-// in a `DequesMut` would ask more of a caller.
+// The same on lengths and elements that are lent for reading: a move writes none.
 pub fn move_to_back(
     links: &mut LinkedMut<'_>,
     lens: &[usize],

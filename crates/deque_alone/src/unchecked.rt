@@ -1,9 +1,10 @@
 // For proved code only, unchecked: the work of the calls that link and unlink nodes, on records known to be sound. A
 // caller shows that the records are sound (or tests it once).
 ghost use Rattle.std.specs.Prelude.{◌<◌, ◌≡◌, length};
+ghost use Rattle.deque_rules.specs.Change.{HeldBy};
 ghost use Rattle.deque_rules.specs.Deque.{step_off};
 ghost use Rattle.deque_rules.specs.alone.Ready.{DequeReady, PushReady, NodeReady};
-ghost use Rattle.deque_rules.specs.alone.Work.{Pushes, Drops, Moves, Pops};
+ghost use Rattle.deque_rules.specs.alone.Work.{Pushes, Drops, Moves, Pops, Shifts};
 ghost use Rattle.deque.specs.Slices.{links_now, SameSlices};
 ghost use Rattle.deque_alone.specs.Slices.{records, state_now, SameDeques};
 
@@ -81,6 +82,15 @@ pub fn shift(
     requires { NodeReady (records (links_now links.old) lens.now cursors.old element.now) free d s }
     ensures does { Moves (records (links_now links.old) lens.now cursors.old element.now)
         (records (links_now links.new) lens.now cursors.new element.now) free d s }
+    ensures same { SameSlices links.old links.new }
+{
+    to_back(links, cursors, d, s);
+}
+
+// What a move writes.
+pub(crate) fn to_back(links: &mut LinkedMut<'_>, cursors: &mut [usize], d: usize, s: usize)
+    requires { HeldBy (links_now links.old) d s × (d < length cursors.old) }
+    ensures does { Shifts (links_now links.old) cursors.old (links_now links.new) cursors.new d s }
     ensures same { SameSlices links.old links.new }
 {
     if links.tails[d] == s {

@@ -1,9 +1,9 @@
 -- inner: what the unchecked functions do: the equation on the records, what is told, and the law on the lists that they
 -- stand for.
 use Rattle.std.specs.Prelude.{ℕ, ◌<◌, ◌≤◌, List, [], ◌∷◌, ◌++◌, ◌≡◌, length, get_or, Ok, Option, Some, None}
-use Rattle.deque_rules.specs.Deque.{State, front_of, back_of, stepped, next_of, element_of, pushed, released, moved_back, popped, looked_told, look_told}
+use Rattle.deque_rules.specs.Deque.{State, front_of, back_of, stepped, next_of, element_of, pushed, released, moved_back, step_off, popped, looked_told, look_told}
 use Rattle.deque_rules.specs.Deque.{next_told, popped_told, pop_told}
-use Rattle.deque_rules.specs.Links.{Deques, deq}
+use Rattle.deque_rules.specs.Links.{Links, Deques, deq, move_back}
 use Rattle.deque_rules.specs.Lists.{with_deque, push_back, take_out, taken, freed}
 use Rattle.deque_rules.specs.alone.State.{Shows}
 use Rattle.deque_rules.specs.declared.alone.Node.{Node}
@@ -44,6 +44,11 @@ pub record Drops (a b : State) (free d s r : ℕ) : Type 0 where
 pub record Moves (a b : State) (free d s : ℕ) : Type 0 where
   pub is : b ≡ moved_back a d s
   pub does : (v : Deques) → Shows a free v → Shows b free (to_back d s v)
+
+-- a move in the links and the cursors: the tail stays where it is, and the cursor on it too
+pub record Shifts (a : Links) (c : List ℕ) (b : Links) (c' : List ℕ) (d s : ℕ) : Type 0 where
+  pub stays : get_or a.tails d 0 ≡ s → (b ≡ a) × (c' ≡ c)
+  pub moves : (get_or a.tails d 0 ≡ s → ⊥) → (b ≡ move_back a d s) × (c' ≡ step_off c a.next d s)
 
 pub record Pops (a b : State) (free d : ℕ) (r : Option Taken) : Type 0 where
   pub is : b ≡ popped a free d

@@ -1,9 +1,9 @@
 -- `shift` meets its contract.
-use Rattle.deque_rules.proofs.alone.Working.{shift_stays, shift_does}
+use Rattle.deque_rules.proofs.alone.Working.{shift_asks, shift_does}
 use Rattle.deque_alone.proofs.unchecked.shift.Goals as goal
 
-pub returns-then-links-d-clause-does : goal.returns-then-links-d-clause-does
-returns-then-links-d-clause-does c = search shift_stays
+pub to_back-requires : goal.to_back-requires
+to_back-requires c = search shift_asks
 
 pub returns-clause-does : goal.returns-clause-does
-returns-clause-does c = let moved = rw c.as_read.ensures.next at c.step_off.ensures in search shift_does
+returns-clause-does c = search shift_does
