@@ -8,27 +8,16 @@ use sketch_rules::Sketch;
 pub fn is_sound(lent: usize, sketch: Sketch) -> bool
     ensures { result ≡ sound lent sketch }
 {
-    let used = sketch.used;
-    let sample = sketch.sample;
-    let size = sketch.size;
+    let Sketch { used, sample, size } = sketch;
+    let words = used as u64;
+    let capacity = sample / 10;
     if used == 0 {
         return sample == 0 && size == 0;
     }
-    if lent < used {
-        return false;
-    }
-    if !numbers::is_power(used as u64) {
-        return false;
-    }
-    let capacity = sample / 10;
-    if sample % 10 != 0 {
-        return false;
-    }
-    if capacity <= used as u64 / 2 {
-        return false;
-    }
-    if capacity > used as u64 {
-        return false;
-    }
-    size < sample
+    used <= lent
+        && numbers::is_power(words)
+        && sample % 10 == 0
+        && words / 2 < capacity
+        && capacity <= words
+        && size < sample
 }
