@@ -6,12 +6,6 @@ ghost use Rattle.std.specs.Prelude.{◌<◌, ◌≡◌};
 ghost use Rattle.wheel_rules.specs.Lent.{Decides, SerialsDiffer};
 ghost use Rattle.wheel_rules.specs.sound.Filing.{Walkable, Met, Fileable, Files, Sized};
 
-fn wide(x: u16) -> usize
-    ensures { result ≡ x }
-{
-    x as usize
-}
-
 // Whether a slot with the wanted serial is filed at the slot `latest` or before it.
 pub fn is_met(before: &[u16; 4096], serial: &[u64], latest: usize, wanted: u64) -> bool
     requires { Walkable before.now serial.now latest }
@@ -22,7 +16,7 @@ pub fn is_met(before: &[u16; 4096], serial: &[u64], latest: usize, wanted: u64) 
         if serial[y] == wanted {
             return true;
         }
-        y = wide(before[y]);
+        y = usize::from(before[y]);
     }
     false
 }
@@ -45,7 +39,7 @@ pub fn file(
     let wanted = serial[x];
     let k = (wanted % 4096) as usize;
     let y = latest[k];
-    if is_met(before, serial, wide(y), wanted) {
+    if is_met(before, serial, usize::from(y), wanted) {
         return false;
     }
     before[x] = y;
@@ -60,12 +54,10 @@ pub fn serials_differ(bucket: &[usize], serial: &[u64], total: usize) -> bool
 {
     let mut latest = [0u16; 4096];
     let mut before = [0u16; 4096];
-    let mut x = total;
-    while x < bucket.len() {
+    for x in total..bucket.len() {
         if !file(&mut latest, &mut before, bucket, serial, total, x) {
             return false;
         }
-        x += 1;
     }
     true
 }

@@ -11,24 +11,20 @@ pub fn has_kind(total: usize, x: usize, b: usize) -> bool
     ensures { Decides (KindAt total x b) result }
 {
     if x < total {
-        return b == x;
+        b == x
+    } else {
+        b < total || b == NONE
     }
-    if b < total {
-        return true;
-    }
-    b == NONE
 }
 
 // Whether each slot is a sentinel, armed or free.
 pub fn kinds(bucket: &[usize], total: usize) -> bool
     ensures { Decides (Kinds total bucket.now) result }
 {
-    let mut x: usize = 0;
-    while x < bucket.len() {
-        if !has_kind(total, x, bucket[x]) {
+    for (x, b) in bucket.iter().enumerate() {
+        if !has_kind(total, x, *b) {
             return false;
         }
-        x += 1;
     }
     true
 }
@@ -37,10 +33,7 @@ pub fn kinds(bucket: &[usize], total: usize) -> bool
 pub fn has_entry(total: usize, b: usize, e: usize, entries: usize) -> bool
     ensures { Decides (BoundAt total b e entries) result }
 {
-    if b < total {
-        return e < entries;
-    }
-    true
+    total <= b || e < entries
 }
 
 // Whether the entries of armed slots exist.
@@ -48,12 +41,10 @@ pub fn entries_exist(bucket: &[usize], entry: &[usize], total: usize, entries: u
     requires { length entry.now ≡ length bucket.now }
     ensures { Decides (EntriesExist total entries bucket.now entry.now) result }
 {
-    let mut x = total;
-    while x < bucket.len() {
+    for x in total..bucket.len() {
         if !has_entry(total, bucket[x], entry[x], entries) {
             return false;
         }
-        x += 1;
     }
     true
 }
@@ -62,10 +53,7 @@ pub fn entries_exist(bucket: &[usize], entry: &[usize], total: usize, entries: u
 pub fn has_serial(total: usize, b: usize, s: u64, next: u64) -> bool
     ensures { Decides (BoundAt total b s next) result }
 {
-    if b < total {
-        return s < next;
-    }
-    true
+    total <= b || s < next
 }
 
 // Whether the serials of armed slots lie below the next.
@@ -73,12 +61,10 @@ pub fn serials_below(bucket: &[usize], serial: &[u64], total: usize, next: u64) 
     requires { length serial.now ≡ length bucket.now }
     ensures { Decides (SerialsBelow total next bucket.now serial.now) result }
 {
-    let mut x = total;
-    while x < bucket.len() {
+    for x in total..bucket.len() {
         if !has_serial(total, bucket[x], serial[x], next) {
             return false;
         }
-        x += 1;
     }
     true
 }

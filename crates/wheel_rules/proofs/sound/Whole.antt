@@ -3,37 +3,39 @@ use Prim.Native.Nat.{ℕ}
 use native.Mathlib.Omega.{arith}
 use mathlib.Core.Path.{◌≡◌, sym, ◌∙◌}
 use mathlib.Core.Bool.{Bool, true, false, not, false≢true}
-use mathlib.Core.List.{List}
 use lib.ListN.{length}
 use borrow.Author.Tests.{not-true, not-false}
-use Rattle.deque_rules.specs.Links.{links}
 use Rattle.deque_rules.specs.Sound as linked
 use Rattle.rules.specs.Places.{wheel01}
-use Rattle.wheel_rules.specs.declared.calls.Clock.{Clock}
-use Rattle.wheel_rules.specs.Lent.{nodes, entries, records, Decides, Ranges, EndsLengths, NodesLengths, EntriesLengths, Lengths, Kinds}
+use Rattle.wheel_rules.specs.Lent.{Records, Decides, Ranges, EndsLengths, NodesLengths, EntriesLengths, Lengths, Kinds}
 use Rattle.wheel_rules.specs.Lent.{EntriesExist, SerialsBelow, SerialsDiffer, AdvanceStands, SoundWith}
 use Rattle.wheel_rules.specs.sound.Filing.{Sized}
 use Rattle.wheel_rules.proofs.sound.Answers.{no, failed, passed}
 
-module _ (h t n p b e g s : List ℕ) (d : List Bool) (l eg : List ℕ) (c : Clock) (total : ℕ) where
+module _ (R : Records) (total : ℕ) where
+  abbrev NodesAre : Type 0
+  NodesAre =
+      NodesLengths R.clock.nodes (length R.nodes.links.next) (length R.nodes.links.prev) (length R.nodes.links.home)
+      (length R.nodes.entry) (length R.nodes.generation) (length R.nodes.serial)
+
+  abbrev EntriesAre : Type 0
+  EntriesAre =
+      EntriesLengths R.clock.entries (length R.entries.dated) (length R.entries.deadline) (length R.entries.generation)
+
   -- ---- the lengths
-  pub not_ranged : (r : Bool) → Decides (Ranges total c.nodes c.entries) r → not r ≡ true → Decides
-      (Lengths total (records (nodes h t n p b e g s) (entries d l eg) c)) false
+  pub not_ranged : (r : Bool) → Decides (Ranges total R.clock.nodes R.clock.entries) r → not r ≡ true → Decides (Lengths total R) false
   not_ranged r k f = no (λ z. failed k f z.ranges)
 
-  pub not_ends : (r : Bool) → Decides (EndsLengths total (length h) (length t)) r → not r ≡ true → Decides
-      (Lengths total (records (nodes h t n p b e g s) (entries d l eg) c)) false
+  pub not_ends : (r : Bool) → Decides (EndsLengths total (length R.nodes.links.heads) (length R.nodes.links.tails)) r → not r ≡ true
+      → Decides (Lengths total R) false
   not_ends r k f = no (λ z. failed k f z.ends)
 
-  pub not_nodes : (r : Bool) → Decides (NodesLengths c.nodes (length n) (length p) (length b) (length e) (length g) (length s)) r → not r ≡ true → Decides
-      (Lengths total (records (nodes h t n p b e g s) (entries d l eg) c)) false
+  pub not_nodes : (r : Bool) → Decides NodesAre r → not r ≡ true → Decides (Lengths total R) false
   not_nodes r k f = no (λ z. failed k f z.nodes)
 
-  pub all_lengths : (u v w r : Bool) → Decides (Ranges total c.nodes c.entries) u → not u ≡ false → Decides (EndsLengths total (length h) (length t)) v →
-      not v ≡ false
-      → Decides (NodesLengths c.nodes (length n) (length p) (length b) (length e) (length g) (length s)) w → not w ≡ false
-      → Decides (EntriesLengths c.entries (length d) (length l) (length eg)) r → Decides
-      (Lengths total (records (nodes h t n p b e g s) (entries d l eg) c)) r
+  pub all_lengths : (u v w r : Bool) → Decides (Ranges total R.clock.nodes R.clock.entries) u → not u ≡ false
+      → Decides (EndsLengths total (length R.nodes.links.heads) (length R.nodes.links.tails)) v → not v ≡ false
+      → Decides NodesAre w → not w ≡ false → Decides EntriesAre r → Decides (Lengths total R) r
   all_lengths u v w r i i' j j' k k' m =
       record {
         sound = λ f. record { ranges = passed i i'; ends = passed j j'; nodes = passed k k'; entries = m.sound f };
@@ -41,47 +43,42 @@ module _ (h t n p b e g s : List ℕ) (d : List Bool) (l eg : List ℕ) (c : Clo
       }
 
   -- ---- what the tests of slots need
-  module _ (r : Bool) (k : Decides (Lengths total (records (nodes h t n p b e g s) (entries d l eg) c)) r) (f : not r ≡ false) where
-    pub entry_same : length e ≡ length b
+  module _ (r : Bool) (k : Decides (Lengths total R) r) (f : not r ≡ false) where
+    pub entry_same : length R.nodes.entry ≡ length R.nodes.links.home
     entry_same = let z = (passed k f).nodes in z.entry_len ∙ sym z.bucket_len
 
-    pub serial_same : length s ≡ length b
+    pub serial_same : length R.nodes.serial ≡ length R.nodes.links.home
     serial_same = let z = (passed k f).nodes in z.serial_len ∙ sym z.bucket_len
 
-    pub serial_sized : Sized b s
+    pub serial_sized : Sized R.nodes.links.home R.nodes.serial
     serial_sized = record { same = serial_same; few = omega (arith, (passed k f).nodes.bucket_len, (passed k f).ranges.nodes_most) }
 
   -- ---- the whole
-  pub no_lengths : (r : Bool) → Decides (Lengths total (records (nodes h t n p b e g s) (entries d l eg) c)) r → not r ≡ true → Decides
-      (SoundWith wheel01 total (records (nodes h t n p b e g s) (entries d l eg) c)) false
+  pub no_lengths : (r : Bool) → Decides (Lengths total R) r → not r ≡ true → Decides (SoundWith wheel01 total R) false
   no_lengths r k f = no (λ z. failed k f z.lengths)
 
-  pub no_advance : (r : Bool) → Decides (AdvanceStands wheel01 c) r → not r ≡ true → Decides
-      (SoundWith wheel01 total (records (nodes h t n p b e g s) (entries d l eg) c)) false
+  pub no_advance : (r : Bool) → Decides (AdvanceStands wheel01 R.clock) r → not r ≡ true → Decides (SoundWith wheel01 total R) false
   no_advance r k f = no (λ z. failed k f z.advance)
 
-  pub no_kinds : (r : Bool) → Decides (Kinds total b) r → not r ≡ true → Decides (SoundWith wheel01 total (records (nodes h t n p b e g s) (entries d l eg) c))
-      false
+  pub no_kinds : (r : Bool) → Decides (Kinds total R.nodes.links.home) r → not r ≡ true → Decides (SoundWith wheel01 total R) false
   no_kinds r k f = no (λ z. failed k f z.kinds)
 
-  pub no_links : (r : Bool) → linked.Verdict (links h t n p b) c.free r → not r ≡ true → Decides
-      (SoundWith wheel01 total (records (nodes h t n p b e g s) (entries d l eg) c)) false
+  pub no_links : (r : Bool) → linked.Verdict R.nodes.links R.clock.free r → not r ≡ true → Decides (SoundWith wheel01 total R) false
   no_links r k f = no (λ z. false≢true (sym (not-true r f) ∙ k.complete z.linked))
 
-  pub no_entries : (r : Bool) → Decides (EntriesExist total c.entries b e) r → not r ≡ true → Decides
-      (SoundWith wheel01 total (records (nodes h t n p b e g s) (entries d l eg) c)) false
+  pub no_entries : (r : Bool) → Decides (EntriesExist total R.clock.entries R.nodes.links.home R.nodes.entry) r → not r ≡ true
+      → Decides (SoundWith wheel01 total R) false
   no_entries r k f = no (λ z. failed k f z.exist)
 
-  pub no_below : (r : Bool) → Decides (SerialsBelow total c.serial b s) r → not r ≡ true → Decides
-      (SoundWith wheel01 total (records (nodes h t n p b e g s) (entries d l eg) c)) false
+  pub no_below : (r : Bool) → Decides (SerialsBelow total R.clock.serial R.nodes.links.home R.nodes.serial) r → not r ≡ true
+      → Decides (SoundWith wheel01 total R) false
   no_below r k f = no (λ z. failed k f z.below)
 
-  pub all_clauses : (u v w x y z r : Bool) → Decides (Lengths total (records (nodes h t n p b e g s) (entries d l eg) c)) u → not u ≡ false → Decides
-      (AdvanceStands wheel01 c) v → not v ≡ false
-      → Decides (Kinds total b) w → not w ≡ false → linked.Verdict (links h t n p b) c.free x → not x ≡ false → Decides
-      (EntriesExist total c.entries b e) y → not y ≡ false
-      → Decides (SerialsBelow total c.serial b s) z → not z ≡ false → Decides (SerialsDiffer total b s) r
-      → Decides (SoundWith wheel01 total (records (nodes h t n p b e g s) (entries d l eg) c)) r
+  pub all_clauses : (u v w x y z r : Bool) → Decides (Lengths total R) u → not u ≡ false → Decides (AdvanceStands wheel01 R.clock) v → not v ≡ false
+      → Decides (Kinds total R.nodes.links.home) w → not w ≡ false → linked.Verdict R.nodes.links R.clock.free x → not x ≡ false
+      → Decides (EntriesExist total R.clock.entries R.nodes.links.home R.nodes.entry) y → not y ≡ false
+      → Decides (SerialsBelow total R.clock.serial R.nodes.links.home R.nodes.serial) z → not z ≡ false
+      → Decides (SerialsDiffer total R.nodes.links.home R.nodes.serial) r → Decides (SoundWith wheel01 total R) r
   all_clauses u v w x y z r a a' i i' j j' k k' m m' o o' q =
       record {
         sound = λ f.

@@ -1,11 +1,6 @@
 -- `kinds` meets its contract: its loop keeps `KindsTo`.
-use Prim.Native.Nat.{◌-◌}
-use lib.ListN.{length}
 use Rattle.wheel_rules.proofs.sound.EachSlot.{KindsTo}
 use Rattle.wheel_refusals.proofs.sound.slots.kinds.Given as goal
 
 abbrev pub invariant-loop-x : goal.invariant-loop-x
 invariant-loop-x l = KindsTo l.total l.bucket l.x
-
-abbrev pub decreases-loop-x : goal.decreases-loop-x
-decreases-loop-x l = length l.bucket - l.x

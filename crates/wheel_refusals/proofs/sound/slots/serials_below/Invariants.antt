@@ -1,11 +1,7 @@
 -- `serials_below` meets its contract: its loop keeps `BoundTo`.
-use Prim.Native.Nat.{◌-◌, ◌≤◌}
-use lib.ListN.{length}
+use Prim.Native.Nat.{◌≤◌}
 use Rattle.wheel_rules.proofs.sound.EachSlot.{BoundTo}
 use Rattle.wheel_refusals.proofs.sound.slots.serials_below.Given as goal
 
 abbrev pub invariant-loop-x : goal.invariant-loop-x
 invariant-loop-x l = (l.total ≤ l.x) × BoundTo l.total l.next l.bucket l.serial l.x
-
-abbrev pub decreases-loop-x : goal.decreases-loop-x
-decreases-loop-x l = length l.bucket - l.x
