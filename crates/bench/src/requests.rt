@@ -1,7 +1,7 @@
 // The requests: `WORKLOAD SIZE CALLS SEED`, and their answers.
 use crate::generator::first_number;
 use crate::{deques, sketches, wheels};
-use lines::{Asked, BAD_LINE, NO_LINE, NO_WORD, SILENT, Source};
+use lines::{Answers, Asked, BAD_LINE, Lines, NO_LINE};
 
 // The place of the answer's word in its table.
 const DIGEST: u64 = 0;
@@ -11,33 +11,36 @@ const OF_DEQUES: usize = 3;
 
 const OF_WHEELS: usize = 8;
 
-// What the line that was found asks for, by the words of the workloads.
-pub fn asked_by(line: &[u8; 257], source: Source) -> Asked {
+// What the line asks for, by the words of the workloads.
+pub fn asked_by(line: &[u8]) -> Option<Asked> {
     lines::requested(
         line,
-        source,
         b"increase estimate index queue move unlink walk length cancel ticks jumps count",
     )
 }
 
 // Tells the answer: a workload and three numbers are asked, of which the first is its size.
-pub fn answer(told: &mut [u64; 6], asked: Asked) {
-    let word = asked.word;
-    if word == SILENT {
+pub fn answer(told: &mut [u64; 6], asked: Option<Asked>) {
+    let Some(asked) = asked else {
         lines::tell(told, NO_LINE, 0, 0, 0, 0);
         return;
-    }
-    if word == NO_WORD || asked.parts != 4 {
+    };
+    let Some(word) = asked.word else {
+        unfit(told);
+        return;
+    };
+    if asked.parts != 4 {
         unfit(told);
         return;
     }
-    let x = first_number(asked.c);
+    let [size, calls, seed] = asked.numbers;
+    let x = first_number(seed);
     if word < OF_DEQUES {
-        sketches::answer(told, word, asked.a, asked.b, x);
+        sketches::answer(told, word, size, calls, x);
     } else if word < OF_WHEELS {
-        deques::answer(told, word - OF_DEQUES, asked.a, asked.b, x);
+        deques::answer(told, word - OF_DEQUES, size, calls, x);
     } else {
-        wheels::answer(told, word - OF_WHEELS, asked.a, asked.b, x);
+        wheels::answer(told, word - OF_WHEELS, size, calls, x);
     }
 }
 
@@ -51,13 +54,7 @@ pub fn unfit(told: &mut [u64; 6]) {
     lines::tell(told, BAD_LINE, 0, 0, 0, 0);
 }
 
-// Puts the line of what was told after the bytes that wait in out, and answers how many wait then.
-pub fn say(
-    rt: &impl Print,
-    out: &mut [u8; 65536],
-    at: usize,
-    told: &[u64; 6],
-    source: Source,
-) -> usize {
-    lines::say(rt, out, at, b"digest", told, source)
+// Puts the line of what was told after the answers that wait.
+pub fn say(rt: &impl Print, answers: &mut Answers, told: &[u64; 6], input: &Lines) {
+    answers.say(rt, b"digest", told, input);
 }

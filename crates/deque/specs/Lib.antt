@@ -1,2 +1,2 @@
--- What the contracts cite beside the definitions of deque_rules.
+-- The five slices of the records, lent as one value, and the records that they hold.
 pub mod Slices

@@ -1,21 +1,18 @@
 // For proved code only, unchecked: lays the records out, whatever they held.
 ghost use Rattle.deque_rules.specs.Layout.{Sizes, LaysOut, Empties, Strings};
-ghost use Rattle.deque_rules.specs.Links.{links};
+ghost use Rattle.deque.specs.Slices.{links_now, SameSlices};
 ghost use Rattle.std.specs.Prelude.{◌≡◌, length};
 
 use crate::NONE;
+use crate::linked::LinkedMut;
 
 // Makes every deque empty.
 fn empty(heads: &mut [usize], tails: &mut [usize])
     requires { length tails.old ≡ length heads.old }
     ensures { Empties heads.old heads.new tails.new }
 {
-    let mut d: usize = 0;
-    while d < heads.len() {
-        heads[d] = NONE;
-        tails[d] = NONE;
-        d += 1;
-    }
+    heads.fill(NONE);
+    tails.fill(NONE);
 }
 
 // Makes every slot free, each followed by the one above it.
@@ -23,30 +20,24 @@ fn string(next: &mut [usize], prev: &mut [usize], home: &mut [usize]) -> usize
     requires { (length prev.old ≡ length next.old) × (length home.old ≡ length next.old) }
     ensures { Strings next.old next.new prev.new home.new result }
 {
+    prev.fill(NONE);
+    home.fill(NONE);
     let mut free = NONE;
-    let mut s = next.len();
-    while 0 < s {
-        s -= 1;
+    for s in (0..next.len()).rev() {
         next[s] = free;
-        prev[s] = NONE;
-        home[s] = NONE;
         free = s;
     }
     free
 }
 
-// Makes every deque empty and every slot free, in ascending order from 0, and answers the first free slot.
-pub fn lay_out(
-    heads: &mut [usize],
-    tails: &mut [usize],
-    next: &mut [usize],
-    prev: &mut [usize],
-    home: &mut [usize],
-) -> usize
-    requires { Sizes (links heads.old tails.old next.old prev.old home.old) }
-    ensures { LaysOut (links heads.old tails.old next.old prev.old home.old)
-        (links heads.new tails.new next.new prev.new home.new) result }
-{
-    empty(heads, tails);
-    string(next, prev, home)
+impl LinkedMut<'_> {
+    // Makes every deque empty and every slot free, in ascending order from 0, and answers the first free slot.
+    pub fn lay_out(&mut self) -> usize
+        requires { Sizes (links_now self.old) }
+        ensures does { LaysOut (links_now self.old) (links_now self.new) result }
+        ensures same { SameSlices self.old self.new }
+    {
+        empty(self.heads, self.tails);
+        string(self.next, self.prev, self.home)
+    }
 }

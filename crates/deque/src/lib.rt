@@ -6,11 +6,10 @@
 
 pub mod change; // push, remove, move to the back, turn until a member is last
 mod free; // take a free slot, give one back
+pub mod linked; // the records lent together, for reading and for changing
 pub mod layout; // all deques empty, all slots free
-pub mod linked; // the five slices as one value
 pub mod read; // the front of a deque, the slot after a slot
 pub mod sound; // the test of links and free chain, which asks nothing
 pub mod walk; // how many slots a deque and the free chain have, for tests
 
 pub use numbers::slots::NONE;
-pub use crate::linked::{Linked, LinkedMut};

@@ -1,8 +1,8 @@
-// The records of linked deques as they are lent: five parallel slices, for reading or to be changed.
-ghost use Rattle.std.specs.Prelude.{◌≡◌};
-ghost use Rattle.deque.specs.Slices.{links_of, links_now};
+// The records of linked deques and free slots, lent together: head and tail of each deque; next slot, previous slot and
+// deque of each slot.
+ghost use Rattle.deque.specs.Slices.{Reads};
 
-// Head and tail of each deque; next slot, previous slot and deque of each slot.
+// Lent for reading.
 #[derive(Clone, Copy)]
 pub struct Linked<'a> {
     pub heads: &'a [usize],
@@ -12,7 +12,8 @@ pub struct Linked<'a> {
     pub home: &'a [usize],
 }
 
-// The same, to be changed.
+// Lent for changing.
+#[derive(Drop)]
 pub struct LinkedMut<'a> {
     pub heads: &'a mut [usize],
     pub tails: &'a mut [usize],
@@ -22,8 +23,9 @@ pub struct LinkedMut<'a> {
 }
 
 impl LinkedMut<'_> {
+    // The same records, for reading.
     pub fn as_read(&self) -> Linked<'_>
-        ensures { links_of result ≡ links_now self.now }
+        ensures { Reads self.now result }
     {
         Linked {
             heads: self.heads,

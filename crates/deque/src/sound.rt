@@ -1,62 +1,39 @@
 // The test of links and free chain. It assumes nothing, looks at each slot once, and ends on any links.
-ghost use Rattle.deque_rules.specs.Links.{links};
 ghost use Rattle.deque_rules.specs.Sound.{Verdict, Sized};
+ghost use Rattle.deque.specs.Slices.{links_of};
 
 use crate::NONE;
-use crate::walk::{walk, walk_free};
+use crate::linked::Linked;
 
-// Whether the records are those of deques and free slots, with no slot in neither.
-pub fn sound(
-    heads: &[usize],
-    tails: &[usize],
-    next: &[usize],
-    prev: &[usize],
-    home: &[usize],
-    free: usize,
-) -> bool
-    ensures { Verdict (links heads.now tails.now next.now prev.now home.now) free result }
-{
-    if !sized(heads, tails, next, prev, home) {
-        return false;
-    }
-    let mut total: usize = 0;
-    let mut d: usize = 0;
-    while d < heads.len() {
-        let c = walk(heads, tails, next, prev, home, d);
-        if NONE < c {
+impl Linked<'_> {
+    // Whether the records are those of deques and free slots, with no slot in neither.
+    pub fn sound(self, free: usize) -> bool
+        ensures { Verdict (links_of self.entry) free result }
+    {
+        if !self.sized() {
             return false;
         }
-        total += c;
-        d += 1;
+        let mut total: usize = 0;
+        for d in 0..self.heads.len() {
+            let Some(k) = self.walk(d) else {
+                return false;
+            };
+            total += k;
+        }
+        let Some(k) = self.walk_free(free) else {
+            return false;
+        };
+        total + k == self.next.len()
     }
-    let c = walk_free(next, home, free);
-    if NONE < c {
-        return false;
-    }
-    total + c == next.len()
-}
 
-// Whether the lent lengths are those of deques and slots.
-pub fn sized(
-    heads: &[usize],
-    tails: &[usize],
-    next: &[usize],
-    prev: &[usize],
-    home: &[usize],
-) -> bool
-    ensures { Sized (links heads.now tails.now next.now prev.now home.now) result }
-{
-    if NONE < heads.len() {
-        return false;
+    // Whether the lent lengths are those of deques and slots.
+    pub fn sized(self) -> bool
+        ensures { Sized (links_of self.entry) result }
+    {
+        self.heads.len() <= NONE
+            && self.next.len() <= NONE
+            && self.tails.len() == self.heads.len()
+            && self.prev.len() == self.next.len()
+            && self.home.len() == self.next.len()
     }
-    if NONE < next.len() {
-        return false;
-    }
-    if tails.len() != heads.len() {
-        return false;
-    }
-    if prev.len() != next.len() {
-        return false;
-    }
-    home.len() == next.len()
 }

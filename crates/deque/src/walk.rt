@@ -3,74 +3,66 @@
 // made of them.
 ghost use Rattle.std.specs.Prelude.{◌<◌, length};
 ghost use Rattle.deque_rules.specs.Layout.{Sizes};
-ghost use Rattle.deque_rules.specs.Links.{links};
-ghost use Rattle.deque_rules.specs.Sound.{Walked, WalkedFree, SizesFree};
+ghost use Rattle.deque_rules.specs.Sound.{Walked, WalkedFree, SizesFree, Tells};
+ghost use Rattle.deque.specs.Slices.{links_of};
 
 use crate::NONE;
+use crate::linked::Linked;
 
-// More than there may be.
-const BAD: usize = NONE + 1;
+impl Linked<'_> {
+    // How many slots the deque d has, or None where its links are not those of a deque over slots that name it.
+    pub fn walk(self, d: usize) -> Option<usize>
+        requires { Sizes (links_of self) × (d < length self.heads.now) }
+        ensures { Tells (Walked (links_of self.entry) d) result }
+    {
+        let n = self.next.len();
+        let mut b = NONE;
+        let mut x = self.heads[d];
+        let mut k: usize = 0;
+        while x != NONE {
+            if k == n {
+                return None;
+            }
+            if n <= x {
+                return None;
+            }
+            if self.prev[x] != b {
+                return None;
+            }
+            if self.home[x] != d {
+                return None;
+            }
+            b = x;
+            x = self.next[x];
+            k += 1;
+        }
+        if self.tails[d] != b {
+            return None;
+        }
+        Some(k)
+    }
 
-// How many slots the deque d has, or a number above NONE where its links are not those of a deque over slots that name
-// it.
-pub fn walk(
-    heads: &[usize],
-    tails: &[usize],
-    next: &[usize],
-    prev: &[usize],
-    home: &[usize],
-    d: usize,
-) -> usize
-    requires { Sizes (links heads.now tails.now next.now prev.now home.now) × (d < length heads.now) }
-    ensures { Walked (links heads.now tails.now next.now prev.now home.now) d result }
-{
-    let n = next.len();
-    let mut b = NONE;
-    let mut x = heads[d];
-    let mut k: usize = 0;
-    while x != NONE {
-        if k == n {
-            return BAD;
+    // How many slots are chained from free, or None where that is no chain of slots that name no deque.
+    pub fn walk_free(self, free: usize) -> Option<usize>
+        requires { SizesFree self.next.now self.home.now }
+        ensures { Tells (WalkedFree self.entry.next.now self.entry.home.now free) result }
+    {
+        let n = self.next.len();
+        let mut x = free;
+        let mut k: usize = 0;
+        while x != NONE {
+            if k == n {
+                return None;
+            }
+            if n <= x {
+                return None;
+            }
+            if self.home[x] != NONE {
+                return None;
+            }
+            x = self.next[x];
+            k += 1;
         }
-        if n <= x {
-            return BAD;
-        }
-        if prev[x] != b {
-            return BAD;
-        }
-        if home[x] != d {
-            return BAD;
-        }
-        b = x;
-        x = next[x];
-        k += 1;
+        Some(k)
     }
-    if tails[d] != b {
-        return BAD;
-    }
-    k
-}
-
-// How many slots are chained from free, or a number above NONE where that is no chain of slots that name no deque.
-pub fn walk_free(next: &[usize], home: &[usize], free: usize) -> usize
-    requires { SizesFree next.now home.now }
-    ensures { WalkedFree next.now home.now free result }
-{
-    let n = next.len();
-    let mut x = free;
-    let mut k: usize = 0;
-    while x != NONE {
-        if k == n {
-            return BAD;
-        }
-        if n <= x {
-            return BAD;
-        }
-        if home[x] != NONE {
-            return BAD;
-        }
-        x = next[x];
-        k += 1;
-    }
-    k
 }

@@ -1,4 +1,4 @@
--- What the loops of `empty` and `string` keep, and the records that `lay_out` comes to.
+-- What the loop of `string` keeps, and the records that `lay_out` comes to.
 use Prim.Native.Nat.{ℕ, zero, suc, ◌+◌, ◌-◌, ◌≤◌, ◌<◌}
 use native.Mathlib.Omega.{arith}
 use mathlib.Core.Path.{◌≡◌, refl, sym, ap, ◌∙◌}
@@ -14,43 +14,6 @@ use Rattle.numbers.proofs.Cases.{same?}
 use Rattle.numbers.proofs.Members.{in-same}
 use Rattle.numbers.proofs.Counting.{up_range, range_up, length_up}
 
--- ---- empty: the deques below d have been emptied
-pub record Emptied (h₀ t₀ h t : List ℕ) (d : ℕ) : Type 0 where
-  pub heads_len : length h ≡ length h₀
-  pub tails_len : length t ≡ length t₀
-  pub within : d ≤ length h₀
-  pub both : (i : ℕ) → i < d → (get_or h i 0 ≡ none) × (get_or t i 0 ≡ none)
-
-pub empty_starts : (h₀ t₀ : List ℕ) → Emptied h₀ t₀ h₀ t₀ 0
-empty_starts h₀ t₀ = record { heads_len = refl; tails_len = refl; within = omega arith; both = λ i l. absurd (omega (arith, l)) }
-
-pub empty_goes : (h₀ t₀ h t : List ℕ) (d : ℕ) → length t₀ ≡ length h₀ → d < length h → Emptied h₀ t₀ h t d → Emptied h₀ t₀ (set h d none) (set t d none) (d + 1)
-empty_goes h₀ t₀ h t d e l k =
-    record {
-      heads_len = simp length-set k.heads_len;
-      tails_len = simp length-set k.tails_len;
-      within = omega (arith, l, k.heads_len);
-      both = λ i j.
-          ⊎_elim
-          (λ (q : i ≡ d). rw q (get_or-set_same h d none 0 l, get_or-set_same t d none 0 (omega (arith, l, e, k.heads_len, k.tails_len))))
-          (λ (n : i ≡ d → ⊥).
-          let u = k.both i (omega (arith, j, n)) in
-          (get_or-set_other h d i none 0 n ∙ u.0, get_or-set_other t d i none 0 n ∙ u.1))
-          (same? i d);
-    }
-
--- a list that has v at each place
-all_same : (l : List ℕ) (n v : ℕ) → length l ≡ n → ((i : ℕ) → i < n → get_or l i 0 ≡ v) → l ≡ replicate n v
-all_same l n v e h =
-    ext_get_or 0 l (replicate n v) (e ∙ sym (length-replicate n v)) (λ i k. let k' : i < n = rw e at k in h i k' ∙ sym (get_or-replicate n i v 0 k'))
-
-pub empty_ends_lem : (h₀ t₀ h t : List ℕ) (d : ℕ) → length t₀ ≡ length h₀ → length h ≤ d → Emptied h₀ t₀ h t d → Empties h₀ h t
-empty_ends_lem h₀ t₀ h t d e l k =
-    record {
-      heads_is = all_same h (length h₀) none k.heads_len (λ i j. (k.both i (omega (arith, l, j, k.heads_len))).0);
-      tails_is = all_same t (length h₀) none (k.tails_len ∙ e) (λ i j. (k.both i (omega (arith, l, j, k.heads_len))).1);
-    }
-
 -- ---- string: the slots from s on are free, each followed by the one above it
 first_same : (k k' i i' : ℕ) → k ≡ k' → i ≡ i' → first (up_from k i) ≡ first (up_from k' i')
 first_same k k' i i' p q = rw (p, q) refl
@@ -59,34 +22,25 @@ first_up : (k i : ℕ) → 0 < k → first (up_from k i) ≡ i
 first_up zero i l = absurd (omega (arith, l))
 first_up (suc k) i l = refl
 
-pub record Strung (n₀ p₀ o₀ n p o : List ℕ) (s free : ℕ) : Type 0 where
+pub record Strung (n₀ n : List ℕ) (s free : ℕ) : Type 0 where
   pub next_len : length n ≡ length n₀
-  pub prev_len : length p ≡ length p₀
-  pub home_len : length o ≡ length o₀
   pub within : s ≤ length n₀
   pub free_is : free ≡ first (up_from (length n₀ - s) s)
   pub nexts_are : (x : ℕ) → s ≤ x → x < length n₀ → get_or n x 0 ≡ first (up_from (length n₀ - suc x) (suc x))
-  pub none_are : (x : ℕ) → s ≤ x → x < length n₀ → (get_or p x 0 ≡ none) × (get_or o x 0 ≡ none)
 
-pub string_starts : (n₀ p₀ o₀ : List ℕ) → Strung n₀ p₀ o₀ n₀ p₀ o₀ (length n₀) none
-string_starts n₀ p₀ o₀ =
+pub string_starts : (n₀ : List ℕ) → Strung n₀ n₀ (length n₀) none
+string_starts n₀ =
     record {
       next_len = refl;
-      prev_len = refl;
-      home_len = refl;
       within = omega arith;
       free_is = first_same 0 (length n₀ - length n₀) (length n₀) (length n₀) (omega arith) refl;
       nexts_are = λ x h l. absurd (omega (arith, h, l));
-      none_are = λ x h l. absurd (omega (arith, h, l));
     }
 
-pub string_goes : (n₀ p₀ o₀ n p o : List ℕ) (s free : ℕ) → (length p₀ ≡ length n₀) × (length o₀ ≡ length n₀) → 0 < s → Strung n₀ p₀ o₀ n p o s free → Strung n₀
-    p₀ o₀ (set n (s - 1) free) (set p (s - 1) none) (set o (s - 1) none) (s - 1) (s - 1)
-string_goes n₀ p₀ o₀ n p o s free e l k =
+pub string_goes : (n₀ n : List ℕ) (s free : ℕ) → 0 < s → Strung n₀ n s free → Strung n₀ (set n (s - 1) free) (s - 1) (s - 1)
+string_goes n₀ n s free l k =
     record {
       next_len = simp length-set k.next_len;
-      prev_len = simp length-set k.prev_len;
-      home_len = simp length-set k.home_len;
       within = omega (arith, k.within);
       free_is = sym (first_up (length n₀ - (s - 1)) (s - 1) (omega (arith, k.within, l)));
       nexts_are = λ x h j.
@@ -97,18 +51,6 @@ string_goes n₀ p₀ o₀ n p o s free e l k =
           ∙ k.free_is
           ∙ first_same (length n₀ - s) (length n₀ - suc x) s (suc x) (omega (arith, q, l)) (omega (arith, q, l)))
           (λ (m : x ≡ s - 1 → ⊥). get_or-set_other n (s - 1) x free 0 m ∙ k.nexts_are x (omega (arith, h, m)) j)
-          (same? x (s - 1));
-      none_are = λ x h j.
-          ⊎_elim
-          (λ (q : x ≡ s - 1).
-          rw q (
-            get_or-set_same p (s - 1) none 0 (omega (arith, k.prev_len, e.0, k.within, l)),
-            get_or-set_same o (s - 1) none 0
-                (omega (arith, k.home_len, e.1, k.within, l)),
-          ))
-          (λ (m : x ≡ s - 1 → ⊥).
-          let u = k.none_are x (omega (arith, h, m)) j in
-          (get_or-set_other p (s - 1) x none 0 m ∙ u.0, get_or-set_other o (s - 1) x none 0 m ∙ u.1))
           (same? x (s - 1));
     }
 
@@ -122,21 +64,18 @@ nexts_at (suc k) i zero l = first_same k (suc k - 1) (suc i) (i + 1) (omega arit
 nexts_at (suc k) i (suc j) l =
     nexts_at k (suc i) j (omega (arith, l)) ∙ first_same (k - suc j) (suc k - suc (suc j)) (suc i + suc j) (i + suc (suc j)) (omega arith) (omega arith)
 
-pub string_ends : (n₀ p₀ o₀ n p o : List ℕ) (s free : ℕ) → (length p₀ ≡ length n₀) × (length o₀ ≡ length n₀) → s ≤ 0 → Strung n₀ p₀ o₀ n p o s free → Strings
-    n₀ n p o free
-string_ends n₀ p₀ o₀ n p o s free e l k =
-    record {
-      next_is =
-          ext_get_or 0 n (nexts (up_from (length n₀) 0)) (k.next_len ∙ sym (length_nexts (up_from (length n₀) 0) ∙ length_up (length n₀) 0))
-          (λ i j.
-          let j' : i < length n₀ = rw k.next_len at j in
-          k.nexts_are i (omega (arith, l)) j'
-          ∙ first_same (length n₀ - suc i) (length n₀ - suc i) (suc i) (0 + suc i) refl (omega arith)
-          ∙ sym (nexts_at (length n₀) 0 i j'));
-      prev_is = all_same p (length n₀) none (k.prev_len ∙ e.0) (λ i j. (k.none_are i (omega (arith, l)) j).0);
-      home_is = all_same o (length n₀) none (k.home_len ∙ e.1) (λ i j. (k.none_are i (omega (arith, l)) j).1);
-      free_is = k.free_is ∙ first_same (length n₀ - s) (length n₀) s 0 (omega (arith, l)) (omega (arith, l));
-    }
+module _ (n₀ n : List ℕ) (s free : ℕ) (l : s ≤ 0) (k : Strung n₀ n s free) where
+  pub string_links : n ≡ nexts (up_from (length n₀) 0)
+  string_links =
+      ext_get_or 0 n (nexts (up_from (length n₀) 0)) (k.next_len ∙ sym (length_nexts (up_from (length n₀) 0) ∙ length_up (length n₀) 0))
+      (λ i j.
+      let j' : i < length n₀ = rw k.next_len at j in
+      k.nexts_are i (omega (arith, l)) j'
+      ∙ first_same (length n₀ - suc i) (length n₀ - suc i) (suc i) (0 + suc i) refl (omega arith)
+      ∙ sym (nexts_at (length n₀) 0 i j'))
+
+  pub string_first : free ≡ first (up_from (length n₀) 0)
+  string_first = k.free_is ∙ first_same (length n₀ - s) (length n₀) s 0 (omega (arith, l)) (omega (arith, l))
 
 -- ---- lay_out
 pub path_up : (n k i : ℕ) → i + k ≡ n → Path (λ (x : ℕ). get_or (nexts (up_from n 0)) x 0) (up_from k i)

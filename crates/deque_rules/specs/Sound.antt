@@ -1,5 +1,5 @@
 -- inner: sound links and a sound free chain, and what the test of them answers.
-use Rattle.std.specs.Prelude.{ℕ, ◌≤◌, ◌<◌, Bool, true, List, ◌≡◌, length, get_or}
+use Rattle.std.specs.Prelude.{ℕ, ◌+◌, ◌≤◌, ◌<◌, Bool, true, List, ◌≡◌, length, get_or, Option, Some, None}
 use Rattle.deque_rules.specs.Layout.{Sizes}
 use Rattle.deque_rules.specs.Links.{Chain, Path, first, Links, slot_after, home_of, Whole}
 use Rattle.numbers.specs.Shared.{no_slot, In}
@@ -26,6 +26,12 @@ Spares next home x xs = (first xs ≡ x) × Path (λ (y : ℕ). get_or next y 0)
 pub record WalkedFree (next home : List ℕ) (free r : ℕ) : Type 0 where
   pub found : r ≤ no_slot → (xs : List ℕ) × Spares next home free xs × (length xs ≡ r)
   pub bad : no_slot < r → (xs : List ℕ) → Spares next home free xs → ⊥
+
+-- A walk tells a number of slots, at most none, or None, which stands for a number above none: W is what the walk says of
+-- its number, Walked of a deque or WalkedFree.
+abbrev pub Tells : (ℕ → Type 0) → Option ℕ → Type 0
+Tells W (Some k) = W k × (k ≤ no_slot)
+Tells W None = W (no_slot + 1)
 
 -- the lengths that the walk of the free chain asks for: as many homes as links, and no more slots than 4,096
 pub record SizesFree (next home : List ℕ) : Type 0 where

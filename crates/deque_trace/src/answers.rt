@@ -1,7 +1,7 @@
 // What a call answers. An answer is told as six numbers: its word's place in the table, how many numbers follow, three
 // numbers, and the first free node after the call.
 use deque_rules::alone::{Done, Dropped, Looked, Made, Measured, Popped, Pushed};
-use lines::Source;
+use lines::{Answers, Lines};
 
 // The words of the table below, in its order.
 const SLOT: u64 = 0;
@@ -20,16 +20,10 @@ const LENGTH: u64 = 6;
 
 pub const DIGESTED: u64 = 7;
 
-// Puts the line of what was told after the bytes that wait in out, and answers how many wait then.
-pub fn say(
-    rt: &impl Print,
-    out: &mut [u8; 65536],
-    at: usize,
-    told: &[u64; 6],
-    source: Source,
-) -> usize {
+// Puts the line of what was told after the answers that wait.
+pub fn say(rt: &impl Print, answers: &mut Answers, told: &[u64; 6], input: &Lines) {
     let words = b"slot popped element refused nothing ok length digest";
-    lines::say(rt, out, at, words, told, source)
+    answers.say(rt, words, told, input);
 }
 
 // Tells a word with so many of two numbers, and the first free node.

@@ -13,6 +13,7 @@ use crate::answers::say;
 use crate::parse::found;
 use crate::state::{State, after, planned};
 use crate::work::perform;
+use lines::{Answers, Lines};
 
 // Answers line by line to the end of the input. The records are lent to a call and are its to the end of it: it hands
 // back what it told.
@@ -25,24 +26,22 @@ fn main(rt: HostRuntime) {
     let mut prev = [0usize; 4096];
     let mut home = [0usize; 4096];
     let mut element = [0u64; 4096];
-    let mut block = [0u8; 65536];
-    let mut line = [0u8; 257];
-    let mut out = [0u8; 65536];
     let mut told = [0u64; 6];
-    let mut source = lines::begin();
+    let mut input = Lines::new();
+    let mut answers = Answers::new();
     let mut state = State {
         deques: 0,
         nodes: 0,
         free: deque_alone::NONE,
     };
-    let mut waiting: usize = 0;
-    let mut turns = u64::MAX;
-    while turns > 0 {
-        source = lines::next_line(&rt, &mut block, &mut line, source);
-        let plan = planned(state, found(&line, source));
+    for _ in 0..u64::MAX {
+        input.advance(&rt);
+        let Some(line) = input.line() else {
+            break;
+        };
+        let plan = planned(state, found(line));
         let d = plan.deques;
         let n = plan.nodes;
-        let call = plan.call;
         perform(
             &rt,
             &mut heads[..d],
@@ -53,15 +52,13 @@ fn main(rt: HostRuntime) {
             &mut prev[..n],
             &mut home[..n],
             &mut element[..n],
-            &mut out,
+            &mut answers,
             &mut told,
-            waiting,
             state.free,
-            call,
+            plan.call,
         );
-        waiting = say(&rt, &mut out, waiting, &told, source);
+        say(&rt, &mut answers, &told, &input);
         state = after(state, plan, &told);
-        turns = lines::turns_left(turns, source.more);
     }
-    lines::flush(&rt, &out, waiting);
+    answers.flush(&rt);
 }

@@ -1,6 +1,6 @@
 // A line of the trace as a call.
 use crate::words::{column_of, packed, parts_of};
-use lines::{Kind, NONE, Number, PAST_END, Source};
+use lines::{Kind, NONE, Number, PAST_END};
 
 // What is no word's number: a line that is no call, the pokes by their columns, the poke of the first free node, a line
 // that answers nothing, and a making beyond the records.
@@ -36,16 +36,12 @@ pub struct Call {
     pub x: u64,
 }
 
-// The call of the line that was found: nothing is asked where there was none.
-pub fn found(line: &[u8; 257], source: Source) -> Call {
-    if !source.more {
-        return bare(SILENT);
-    }
-    let held = lines::first(line, source.held);
-    match lines::kind_of(held) {
+// The call that the line is.
+pub fn found(line: &[u8]) -> Call {
+    match lines::kind_of(line) {
         Kind::Silent => bare(SILENT),
         Kind::Long => bare(BAD),
-        Kind::Call => spoken(held, lines::count(held)),
+        Kind::Call => spoken(line, lines::count(line)),
     }
 }
 

@@ -1,6 +1,6 @@
-// The records as text and as a digest: `list`, `dump` and `digest`. Where a parallel slice is shorter, none and 0 stand
+// The records as text and as a digest: `dump` and `digest`. Where a parallel slice is shorter, none and 0 stand
 // for what it lacks.
-use lines::{NONE, Row};
+use lines::{Answers, NONE, Value};
 
 // A column's number in record i, none where there is no such record.
 fn number(column: &[usize], i: usize) -> u64 {
@@ -18,75 +18,47 @@ fn element_of(element: &[u64], s: usize) -> u64 {
     0
 }
 
-// A row of up to five values; the word is its place in `show`'s table.
-fn row(word: usize, count: usize, links: u64, values: [u64; 10]) -> Row {
-    Row {
-        word,
-        count,
-        values,
-        links,
-    }
-}
-
 // `D HEAD TAIL LENGTH CURSOR`.
-fn deque_row(heads: &[usize], tails: &[usize], lens: &[usize], cursors: &[usize], d: usize) -> Row {
-    let values = [
-        d as u64,
-        number(heads, d),
-        number(tails, d),
-        number(lens, d),
-        number(cursors, d),
-        0,
-        0,
-        0,
-        0,
-        0,
-    ];
-    row(0, 5, 22, values)
-}
-
-// `S NEXT PREV HOME ELEMENT`.
-fn node_row(next: &[usize], prev: &[usize], home: &[usize], element: &[u64], s: usize) -> Row {
-    let values = [
-        s as u64,
-        number(next, s),
-        number(prev, s),
-        number(home, s),
-        element_of(element, s),
-        0,
-        0,
-        0,
-        0,
-        0,
-    ];
-    row(1, 5, 14, values)
-}
-
-// `FREE`.
-fn free_row(free: usize) -> Row {
-    row(2, 1, 1, [free as u64, 0, 0, 0, 0, 0, 0, 0, 0, 0])
-}
-
-// Row i: the deques, and the nodes after them.
-fn row_at(
+fn deque_row(
     heads: &[usize],
     tails: &[usize],
     lens: &[usize],
     cursors: &[usize],
+    d: usize,
+) -> [Value; 5] {
+    [
+        Value::Number(d as u64),
+        Value::Link(number(heads, d)),
+        Value::Link(number(tails, d)),
+        Value::Number(number(lens, d)),
+        Value::Link(number(cursors, d)),
+    ]
+}
+
+// `S NEXT PREV HOME ELEMENT`.
+fn node_row(
     next: &[usize],
     prev: &[usize],
     home: &[usize],
     element: &[u64],
-    i: usize,
-) -> Row {
-    if i < heads.len() {
-        return deque_row(heads, tails, lens, cursors, i);
-    }
-    node_row(next, prev, home, element, i - heads.len())
+    s: usize,
+) -> [Value; 5] {
+    [
+        Value::Number(s as u64),
+        Value::Link(number(next, s)),
+        Value::Link(number(prev, s)),
+        Value::Link(number(home, s)),
+        Value::Number(element_of(element, s)),
+    ]
 }
 
-// `dump`, or `digest` if it sums: how many bytes wait, or the digest.
-pub fn show(
+// `FREE`.
+fn free_row(free: usize) -> [Value; 1] {
+    [Value::Link(free as u64)]
+}
+
+// `dump`: the deques, the nodes and the first free node, a line each.
+pub fn dump(
     rt: &impl Print,
     heads: &[usize],
     tails: &[usize],
@@ -96,30 +68,36 @@ pub fn show(
     prev: &[usize],
     home: &[usize],
     element: &[u64],
-    out: &mut [u8; 65536],
-    at: usize,
+    answers: &mut Answers,
     free: usize,
-    sums: bool,
+) {
+    for d in 0..heads.len() {
+        answers.say_row(rt, b"deque", &deque_row(heads, tails, lens, cursors, d));
+    }
+    for s in 0..next.len() {
+        answers.say_row(rt, b"node", &node_row(next, prev, home, element, s));
+    }
+    answers.say_row(rt, b"free", &free_row(free));
+}
+
+// `digest`: the digest of the dump's numbers.
+pub fn digest(
+    heads: &[usize],
+    tails: &[usize],
+    lens: &[usize],
+    cursors: &[usize],
+    next: &[usize],
+    prev: &[usize],
+    home: &[usize],
+    element: &[u64],
+    free: usize,
 ) -> u64 {
-    let rows = std::num::wrapping_add_usize(heads.len(), next.len());
-    let mut told = begun(at, sums);
-    let mut i: usize = 0;
-    while i < rows {
-        let r = row_at(heads, tails, lens, cursors, next, prev, home, element, i);
-        told = tell(rt, out, told, r, sums);
-        i += 1;
+    let mut h = lines::digest_start();
+    for d in 0..heads.len() {
+        h = lines::digest_row(h, &deque_row(heads, tails, lens, cursors, d));
     }
-    tell(rt, out, told, free_row(free), sums)
-}
-
-fn tell(rt: &impl Print, out: &mut [u8; 65536], told: u64, r: Row, sums: bool) -> u64 {
-    lines::tell_row(rt, out, told, b"deque node free", r, sums)
-}
-
-// Nothing is told yet.
-fn begun(waiting: usize, sums: bool) -> u64 {
-    if sums {
-        return lines::digest_start();
+    for s in 0..next.len() {
+        h = lines::digest_row(h, &node_row(next, prev, home, element, s));
     }
-    waiting as u64
+    lines::digest_row(h, &free_row(free))
 }

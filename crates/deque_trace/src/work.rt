@@ -8,13 +8,13 @@ use crate::parse::{
     POKE_PREV, POKE_TAIL, SILENT, TOO_MANY,
 };
 use crate::pokes::{put, put_element};
-use crate::shows::show;
+use crate::shows::{digest, dump};
 use crate::words::{
     BACK, DIGEST, DUMP, FRONT, LENGTH, LIST, MAKE, MOVE, NEXT, POP, PUSH, RESET, UNLINK,
 };
-use lines::{BAD_LINE, NO_LINE, SHOWN};
+use lines::{Answers, BAD_LINE, NO_LINE};
 
-// A call on the lent records. A list and a dump go to out, after the bytes that wait there.
+// A call on the lent records. A list and a dump go to the answers, after those that wait.
 pub fn perform<'a>(
     rt: &impl Print,
     heads: &'a mut [usize],
@@ -25,9 +25,8 @@ pub fn perform<'a>(
     prev: &'a mut [usize],
     home: &'a mut [usize],
     element: &'a mut [u64],
-    out: &'a mut [u8; 65536],
+    answers: &'a mut Answers,
     told: &'a mut [u64; 6],
-    at: usize,
     free: usize,
     call: Call,
 ) -> &'a mut [u64; 6] {
@@ -77,7 +76,7 @@ pub fn perform<'a>(
         POKE_LENGTH => put(lens, told, free, call),
         POKE_CURSOR => put(cursors, told, free, call),
         _ => look(
-            rt, heads, tails, lens, cursors, next, prev, home, element, out, told, at, free, call,
+            rt, heads, tails, lens, cursors, next, prev, home, element, answers, told, free, call,
         ),
     }
 }
@@ -93,9 +92,8 @@ fn look<'a>(
     prev: &'a [usize],
     home: &'a [usize],
     element: &'a [u64],
-    out: &'a mut [u8; 65536],
+    answers: &'a mut Answers,
     told: &'a mut [u64; 6],
-    at: usize,
     free: usize,
     call: Call,
 ) -> &'a mut [u64; 6] {
@@ -137,18 +135,16 @@ fn look<'a>(
                 heads, tails, lens, cursors, next, prev, home, element, free, d,
             ),
         ),
-        LIST => list(rt, heads, next, out, told, at, free, d),
+        LIST => list(rt, heads, next, answers, told, free, d),
         DUMP => {
-            let waiting = show(
-                rt, heads, tails, lens, cursors, next, prev, home, element, out, at, free, false,
+            dump(
+                rt, heads, tails, lens, cursors, next, prev, home, element, answers, free,
             );
-            answer(told, free, SHOWN, 0, waiting, 0)
+            answer(told, free, NO_LINE, 0, 0, 0)
         }
         DIGEST => {
-            let digest = show(
-                rt, heads, tails, lens, cursors, next, prev, home, element, out, at, free, true,
-            );
-            answer(told, free, DIGESTED, 1, digest, 0)
+            let h = digest(heads, tails, lens, cursors, next, prev, home, element, free);
+            answer(told, free, DIGESTED, 1, h, 0)
         }
         _ => aside(told, free, call),
     }
@@ -159,17 +155,16 @@ fn list<'a>(
     rt: &impl Print,
     heads: &'a [usize],
     next: &'a [usize],
-    out: &'a mut [u8; 65536],
+    answers: &'a mut Answers,
     told: &'a mut [u64; 6],
-    at: usize,
     free: usize,
     d: usize,
 ) -> &'a mut [u64; 6] {
     if heads.len() <= d {
         return answer(told, free, BAD_LINE, 0, 0, 0);
     }
-    let waiting = lines::say_chain(rt, out, at, b"list", heads[d], next);
-    answer(told, free, SHOWN, 0, waiting as u64, 0)
+    answers.say_chain(rt, b"list", heads[d], next);
+    answer(told, free, NO_LINE, 0, 0, 0)
 }
 
 // What touches no record.

@@ -1,14 +1,15 @@
 -- The loop of `collect`: what it has reached, and what it answers where it stops.
-use Prim.Native.Nat.{ℕ, ◌+◌, ◌-◌, ◌≤◌, ◌<◌}
+use Prim.Native.Nat.{ℕ, ◌+◌, ◌≤◌, ◌<◌}
 use mathlib.Core.Path.{◌≡◌, refl, sym, ap, subst, ◌∙◌}
-use mathlib.Core.Bool.{Bool, true, false, cond}
+use mathlib.Core.Bool.{Bool, true, false}
 use mathlib.Core.List.{List, [], ◌∷◌, ◌++◌}
 use native.Mathlib.Omega.{arith}
 use lib.Dec.{ltb}
 use lib.ListN.{length, take, drop, get_or, length-drop}
 use borrow.Author.Tests.{lt-ltb, le-ltb}
 use Rattle.lines.specs.Collecting.{Collects, Keeps, NextLine, line_end, line_there, passed, this_line}
-use Rattle.lines.specs.declared.collecting.Source.{Source}
+use Rattle.std.proofs.Common.{Some, leb, leb-true, leb-false, max}
+use Rattle.lines.specs.declared.collecting.Lines.{Lines}
 use Rattle.lines.specs.declared.collecting.Collected.{Collected}
 use Rattle.lines.proofs.Scans.{before_stop, before_on, before_end}
 use Rattle.lines.proofs.Waiting.{held}
@@ -75,25 +76,29 @@ module _ (block : List ℕ) (from : ℕ) (line₀ : List ℕ) (kept : ℕ) (line
         within = λ w. omega (arith, r.within w, r.long);
       }
 
--- no turns, whether or not the loop goes on
-pub turns_none : (t : ℕ) (b : Bool) → t ≡ 0 → ◌≡◌ {A = ℕ} 0 (cond b (t - 1) 0)
-turns_none t true e = omega arith
-turns_none t false e = refl
+  pub reached_stop : length block ≤ i → (from ≤ length block → i ≤ length block) → Collects block from line₀ kept line (record { next = max from (length block); kept = n; ended = false })
+  reached_stop h w =
+      subst (λ (m : ℕ). Collects block from line₀ kept line (record { next = m; kept = n; ended = false })) (same (leb from (length block)) refl) (reached_last h)
+    where
+      same : (b : Bool) → leb from (length block) ≡ b → i ≡ max from (length block)
+      same true e = omega (arith, w (leb-true _ _ e))
+      same false e =
+          let out : length block < from = leb-false _ _ e in
+          omega (arith, r.far, ap length (before_end line_end block i h), ap length (before_end line_end block from (omega arith)))
 
 never : (t : Bool) → t ≡ false → t ≡ true → ⊥
 never t p q = let z : ◌≡◌ {A = ℕ} 0 1 = cc in omega arith
 
-module _ (block line : List ℕ) (s : Source) (part line' : List ℕ) (r : Collected) (e : part ≡ take s.upto block)
-    (k : Collects part s.from line 0 line' r) where
+module _ (s : Lines) (part line' : List ℕ) (c : Collected) (e : part ≡ take s.upto s.block) (k : Collects part s.from s.line 0 line' c) where
   -- the line ends in the block: it is the next line
-  pub line_found : r.ended ≡ true → NextLine block line s block line' (record { from = r.next; upto = s.upto; held = r.kept; more = true })
+  pub line_found : c.ended ≡ true → NextLine s (record { block = s.block; from = c.next; upto = s.upto; line = line'; held = Some c.kept })
   line_found h =
       record {
-        taken = λ w. subst (λ (b : List ℕ). Collects b s.from line 0 line' (record { next = r.next; kept = r.kept; ended = true })) e ends_so;
+        taken = λ w. (c.kept, refl, subst (λ (b : List ℕ). Collects b s.from s.line 0 line' (record { next = c.next; kept = c.kept; ended = true })) e ends_so);
         unmoved = λ w. (refl, refl);
       }
     where
-      ends_so : Collects part s.from line 0 line' (record { next = r.next; kept = r.kept; ended = true })
+      ends_so : Collects part s.from s.line 0 line' (record { next = c.next; kept = c.kept; ended = true })
       ends_so =
           record {
             holds = k.holds;
@@ -104,12 +109,12 @@ module _ (block line : List ℕ) (s : Source) (part line' : List ℕ) (r : Colle
           }
 
   -- it does not: there is no line end in the block
-  pub line_not_there : r.ended ≡ false → (block' line'' : List ℕ) (r' : Source) → NextLine block line s block' line'' r'
-  line_not_there h block' line'' r' =
+  pub line_not_there : c.ended ≡ false → (r : Lines) → NextLine s r
+  line_not_there h r =
       record {
-        taken = λ w. absurd (never (line_there block s) (there ∙ h) w);
-        unmoved = λ w. absurd (never (line_there block s) (there ∙ h) w);
+        taken = λ w. absurd (never (line_there s) (there ∙ h) w);
+        unmoved = λ w. absurd (never (line_there s) (there ∙ h) w);
       }
     where
-      there : line_there block s ≡ r.ended
+      there : line_there s ≡ c.ended
       there = ap (λ (b : List ℕ). ltb (length (this_line b s.from)) (length (drop s.from b))) (sym e) ∙ sym k.ends

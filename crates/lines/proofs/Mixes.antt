@@ -1,15 +1,9 @@
--- One number more of a digest.
-use Prim.Native.Nat.{ℕ, ◌+◌, ◌≤◌, ◌<◌}
-use mathlib.Core.Path.{◌≡◌, ap}
-use mathlib.Core.List.{List}
-use lib.ListN.{length, drop, get_or, drop_of_length-le}
+-- The digest of a run of numbers is a fold.
+use Rattle.std.proofs.Common.{◌≡◌, ℕ, List, [], ◌∷◌, refl}
+use Rattle.std.specs.List.{fold}
 use Rattle.lines.specs.Digests.{mixed, mixed_all}
-use Rattle.lines.proofs.Scans.{dropped}
 
-pub mixed_on : (d : ℕ) (l : List ℕ) (i : ℕ) → i < length l → mixed_all d (drop i l) ≡ mixed_all (mixed d (get_or l i 0)) (drop (i + 1) l)
+pub mixed_fold : (h : ℕ) (l : List ℕ) → fold mixed h l ≡ mixed_all h l
 unfolding mixed_all
-mixed_on d l i h = ap (mixed_all d) (dropped l i h)
-
-pub mixed_end : (d : ℕ) (l : List ℕ) (i : ℕ) → length l ≤ i → mixed_all d (drop i l) ≡ d
-unfolding mixed_all
-mixed_end d l i h = ap (mixed_all d) (drop_of_length-le l h)
+mixed_fold h [] = refl
+mixed_fold h (x ∷ l) = mixed_fold (mixed h x) l

@@ -1,16 +1,13 @@
--- One byte more of a scan: what `before`, `skipped`, `count_of` and `alike` are at index i of a list, from what they
--- are at i + 1.
-use Prim.Native.Nat.{ℕ, zero, suc, ◌+◌, ◌-◌, ◌≤◌, ◌<◌}
-use mathlib.Core.Path.{◌≡◌, refl, ap, ◌∙◌}
-use mathlib.Core.Bool.{Bool, true, false, cond}
-use mathlib.Core.List.{List, [], ◌∷◌}
-use native.Mathlib.Numerals.{add-one}
-use native.Mathlib.Omega.{arith}
-use lib.Dec.{eqb}
-use lib.ListN.{length, take, drop, get_or, drop_of_length-le}
-use lib.Seq.{drop-cons}
-use borrow.Author.Tests.{eq-eqb, ne_eqb}
-use Rattle.lines.specs.Parts.{before, after, skipped, count_of, alike, part_of, space}
+-- The parts of a line by the words of the library: what `before`, `after`, `skipped`, `count_of` and `alike` are; and
+-- one byte more of a scan.
+use Rattle.std.proofs.Common.{◌≡◌, ℕ, suc, ◌+◌, ◌-◌, ◌<◌, ◌≤◌, Bool, true, false, cond, not, ◌&&◌, eqb, Some, None, List, [], ◌∷◌}
+use Rattle.std.proofs.Common.{length, take, drop, get_or, refl, sym, ap, ◌∙◌, subst, arith, add-one, drop-cons, eq-eqb, ne_eqb, ltb-false}
+use lib.ListN.{drop_of_length-le}
+use lib.Seq.{take_all}
+use Rattle.std.specs.List.{position, position_or_len, count_by}
+use Rattle.std.specs.Str.{bytes_eq}
+use Rattle.std.proofs.lemmas.List.Sums.{sum_by-cons}
+use Rattle.lines.specs.Parts.{before, after, skipped, count_of, alike, space}
 
 pub dropped : (l : List ℕ) (i : ℕ) → i < length l → drop i l ≡ get_or l i 0 ∷ drop (i + 1) l
 dropped l i h = rw (add-one, drop-cons l i 0)
@@ -35,99 +32,73 @@ pub before_end : (b : ℕ) (l : List ℕ) (i : ℕ) → length l ≤ i → befor
 unfolding before
 before_end b l i h = ap (before b) (drop_of_length-le l h)
 
--- it is the beginning of it
-pub before_take : (b : ℕ) (l : List ℕ) → take (length (before b l)) l ≡ before b l
-unfolding before
-before_take b [] = refl
-before_take b (x ∷ l) = cases (eqb x b) (before_take b l)
-  where
-    cases : (t : Bool) → take (length (before b l)) l ≡ before b l → take (length (cond t [] (x ∷ before b l))) (x ∷ l) ≡ cond t [] (x ∷ before b l)
-    cases true e = refl
-    cases false e = ap (λ (r : List ℕ). x ∷ r) e
+-- ---- cut at the first space
 
--- part k lies between the place past k spaces and the next space
-pub part_is : (l : List ℕ) (k a e : ℕ) → drop a l ≡ skipped k l → e ≡ a + length (before space (drop a l)) → take (e - a) (drop a l) ≡ part_of k l
-part_is l k a e d q =
-    let m : e - a ≡ length (before space (drop a l)) = omega arith in
-    ap (λ (n : ℕ). take n (drop a l)) m ∙ before_take space (drop a l) ∙ ap (before space) d
+abbrev is_space : ℕ → Bool
+is_space x = eqb x space
+
+front : (l : List ℕ) → take (position_or_len is_space l) l ≡ before space l
+unfolding before
+front [] = refl
+front (x ∷ l) = cases (eqb x space) (position_or_len is_space l) (front l)
+  where
+    cases : (t : Bool) (n : ℕ) → take n l ≡ before space l → take (cond (not t) (1 + n) 0) (x ∷ l) ≡ cond t [] (x ∷ before space l)
+    cases true n e = refl
+    cases false n e = let p : 1 + n ≡ suc n = omega arith in ap (λ (m : ℕ). take m (x ∷ l)) p ∙ ap (λ (r : List ℕ). x ∷ r) e
+
+back : (l : List ℕ) → drop (position_or_len is_space l + 1) l ≡ after space l
+unfolding after
+back [] = refl
+back (x ∷ l) = cases (eqb x space) (position_or_len is_space l) (back l)
+  where
+    cases : (t : Bool) (n : ℕ) → drop (n + 1) l ≡ after space l → drop (cond (not t) (1 + n) 0 + 1) (x ∷ l) ≡ cond t l (after space l)
+    cases true n e = refl
+    cases false n e = let p : 1 + n + 1 ≡ suc (n + 1) = omega arith in ap (λ (m : ℕ). drop m (x ∷ l)) p ∙ e
+
+found : (b : Bool) (m i : ℕ) → cond b (Some m) None ≡ Some i → (b ≡ true) × (m ≡ i)
+found true m i e = (refl, (cc))
+found false m i e = absurd (cc)
+
+missed : (b : Bool) (m : ℕ) → cond b (Some m) None ≡ None → b ≡ false
+missed true m e = absurd (cc)
+missed false m e = refl
+
+pub cut_at : (l : List ℕ) (i : ℕ) → position is_space l ≡ Some i → (take i l ≡ before space l) × (drop (i + 1) l ≡ after space l)
+cut_at l i e =
+    let m = (found _ _ _ e).1 in
+    (subst (λ (n : ℕ). take n l ≡ before space l) m (front l), subst (λ (n : ℕ). drop (n + 1) l ≡ after space l) m (back l))
+
+pub no_cut : (l : List ℕ) → position is_space l ≡ None → (l ≡ before space l) × (◌≡◌ {A = List ℕ} [] (after space l))
+no_cut l e =
+    let n : length l ≤ position_or_len is_space l = ltb-false _ _ (missed _ _ e) in
+    (sym (take_all _ l n) ∙ front l, sym (drop_of_length-le l (omega arith)) ∙ back l)
 
 -- ---- skipped
 
-skipped_none : (k : ℕ) → skipped k [] ≡ []
-unfolding skipped after
-skipped_none zero = refl
-skipped_none (suc k) = skipped_none k
-
-pub skipped_end : (k : ℕ) (l : List ℕ) (i : ℕ) → length l ≤ i → skipped k (drop i l) ≡ []
-skipped_end k l i h = ap (skipped k) (drop_of_length-le l h) ∙ skipped_none k
-
-back : (k : ℕ) → k ≡ suc k - 1
-back k = omega arith
-
-skipped_first : (k x : ℕ) (l : List ℕ) → x ≡ space → 0 < k → skipped k (x ∷ l) ≡ skipped (k - 1) l
-unfolding skipped after
-skipped_first zero x l e h = absurd (omega arith)
-skipped_first (suc k) x l e h = simp (eq-eqb x space e) (ap (λ (j : ℕ). skipped j l) (back k))
-
-skipped_later : (k x : ℕ) (l : List ℕ) → (x ≡ space → ⊥) → 0 < k → skipped k (x ∷ l) ≡ skipped k l
-unfolding skipped after
-skipped_later zero x l n h = absurd (omega arith)
-skipped_later (suc k) x l n h = simp (ne_eqb x space n)
-
-pub skipped_space : (k : ℕ) (l : List ℕ) (i : ℕ) → i < length l → get_or l i 0 ≡ space → 0 < k → skipped k (drop i l) ≡ skipped (k - 1) (drop (i + 1) l)
-skipped_space k l i h e p = ap (skipped k) (dropped l i h) ∙ skipped_first k (get_or l i 0) (drop (i + 1) l) e p
-
-pub skipped_other : (k : ℕ) (l : List ℕ) (i : ℕ) → i < length l → (get_or l i 0 ≡ space → ⊥) → 0 < k → skipped k (drop i l) ≡ skipped k (drop (i + 1) l)
-skipped_other k l i h n p = ap (skipped k) (dropped l i h) ∙ skipped_later k (get_or l i 0) (drop (i + 1) l) n p
+pub skipped_on : (k i : ℕ) (l : List ℕ) → i < k → skipped (k - i) l ≡ skipped (k - (i + 1)) (after space l)
+unfolding skipped
+skipped_on k i l h = let e : k - i ≡ suc (k - (i + 1)) = omega arith in ap (λ (n : ℕ). skipped n l) e
 
 -- ---- count_of
 
-count_first : (x : ℕ) (l : List ℕ) → x ≡ space → count_of (x ∷ l) ≡ count_of l + 1
+pub count_is : (l : List ℕ) → count_by is_space l + 1 ≡ count_of l
 unfolding count_of
-count_first x l e = simp (eq-eqb x space e)
-
-count_later : (x : ℕ) (l : List ℕ) → (x ≡ space → ⊥) → count_of (x ∷ l) ≡ count_of l
-unfolding count_of
-count_later x l n = simp (ne_eqb x space n)
-
-pub count_space : (l : List ℕ) (i : ℕ) → i < length l → get_or l i 0 ≡ space → count_of (drop i l) ≡ count_of (drop (i + 1) l) + 1
-count_space l i h e = ap count_of (dropped l i h) ∙ count_first (get_or l i 0) (drop (i + 1) l) e
-
-pub count_other : (l : List ℕ) (i : ℕ) → i < length l → (get_or l i 0 ≡ space → ⊥) → count_of (drop i l) ≡ count_of (drop (i + 1) l)
-count_other l i h n = ap count_of (dropped l i h) ∙ count_later (get_or l i 0) (drop (i + 1) l) n
-
-pub count_end : (l : List ℕ) (i : ℕ) → length l ≤ i → count_of (drop i l) ≡ 1
-unfolding count_of
-count_end l i h = ap count_of (drop_of_length-le l h)
+count_is [] = refl
+count_is (x ∷ l) = rw (sum_by-cons (λ y. cond (is_space y) 1 0) x l) (cases (eqb x space) (count_is l))
+  where
+    cases : (t : Bool) → count_by is_space l + 1 ≡ count_of l → cond t 1 0 + count_by is_space l + 1 ≡ cond t (count_of l + 1) (count_of l)
+    cases true e = omega arith
+    cases false e = omega arith
 
 -- ---- alike
 
-alike_first : (x y : ℕ) (t w : List ℕ) → x ≡ y → alike (x ∷ t) (y ∷ w) ≡ alike t w
+pub alike_is : (t w : List ℕ) → bytes_eq t w ≡ alike t w
 unfolding alike
-alike_first x y t w e = simp (eq-eqb x y e)
-
-alike_differ : (x y : ℕ) (t w : List ℕ) → (x ≡ y → ⊥) → alike (x ∷ t) (y ∷ w) ≡ false
-unfolding alike
-alike_differ x y t w n = simp (ne_eqb x y n)
-
-pub alike_on : (t w : List ℕ) (i : ℕ) → i < length t → i < length w → get_or t i 0 ≡ get_or w i 0 → alike (drop i t) (drop i w) ≡ alike (drop (i + 1) t)
-    (drop (i + 1) w)
-alike_on t w i h k e = rw (dropped t i h, dropped w i k) (alike_first (get_or t i 0) (get_or w i 0) (drop (i + 1) t) (drop (i + 1) w) e)
-
-pub alike_not : (t w : List ℕ) (i : ℕ) → i < length t → i < length w → (get_or t i 0 ≡ get_or w i 0 → ⊥) → alike (drop i t) (drop i w) ≡ false
-alike_not t w i h k n = rw (dropped t i h, dropped w i k) (alike_differ (get_or t i 0) (get_or w i 0) (drop (i + 1) t) (drop (i + 1) w) n)
-
-pub alike_end : (t w : List ℕ) (i : ℕ) → length t ≤ i → length w ≤ i → alike (drop i t) (drop i w) ≡ true
-unfolding alike
-alike_end t w i h k = rw (drop_of_length-le t h, drop_of_length-le w k)
-
-pub alike_lengths : (t w : List ℕ) → (length t ≡ length w → ⊥) → alike t w ≡ false
-unfolding alike
-alike_lengths [] [] n = absurd (n refl)
-alike_lengths [] (y ∷ w) n = refl
-alike_lengths (x ∷ t) [] n = refl
-alike_lengths (x ∷ t) (y ∷ w) n = cases (eqb x y) (alike_lengths t w (λ e. n (ap suc e)))
+alike_is [] [] = refl
+alike_is [] (y ∷ w) = refl
+alike_is (x ∷ t) [] = refl
+alike_is (x ∷ t) (y ∷ w) = cases (eqb x y) (alike_is t w)
   where
-    cases : (b : Bool) → alike t w ≡ false → cond b (alike t w) false ≡ false
+    cases : (b : Bool) → bytes_eq t w ≡ alike t w → (b && bytes_eq t w) ≡ cond b (alike t w) false
     cases true e = e
     cases false e = refl

@@ -1,8 +1,9 @@
 -- inner to the programs: lines as they come out of blocks: what the functions of `collecting` promise.
-use Rattle.std.specs.Prelude.{ℕ, ◌+◌, ◌-◌, ◌≤◌, ◌<◌, ◌≡◌, Bool, true, false, cond, List, ◌∷◌, ◌++◌, length, take, drop, get_or, eqb, ltb}
+use Rattle.std.specs.Prelude.{Option, Some, None, ℕ, ◌+◌, ◌≤◌, ◌<◌, ◌≡◌, Bool, true, false, cond, List, ◌∷◌, ◌++◌, length, take, drop, get_or, eqb, ltb, leb}
+use Rattle.std.specs.Borrow.{Bor}
 use Rattle.lines.specs.Parts.{before}
 use Rattle.lines.specs.declared.collecting.Collected.{Collected}
-use Rattle.lines.specs.declared.collecting.Source.{Source}
+use Rattle.lines.specs.declared.collecting.Lines.{Lines}
 use Rattle.lines.specs.declared.collecting.Kind.{Kind}
 use Rattle.lines.specs.declared.collecting.Kind.TheVariants.{Silent, Long, Call}
 
@@ -36,24 +37,32 @@ pub record Keeps (line : List ℕ) (n b : ℕ) (buffer : List ℕ) (r : ℕ) : T
   pub long : length buffer ≡ length line
   pub within : n ≤ length line → r ≤ length line
 
--- the reading before the first line: nothing of the block is read yet
-abbrev pub unread : Source
-unread = record { from = 0; upto = 0; held = 0; more = true }
+-- the reading before the first line: nothing of the block is read yet, and no line is found
+pub record Unread (s : Lines) : Type 0 where
+  pub none_taken : s.from ≡ 0
+  pub none_read : s.upto ≡ 0
+  pub none_found : s.held ≡ None
 
 -- what is read of the block and yet to be taken holds the end of a line
-abbrev pub line_there : List ℕ → Source → Bool
-line_there block s = ltb (length (this_line (take s.upto block) s.from)) (length (drop s.from (take s.upto block)))
+abbrev pub line_there : Lines → Bool
+line_there s = ltb (length (this_line (take s.upto s.block) s.from)) (length (drop s.from (take s.upto s.block)))
+
+-- all that is read of the block is taken
+abbrev pub all_taken : Lines → Bool
+all_taken s = leb s.upto s.from
 
 -- The next line, as far as it stands in the block already: then it is taken from there, and nothing is read. No
 -- contract can say what a read brings.
-pub record NextLine (block line : List ℕ) (s : Source) (block' line' : List ℕ) (r : Source) : Type 0 where
-  pub taken : line_there block s ≡ true → Collects (take s.upto block) s.from line 0 line' (record { next = r.from; kept = r.held; ended = r.more })
-  pub unmoved : line_there block s ≡ true → (block' ≡ block) × (r.upto ≡ s.upto)
+pub record NextLine (s r : Lines) : Type 0 where
+  pub taken : line_there s ≡ true → (kept : ℕ) × (r.held ≡ Some kept) × Collects (take s.upto s.block) s.from s.line 0 r.line (record { next = r.from; kept = kept; ended = true })
+  pub unmoved : line_there s ≡ true → (r.block ≡ s.block) × (r.upto ≡ s.upto)
 
--- The turns that a loop has left.
-pub record TurnsLeft (turns : ℕ) (on : Bool) (r : ℕ) : Type 0 where
-  pub is : r ≡ cond on (turns - 1) 0
-  pub less : 0 < turns → r < turns
+-- the line that was found: the first bytes of the buffer
+abbrev pub Finds : Option ℕ → List ℕ → Option (Bor (List ℕ)) → Type 0
+Finds None l None = Unit {0}
+Finds None l (Some t) = ⊥
+Finds (Some n) l None = ⊥
+Finds (Some n) l (Some t) = t.now ≡ take n l
 
 -- a comment begins with `#`
 abbrev pub is_comment : List ℕ → Bool

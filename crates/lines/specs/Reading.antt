@@ -1,5 +1,5 @@
 -- inner to the programs: a part of a line as a number: decimal digits, at most 2^64 - 1, or `-` for none.
-use Rattle.std.specs.Prelude.{ℕ, ◌+◌, ◌-◌, ◌*◌, ◌^◌, Bool, true, false, cond, List, [], ◌∷◌, length, get_or, eqb, ltb}
+use Rattle.std.specs.Prelude.{Option, Some, None, ℕ, ◌+◌, ◌-◌, ◌*◌, ◌^◌, Bool, true, false, cond, List, [], ◌∷◌, length, get_or, eqb, ltb}
 use Rattle.lines.specs.declared.reading.Number.{Number}
 use Rattle.lines.specs.declared.reading.Number.TheVariants.{Is, Dash, Other}
 
@@ -16,6 +16,11 @@ pick_number false a b = b
 unfoldable pub read_on : ℕ → List ℕ → Number
 read_on n [] = Is n
 read_on n (b ∷ l) = pick_number (ltb 9 (digit_of b)) Other (pick_number (ltb (n * 10 + digit_of b) (2 ^ 64)) (read_on (n * 10 + digit_of b) l) Other)
+
+-- what digits say: the number, or something else where there is none
+abbrev pub said : Option ℕ → Number
+said (Some n) = Is n
+said None = Other
 
 -- a dash is none where it stands alone
 abbrev pub dash_of : ℕ → Number

@@ -1,28 +1,20 @@
 // A chain of nodes as a line.
-use crate::answers::{append, append_field};
+use crate::answers::Answers;
 use crate::rows::NONE;
 
-// Puts a line with the word and the nodes from the head on, as next leads, after the `at` bytes that wait in out: at
-// most as many as there are nodes, up to the first link that is no node. Answers how many bytes wait then.
-pub fn say_chain(
-    rt: &impl Print,
-    out: &mut [u8; 65536],
-    at: usize,
-    word: &[u8],
-    head: usize,
-    next: &[usize],
-) -> usize {
-    let mut waiting = append(rt, out, at, word);
-    let mut x = head;
-    let mut left = next.len();
-    while left > 0 {
-        left -= 1;
-        if x < next.len() && x as u64 != NONE {
-            waiting = append_field(rt, out, waiting, x as u64);
+impl Answers {
+    // Puts a line with the word and the nodes from the head on, as next leads, after what waits: at most as many as
+    // there are nodes, up to the first link that is no node.
+    pub fn say_chain(&mut self, rt: &impl Print, word: &[u8], head: usize, next: &[usize]) {
+        self.append(rt, word);
+        let mut x = head;
+        for _ in 0..next.len() {
+            if x >= next.len() || x as u64 == NONE {
+                break;
+            }
+            self.append_field(rt, x as u64);
             x = next[x];
-        } else {
-            left = 0;
         }
+        self.append(rt, b"\n");
     }
-    append(rt, out, waiting, b"\n")
 }

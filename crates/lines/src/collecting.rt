@@ -1,14 +1,14 @@
 // From blocks of standard input to lines.
-ghost use Rattle.std.specs.Prelude.{◌≡◌};
+ghost use Rattle.std.specs.Prelude.{◌≡◌, None};
 ghost use Rattle.io.specs.Counts.{IsPrefixLen};
-ghost use Rattle.lines.specs.Collecting.{Collects, Keeps, NextLine, TurnsLeft, unread, kind_of};
+ghost use Rattle.lines.specs.Collecting.{Collects, Keeps, NextLine, Unread, Finds, all_taken, kind_of};
 
 use crate::parts::first;
 use std::io::Read;
 
-const LINE_END: u8 = 10;
+const LINE_END: u8 = b'\n';
 
-const COMMENT: u8 = 35;
+const COMMENT: u8 = b'#';
 
 const LONGEST: usize = 256;
 
@@ -21,21 +21,15 @@ pub struct Collected {
     pub ended: bool,
 }
 
-// What one read led to: where the reading stands, and whether the line may go on.
-#[derive(Clone, Copy)]
-struct Reads {
-    source: Source,
-    on: bool,
-}
-
-// Where the reading of lines stands: the next byte of the block and the end of what was read into
-// it, how many bytes of the line found last the buffer holds, and whether there was one.
-#[derive(Clone, Copy)]
-pub struct Source {
+// Standard input as lines: a block of it, of which the bytes from `from` to `upto` are yet to be taken, and the line
+// found last, as much of it as there is room for: so many bytes, and none where there was no line.
+#[derive(Drop)]
+pub struct Lines {
+    pub block: [u8; 65536],
     pub from: usize,
     pub upto: usize,
-    pub held: usize,
-    pub more: bool,
+    pub line: [u8; 257],
+    pub held: Option<usize>,
 }
 
 // What a line is, before it is taken apart: one that answers nothing, one that is too long, or a
@@ -47,74 +41,68 @@ pub enum Kind {
     Call,
 }
 
-// The reading before the first line.
-pub fn begin() -> Source
-    ensures { result ≡ unread }
-{
-    Source {
-        from: 0,
-        upto: 0,
-        held: 0,
-        more: true,
+impl Lines {
+    // Before the first line.
+    pub fn new() -> Lines
+        ensures { Unread result }
+    {
+        Lines {
+            block: [0; 65536],
+            from: 0,
+            upto: 0,
+            line: [0; 257],
+            held: None,
+        }
     }
-}
 
-// Puts the next line of standard input into line, or as much of it as there is room for, and reads as much into block
-// for that as it needs. A last line that no line end follows counts, unless it is empty.
-pub fn next_line(
-    rt: &impl Input,
-    block: &mut [u8; 65536],
-    line: &mut [u8; 257],
-    s: Source,
-) -> Source
-    ensures { NextLine block.old line.old s block.new line.new result }
-{
-    let from = s.from;
-    let upto = s.upto;
-    let c = collect(first(block, upto), from, line, 0);
-    if c.ended {
-        return Source {
-            from: c.next,
-            upto,
-            held: c.kept,
-            more: true,
+    // Goes to the next line, and reads as much for that as it needs. A last line that no line end follows counts,
+    // unless it is empty.
+    pub fn advance(&mut self, rt: &impl Input)
+        ensures { NextLine self.old self.new }
+    {
+        let c = collect(first(&self.block, self.upto), self.from, &mut self.line, 0);
+        if c.ended {
+            self.from = c.next;
+            self.held = Some(c.kept);
+        } else {
+            self.read_on(rt, c.kept);
+        }
+    }
+
+    // Reads on until the line ends, of which `kept` bytes are held, or the input does. A proved loop has to end: no
+    // input is as long as this one may go on.
+    fn read_on(&mut self, rt: &impl Input, kept: usize) {
+        let mut c = Collected {
+            next: 0,
+            kept,
+            ended: false,
         };
+        for _ in 0..u64::MAX {
+            self.upto = read_block(rt, &mut self.block);
+            c = collect(first(&self.block, self.upto), 0, &mut self.line, c.kept);
+            if c.ended || self.upto == 0 {
+                break;
+            }
+        }
+        self.from = c.next;
+        self.held = (self.upto > 0 || c.kept > 0).then_some(c.kept);
     }
-    read_on(rt, block, line, c.kept)
-}
 
-// Reads on until a line ends or the input does. A proved loop has to end, so this one counts its
-// turns down from a number that no run uses up.
-fn read_on(rt: &impl Input, block: &mut [u8], line: &mut [u8], held: usize) -> Source {
-    let mut s = Source {
-        from: 0,
-        upto: 0,
-        held,
-        more: true,
-    };
-    let mut turns = u64::MAX;
-    while turns > 0 {
-        let r = read_more(rt, block, line, s.held);
-        s = r.source;
-        turns = turns_left(turns, r.on);
+    // The line that was found last, as much of it as there is room for: 257 bytes; none where there was none.
+    pub fn line(&self) -> Option<&[u8]>
+        ensures { Finds self.now.held self.now.line result }
+    {
+        match self.held {
+            Some(n) => Some(first(&self.line, n)),
+            None => None,
+        }
     }
-    s
-}
 
-// Reads once, and takes what came up to the end of the line.
-fn read_more(rt: &impl Input, block: &mut [u8], line: &mut [u8], held: usize) -> Reads {
-    let upto = read_block(rt, block);
-    let c = collect(first(block, upto), 0, line, held);
-    let more = upto > 0 || held > 0;
-    let source = Source {
-        from: c.next,
-        upto,
-        held: c.kept,
-        more,
-    };
-    Reads {
-        source,
-        on: upto > 0 && !c.ended,
+    // Whether all that was read is taken.
+    pub fn is_all_taken(&self) -> bool
+        ensures { result ≡ all_taken self.now }
+    {
+        self.from >= self.upto
     }
 }
 
@@ -123,10 +111,7 @@ fn read_more(rt: &impl Input, block: &mut [u8], line: &mut [u8], held: usize) ->
 fn read_block(rt: &impl Input, block: &mut [u8]) -> usize
     ensures { IsPrefixLen result block.new }
 {
-    match rt.reader().read(block) {
-        Ok(n) => n,
-        Err(_) => 0,
-    }
+    rt.reader().read(block).unwrap_or(0)
 }
 
 // Takes block's bytes from `from` on into line, which holds `kept` bytes of the same line already,
@@ -134,14 +119,12 @@ fn read_block(rt: &impl Input, block: &mut [u8]) -> usize
 fn collect(block: &[u8], from: usize, line: &mut [u8], kept: usize) -> Collected
     ensures { Collects block.now from line.old kept line.new result }
 {
-    let mut i = from;
     let mut n = kept;
-    while i < block.len() {
+    for i in from..block.len() {
         let b = block[i];
-        i += 1;
         if b == LINE_END {
             return Collected {
-                next: i,
+                next: i + 1,
                 kept: n,
                 ended: true,
             };
@@ -149,7 +132,7 @@ fn collect(block: &[u8], from: usize, line: &mut [u8], kept: usize) -> Collected
         n = keep(line, n, b);
     }
     Collected {
-        next: i,
+        next: from.max(block.len()),
         kept: n,
         ended: false,
     }
@@ -167,17 +150,6 @@ fn keep(line: &mut [u8], n: usize, b: u8) -> usize
     }
 }
 
-// How many turns a loop has left after one more: none where it does not go on. A loop over
-// lines starts from a number that no run uses up, since a proved loop has to end.
-pub fn turns_left(turns: u64, on: bool) -> u64
-    ensures { TurnsLeft turns on result }
-{
-    if turns == 0 {
-        return 0;
-    }
-    if on { turns - 1 } else { 0 }
-}
-
 // What the line is: too long, silent (empty, or a comment), or a call.
 pub fn kind_of(line: &[u8]) -> Kind
     ensures { result ≡ kind_of line.now }
@@ -185,13 +157,8 @@ pub fn kind_of(line: &[u8]) -> Kind
     if line.len() > LONGEST {
         return Kind::Long;
     }
-    if line.len() == 0 {
+    if line.is_empty() || line[0] == COMMENT {
         return Kind::Silent;
     }
-    let first = line[0];
-    if first == COMMENT {
-        Kind::Silent
-    } else {
-        Kind::Call
-    }
+    Kind::Call
 }

@@ -15,18 +15,12 @@ pub fn digest_start() -> u64
 pub fn digest_step(h: u64, x: u64) -> u64
     ensures { result ≡ mixed h x }
 {
-    numbers::wrapping_mul(h ^ x, PRIME)
+    (h ^ x).wrapping_mul(PRIME)
 }
 
 // The digest h with all of the words after it.
 pub fn digest_all(h: u64, words: &[u64]) -> u64
     ensures { result ≡ mixed_all h words.now }
 {
-    let mut d = h;
-    let mut i = 0;
-    while i < words.len() {
-        d = digest_step(d, words[i]);
-        i += 1;
-    }
-    d
+    words.iter().fold(h, |d, x| digest_step(d, *x))
 }

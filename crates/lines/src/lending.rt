@@ -5,5 +5,5 @@ ghost use Rattle.std.specs.Prelude.{◌≤◌};
 pub fn within(n: usize, most: usize) -> usize
     ensures { result ≤ most }
 {
-    if n < most { n } else { most }
+    n.min(most)
 }

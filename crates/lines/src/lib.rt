@@ -2,10 +2,10 @@
 // buffer.
 //
 // Every function is proved and none of the public ones has a `requires`. What a line means is said in specs/, on lists
-// of bytes. A program is a loop: `next_line` puts a line into a buffer of 257 bytes, `requested` says what it asks for
-// (or `kind_of`, `count`, `is_part` and `number_at` take it apart), `tell` notes what is answered, `say` puts its line
-// into another buffer and writes answers out before more is read, and `turns_left` counts the turns; `flush` ends it.
-// What reads takes a handle to the input, what may write one to the output: `main` passes on its runtime.
+// of bytes. A program is a loop: `Lines` goes to the next line, `requested` says what it asks for (or `kind_of`, `count`,
+// `is_part` and `number_at` take it apart), `tell` notes what is answered, and `Answers` puts its line after those that
+// wait, and writes them out before more is read; `flush` ends it. What reads takes a handle to the input, what may write
+// one to the output: `main` passes on its runtime.
 #![tactic(auto)]
 
 mod answers;
@@ -19,13 +19,12 @@ mod reading;
 mod rows;
 mod telling;
 
-pub use crate::answers::flush;
-pub use crate::asking::{Asked, NO_WORD, SILENT, requested};
-pub use crate::chains::say_chain;
-pub use crate::collecting::{Kind, Source, begin, kind_of, next_line, turns_left};
+pub use crate::answers::Answers;
+pub use crate::asking::{Asked, requested};
+pub use crate::collecting::{Kind, Lines, kind_of};
 pub use crate::digests::{digest_all, digest_start, digest_step};
 pub use crate::lending::within;
 pub use crate::parts::{count, first, is_part, part};
 pub use crate::reading::{Number, number_at};
-pub use crate::rows::{NONE, PAST_END, Row, tell_row};
-pub use crate::telling::{BAD_LINE, NO_LINE, SHOWN, say, tell, tell_none};
+pub use crate::rows::{NONE, PAST_END, Value, digest_row};
+pub use crate::telling::{BAD_LINE, NO_LINE, tell, tell_none};

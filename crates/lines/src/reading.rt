@@ -1,13 +1,12 @@
 // A part of a line as a number.
-ghost use Rattle.std.specs.Prelude.{◌≡◌};
-ghost use Rattle.lines.specs.Reading.{number_of, digit_of, read_on, dash_of};
+ghost use Rattle.std.specs.Prelude.{◌≡◌, ◌≤◌, ◌<◌, ◌+◌, ◌*◌, ◌^◌};
+ghost use Rattle.std.specs.Option.{SomeIff};
+ghost use Rattle.lines.specs.Reading.{number_of, digit_of, read_on, said};
 ghost use Rattle.lines.specs.Parts.{part_of};
 
 use crate::parts::part;
 
-const DASH: u8 = 45;
-
-const MOST_TENS: u64 = 1844674407370955161;
+const DASH: &[u8] = b"-";
 
 // What a part says: a number up to 2^64 - 1, none, or something else.
 #[derive(Clone, Copy)]
@@ -28,60 +27,31 @@ pub fn number_at(line: &[u8], k: usize) -> Number
 pub fn read_number(text: &[u8]) -> Number
     ensures { result ≡ number_of text.now }
 {
-    if text.len() == 0 {
+    if text.is_empty() {
         return Number::Other;
     }
-    let first = text[0];
-    if first == DASH {
-        return dashed(text.len());
+    if text == DASH {
+        return Number::Dash;
     }
-    digits(text)
+    digits(text).map_or(Number::Other, Number::Is)
 }
 
-// What a text of that length is that begins with a dash.
-fn dashed(length: usize) -> Number
-    ensures { result ≡ dash_of length }
+// The number that the bytes stand for as decimal digits. (std's parse is no plainer here: it takes text alone, and reads
+// a sign too.)
+fn digits(text: &[u8]) -> Option<u64>
+    ensures { said result ≡ read_on 0 text.now }
 {
-    if length == 1 {
-        Number::Dash
-    } else {
-        Number::Other
+    let mut n = 0;
+    for b in text {
+        n = with_digit(n, *b)?;
     }
+    Some(n)
 }
 
-// The digit that a byte stands for, or 10.
-fn digit(b: u8) -> u64
-    ensures { result ≡ digit_of b }
+// The number with one digit more, if the byte is a digit and the number fits.
+fn with_digit(n: u64, b: u8) -> Option<u64>
+    ensures { SomeIff result ((digit_of b ≤ 9) × (n * 10 + digit_of b < 2 ^ 64)) (n * 10 + digit_of b) }
 {
-    if b < 48 {
-        return 10;
-    }
-    if b > 57 {
-        return 10;
-    }
-    (b - 48) as u64
-}
-
-// The number that the bytes stand for as decimal digits.
-fn digits(text: &[u8]) -> Number
-    ensures { result ≡ read_on 0 text.now }
-{
-    let mut n: u64 = 0;
-    let mut i = 0;
-    while i < text.len() {
-        let d = digit(text[i]);
-        i += 1;
-        if d > 9 {
-            return Number::Other;
-        }
-        if n > MOST_TENS {
-            return Number::Other;
-        }
-        let tens = n * 10;
-        if d > u64::MAX - tens {
-            return Number::Other;
-        }
-        n = tens + d;
-    }
-    Number::Is(n)
+    let digit = char::from(b).to_digit(10)?;
+    n.checked_mul(10)?.checked_add(u64::from(digit))
 }

@@ -1,5 +1,5 @@
 // A row of records: a line of a dump, or numbers of a digest.
-use crate::answers::{append, append_field};
+use crate::answers::Answers;
 use crate::digests::digest_step;
 use crate::parts::part;
 
@@ -14,92 +14,47 @@ const NONE_COUNTS: u64 = u64::MAX;
 
 const END_COUNTS: u64 = u64::MAX - 1;
 
-// A row: its word's place in the program's table, how many of the values it has, and these. A value may be none or past
-// the end where the bit of its place is set in links.
+// A value of a row: a number, or a link, which may be none or past the end.
 #[derive(Clone, Copy)]
-pub struct Row {
-    pub word: usize,
-    pub count: usize,
-    pub values: [u64; 10],
-    pub links: u64,
+pub enum Value {
+    Number(u64),
+    Link(u64),
 }
 
-// The row's line after the bytes that wait in out, or the digest with the row's numbers after it: what was told before
-// is how many bytes wait, or the digest.
-pub fn tell_row(
-    rt: &impl Print,
-    out: &mut [u8; 65536],
-    told: u64,
-    words: &[u8],
-    row: Row,
-    sums: bool,
-) -> u64 {
-    if sums {
-        return digest_row(told, row);
-    }
-    let worded = append(rt, out, told as usize, part(words, row.word));
-    let valued = say_values(rt, out, worded, row);
-    append(rt, out, valued, b"\n") as u64
-}
-
-fn digest_row(h: u64, row: Row) -> u64 {
-    let values = row.values;
-    let count = row.count;
-    let mut links = row.links;
+// The digest h with the row's values after it.
+pub fn digest_row(h: u64, values: &[Value]) -> u64 {
     let mut digest = h;
-    let mut k: usize = 0;
-    while k < 10 {
-        digest = digest_value(digest, k < count, links % 2 == 1, values[k]);
-        links = links / 2;
-        k += 1;
+    for value in values {
+        digest = digest_step(digest, counted(*value));
     }
     digest
 }
 
-fn digest_value(h: u64, has: bool, link: bool, v: u64) -> u64 {
-    if !has {
-        return h;
+// What a value counts as in a digest.
+fn counted(value: Value) -> u64 {
+    match value {
+        Value::Link(NONE) => NONE_COUNTS,
+        Value::Link(PAST_END) => END_COUNTS,
+        Value::Number(n) | Value::Link(n) => n,
     }
-    if link && v == NONE {
-        return digest_step(h, NONE_COUNTS);
-    }
-    if link && v == PAST_END {
-        return digest_step(h, END_COUNTS);
-    }
-    digest_step(h, v)
 }
 
-fn say_values(rt: &impl Print, out: &mut [u8; 65536], at: usize, row: Row) -> usize {
-    let values = row.values;
-    let count = row.count;
-    let mut links = row.links;
-    let mut waiting = at;
-    let mut k: usize = 0;
-    while k < 10 {
-        waiting = say_value(rt, out, waiting, k < count, links % 2 == 1, values[k]);
-        links = links / 2;
-        k += 1;
+impl Answers {
+    // Puts a line with the word and the row's values after what waits: a number, `-` for none and `end` for past the
+    // end.
+    pub fn say_row(&mut self, rt: &impl Print, word: &[u8], values: &[Value]) {
+        self.append(rt, word);
+        for value in values {
+            self.say_value(rt, *value);
+        }
+        self.append(rt, b"\n");
     }
-    waiting
-}
 
-// A space and a number, `-` or `end`.
-fn say_value(
-    rt: &impl Print,
-    out: &mut [u8; 65536],
-    at: usize,
-    has: bool,
-    link: bool,
-    v: u64,
-) -> usize {
-    if !has {
-        return at;
+    fn say_value(&mut self, rt: &impl Print, value: Value) {
+        match value {
+            Value::Link(NONE) => self.append(rt, b" -"),
+            Value::Link(PAST_END) => self.append(rt, b" end"),
+            Value::Number(n) | Value::Link(n) => self.append_field(rt, n),
+        }
     }
-    if link && v == NONE {
-        return append(rt, out, at, b" -");
-    }
-    if link && v == PAST_END {
-        return append(rt, out, at, b" end");
-    }
-    append_field(rt, out, at, v)
 }

@@ -1,14 +1,14 @@
 // What a program tells of a line: an answer as six numbers, and the line that says it.
-use crate::answers::{append, append_field, settle};
-use crate::collecting::Source;
+ghost use Rattle.std.specs.Prelude.{◌≡◌, ◌∷◌, [], slice_index};
+
+use crate::answers::Answers;
+use crate::collecting::Lines;
 use crate::parts::part;
 
 // What is told is the place of its first word in the program's table, how many numbers follow, these, and one number
-// that only the program reads. Three are no words of a table: no line, a line that stands in the buffer already, with
-// how many bytes wait there, and a line that is no call.
+// that only the program reads. Two are no words of a table: no line, or one that waits among the answers already, and a
+// line that is no call.
 pub const NO_LINE: u64 = 97;
-
-pub const SHOWN: u64 = 98;
 
 pub const BAD_LINE: u64 = 99;
 
@@ -16,75 +16,48 @@ pub const BAD_LINE: u64 = 99;
 const DASH: u64 = 9;
 
 // Tells a word and so many of three numbers.
-pub fn tell(told: &mut [u64; 6], word: u64, numbers: u64, a: u64, b: u64, c: u64) {
-    told[0] = word;
-    told[1] = numbers;
-    told[2] = a;
-    told[3] = b;
-    told[4] = c;
+pub fn tell(told: &mut [u64; 6], word: u64, numbers: u64, a: u64, b: u64, c: u64)
+    ensures { told.new ≡ word ∷ numbers ∷ a ∷ b ∷ c ∷ slice_index told.old 5 ∷ [] }
+{
+    *told = [word, numbers, a, b, c, told[5]];
 }
 
 // Tells a word and none.
-pub fn tell_none(told: &mut [u64; 6], word: u64) {
+pub fn tell_none(told: &mut [u64; 6], word: u64)
+    ensures { told.new ≡ word ∷ 9 ∷ 0 ∷ 0 ∷ 0 ∷ slice_index told.old 5 ∷ [] }
+{
     tell(told, word, DASH, 0, 0, 0);
 }
 
-// Puts the line of what was told after the `at` bytes that wait in out, with its word out of the table, writes all out
-// where all of the block is answered, and answers how many wait then.
-pub fn say(
-    rt: &impl Print,
-    out: &mut [u8; 65536],
-    at: usize,
-    words: &[u8],
-    told: &[u64; 6],
-    source: Source,
-) -> usize {
-    let said = say_told(rt, out, at, words, told);
-    settle(rt, out, said, source)
-}
-
-fn say_told(
-    rt: &impl Print,
-    out: &mut [u8; 65536],
-    at: usize,
-    words: &[u8],
-    told: &[u64; 6],
-) -> usize {
-    let word = told[0];
-    match word {
-        NO_LINE => at,
-        SHOWN => told[2] as usize,
-        BAD_LINE => append(rt, out, at, b"bad line\n"),
-        _ => say_answer(rt, out, at, part(words, word as usize), told),
+impl Answers {
+    // Puts the line of what was told after what waits, with its word out of the table, and writes all out where all
+    // that was read is answered, so that nothing waits while more is read.
+    pub fn say(&mut self, rt: &impl Print, words: &[u8], told: &[u64; 6], input: &Lines) {
+        match told[0] {
+            NO_LINE => {}
+            BAD_LINE => self.append(rt, b"bad line\n"),
+            word => {
+                self.append(rt, part(words, word as usize));
+                self.say_numbers(rt, told);
+                self.append(rt, b"\n");
+            }
+        }
+        if input.is_all_taken() {
+            self.flush(rt);
+        }
     }
-}
 
-fn say_answer(
-    rt: &impl Print,
-    out: &mut [u8; 65536],
-    at: usize,
-    word: &[u8],
-    told: &[u64; 6],
-) -> usize {
-    let worded = append(rt, out, at, word);
-    let numbered = say_numbers(rt, out, worded, told);
-    append(rt, out, numbered, b"\n")
-}
-
-fn say_numbers(rt: &impl Print, out: &mut [u8; 65536], at: usize, told: &[u64; 6]) -> usize {
-    let numbers = told[1];
-    if numbers == DASH {
-        return append(rt, out, at, b" -");
+    // A space before each of so many numbers, or before the dash for none.
+    fn say_numbers(&mut self, rt: &impl Print, told: &[u64; 6]) {
+        let numbers = told[1];
+        if numbers == DASH {
+            self.append(rt, b" -");
+            return;
+        }
+        for k in 0..3 {
+            if numbers > k as u64 {
+                self.append_field(rt, told[2 + k]);
+            }
+        }
     }
-    let first = say_number(rt, out, at, numbers > 0, told[2]);
-    let second = say_number(rt, out, first, numbers > 1, told[3]);
-    say_number(rt, out, second, numbers > 2, told[4])
-}
-
-// A space and the number, if it is one of the answer's.
-fn say_number(rt: &impl Print, out: &mut [u8; 65536], at: usize, has: bool, n: u64) -> usize {
-    if has {
-        return append_field(rt, out, at, n);
-    }
-    at
 }

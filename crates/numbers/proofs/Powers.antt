@@ -1,12 +1,15 @@
 -- Powers of two up to a limit: which numbers they are, and the one that fits a number.
-use Rattle.std.proofs.Common.{◌≡◌, ℕ, zero, suc, ◌+◌, ◌-◌, ◌*◌, ◌/◌, ◌%◌, ◌^◌, ◌<◌, ◌≤◌, min, Bool, true, false, cond}
+use Rattle.std.proofs.Common.{◌≡◌, ℕ, zero, suc, ◌+◌, ◌-◌, ◌*◌, ◌/◌, ◌%◌, ◌^◌, ◌<◌, ◌≤◌, min, max, Bool, true, false, cond}
 use Rattle.std.proofs.Common.{◌||◌, eqb, ltb, leb, ◌⊎◌, sym, refl, ap, ◌∙◌, inl, inr, true≢false, le_refl}
 use Rattle.std.proofs.Common.{le_of_suc-le-suc, eq-or-lt_of_le, pow-suc, arith, pow_pos, pow_mono, ltb-false}
 use Rattle.std.proofs.Common.{ltb-true, eq-eqb, ne_eqb, eqb-true, le-leb, leb-false, leb-true}
-use native.Mathlib.Nat.{le_step, mod_self}
-use lib.Arith.{le-zero, lt-one}
-use lib.Bits.{bit_and, and_step, and_self, and_comm, and_mask}
+use native.Mathlib.Nat.{le_step}
+use lib.Arith.{le-zero}
+use lib.Bits.{bit_and, and_mask}
 use borrow.Author.Tests.{lt-leb}
+use Rattle.std.specs.Int.RustNames.{count_ones}
+use Rattle.std.specs.Int.Count.{ones_step}
+use Rattle.std.proofs.lemmas.Nat.{ones_le_self, zero_from_ones}
 use Rattle.numbers.specs.Shared.{is_power_to, power_for}
 
 -- n is a power of two with an exponent up to k
@@ -54,51 +57,37 @@ power_gap k a b p q l = go (ltb p.exponent q.exponent) refl
     go true e = omega (arith, p.is, q.is, pow-suc 2 p.exponent, pow_mono (ltb-true p.exponent q.exponent e))
     go false e = absurd (omega (arith, p.is, q.is, pow_mono (ltb-false p.exponent q.exponent e)))
 
--- ---- a power of two has no bit in common with the number below it
+-- ---- a power of two has one bit set
 
-apart : (k m : ℕ) → m < 2 ^ k → bit_and m (m + 1) ≡ 0 → Power k (m + 1)
-apart zero m h e = record { exponent = 0; most = le_refl 0; is = ap (λ (n : ℕ). n + 1) (lt-one h) }
-apart (suc k) m h e = go (apart k (m / 2)) (m % 2) refl
+double : (n : ℕ) → count_ones (n * 2) ≡ count_ones n
+double n =
+    let low : n * 2 % 2 ≡ 0 = omega arith in
+    let high : n * 2 / 2 ≡ n = omega arith in
+    ones_step (n * 2) ∙ omega (arith, low, ap count_ones high)
+
+one_bit : (j : ℕ) → count_ones (2 ^ j) ≡ 1
+one_bit zero = omega (arith, ones_step 1, ones_le_self 0)
+one_bit (suc j) = ap count_ones (pow-suc 2 j) ∙ double (2 ^ j) ∙ one_bit j
+
+from_one_bit : (k n : ℕ) → n ≤ 2 ^ k → count_ones n ≡ 1 → Power k n
+from_one_bit zero n h e = record { exponent = 0; most = le_refl 0; is = omega (arith, ones_le_self n) }
+from_one_bit (suc k) n h e = go (from_one_bit k (n / 2)) (n % 2) refl
   where
-    step : bit_and (m / 2) ((m + 1) / 2) * 2 + min (m % 2) ((m + 1) % 2) ≡ 0
-    step = sym (and_step m (m + 1)) ∙ e
-
-    go : (m / 2 < 2 ^ k → bit_and (m / 2) (m / 2 + 1) ≡ 0 → Power k (m / 2 + 1)) → (b : ℕ) → m % 2 ≡ b → Power (suc k) (m + 1)
+    go : (n / 2 ≤ 2 ^ k → count_ones (n / 2) ≡ 1 → Power k (n / 2)) → (b : ℕ) → n % 2 ≡ b → Power (suc k) n
     go rest zero p =
-        let q : (m + 1) / 2 ≡ m / 2 = omega arith in
-        let z : m / 2 ≡ 0 = sym (and_self (m / 2)) ∙ ap (bit_and (m / 2)) (sym q) ∙ omega (arith, step) in
-        record { exponent = 0; most = omega arith; is = omega arith }
-    go rest (suc zero) p =
-        let q : (m + 1) / 2 ≡ m / 2 + 1 = omega arith in
-        let l : m / 2 < 2 ^ k = omega (arith, pow-suc 2 k) in
-        let r = rest l (ap (bit_and (m / 2)) (sym q) ∙ omega (arith, step)) in
+        let r = rest (omega (arith, pow-suc 2 k)) (omega (arith, ones_step n)) in
         record { exponent = suc r.exponent; most = omega (arith, r.most); is = omega (arith, r.is, pow-suc 2 r.exponent) }
+    go rest (suc zero) p =
+        record { exponent = 0; most = omega arith; is = omega (arith, zero_from_ones (n / 2) (omega (arith, ones_step n))) }
     go rest (suc (suc b)) p = absurd (omega arith)
 
-pub apart_power : (k m : ℕ) → m < 2 ^ k → bit_and m (m + 1) ≡ 0 → is_power_to k (m + 1) ≡ true
-apart_power k m h e = power_from k (m + 1) (apart k m h e)
-
-pub power_apart : (k m : ℕ) → is_power_to k (m + 1) ≡ true → bit_and m (m + 1) ≡ 0
-power_apart k m h =
-    let s = power_means k (m + 1) h in
-    let j = s.exponent in
-    let p : m ≡ 2 ^ j - 1 = omega (arith, pow_pos j, s.is) in
-    ap (bit_and m) s.is ∙ ap (λ (n : ℕ). bit_and n (2 ^ j)) p ∙ and_comm (2 ^ j - 1) (2 ^ j) ∙ and_mask (2 ^ j) j ∙ mod_self (2 ^ j)
-
 -- so the test by bits is the test for a power
-pub power_test : (k n : ℕ) → 0 < n → n ≤ 2 ^ k → eqb (bit_and n (n - 1)) 0 ≡ is_power_to k n
-power_test k n l m = go (is_power_to k n) refl
+pub power_test : (k n : ℕ) → n ≤ 2 ^ k → eqb (count_ones n) 1 ≡ is_power_to k n
+power_test k n m = go (is_power_to k n) refl
   where
-    back : n ≡ n - 1 + 1
-    back = omega arith
-
-    turned : bit_and n (n - 1) ≡ bit_and (n - 1) (n - 1 + 1)
-    turned = and_comm n (n - 1) ∙ ap (bit_and (n - 1)) back
-
-    go : (b : Bool) → is_power_to k n ≡ b → eqb (bit_and n (n - 1)) 0 ≡ b
-    go true e = eq-eqb _ 0 (turned ∙ power_apart k (n - 1) (ap (is_power_to k) (sym back) ∙ e))
-    go false e =
-        ne_eqb _ 0 (λ z. true≢false (sym (ap (is_power_to k) back ∙ apart_power k (n - 1) (omega arith) (sym turned ∙ z)) ∙ e))
+    go : (b : Bool) → is_power_to k n ≡ b → eqb (count_ones n) 1 ≡ b
+    go true e = let p = power_means k n e in eq-eqb _ 1 (ap count_ones p.is ∙ one_bit p.exponent)
+    go false e = ne_eqb _ 1 (λ z. true≢false (sym (power_from k n (from_one_bit k n m z)) ∙ e))
 
 -- a mask that is one less than a power of two takes the remainder
 pub mask_cut : (k x m : ℕ) → is_power_to k (m + 1) ≡ true → bit_and x m ≡ x % (m + 1)
@@ -130,6 +119,31 @@ power_for_is (suc k) j n h a b = go (power_for_is k j n) (eq-or-lt_of_le h)
 pub power_for_top : (k n : ℕ) → 2 ^ k < n → power_for (suc k) n ≡ 2 ^ suc k
 unfolding power_for
 power_for_top k n l = ap (λ (t : Bool). cond t (power_for k n) (2 ^ suc k)) (lt-leb n (2 ^ k) l)
+
+-- a power of two above the half of a number up to 2 ^ k, and not below it, has an exponent up to k
+short : (k m j : ℕ) → m ≤ 2 ^ k → 2 ^ j / 2 < max 1 m → j ≤ k
+short k m j h l = go (leb j k) refl
+  where
+    go : (t : Bool) → leb j k ≡ t → j ≤ k
+    go true e = leb-true j k e
+    go false e = absurd (omega (arith, pow_pos k, pow-suc 2 k, pow_mono (leb-false j k e)))
+
+-- the least power of two that is not below n, or not below 2 ^ k where n is above that
+pub next_is : (k n j : ℕ) → min n (2 ^ suc k) ≤ 2 ^ j → 2 ^ j / 2 < max 1 (min n (2 ^ suc k)) → 2 ^ j ≡ power_for (suc k) n
+next_is k n j h l = go (leb n (2 ^ suc k)) refl (short (suc k) (min n (2 ^ suc k)) j (omega arith) l)
+  where
+    halved : (i : ℕ) → n ≤ 2 ^ suc k → 2 ^ i / 2 < max 1 (min n (2 ^ suc k)) → (i ≡ 0) ⊎ (2 ^ i < n + n)
+    halved zero m w = inl refl
+    halved (suc i) m w = inr (omega (arith, pow-suc 2 i, pow_pos i))
+
+    go : (t : Bool) → leb n (2 ^ suc k) ≡ t → j ≤ suc k → 2 ^ j ≡ power_for (suc k) n
+    go true e m =
+        let b : n ≤ 2 ^ suc k = leb-true n (2 ^ suc k) e in
+        sym (power_for_is (suc k) j n m (omega arith) (halved j b l))
+    go false e m =
+        let b : 2 ^ suc k < n = leb-false n (2 ^ suc k) e in
+        let top : 2 ^ j ≡ 2 ^ suc k = omega (arith, pow_mono m) in
+        top ∙ sym (power_for_top k n (omega (arith, pow-suc 2 k)))
 
 -- ---- what the power that fits is like
 

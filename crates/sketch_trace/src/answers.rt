@@ -1,6 +1,6 @@
 // What a call answers, as it is told: a word's place in the table and up to three numbers. A call that may change the
 // record writes it.
-use lines::Source;
+use lines::{Answers, Lines};
 use sketch_rules::{Ensured, Estimated, Increased, Sketch};
 
 // The words of the table below, in its order.
@@ -18,16 +18,10 @@ const ESTIMATE: u64 = 5;
 
 pub const WORD: u64 = 6;
 
-// Puts the line of what was told after the bytes that wait in out, and answers how many wait then.
-pub fn say(
-    rt: &impl Print,
-    out: &mut [u8; 65536],
-    at: usize,
-    told: &[u64; 6],
-    source: Source,
-) -> usize {
+// Puts the line of what was told after the answers that wait.
+pub fn say(rt: &impl Print, answers: &mut Answers, told: &[u64; 6], input: &Lines) {
     let words = b"ok refused index record digest estimate word";
-    lines::say(rt, out, at, words, told, source)
+    answers.say(rt, words, told, input);
 }
 
 // Tells a word and one number, if it has one.

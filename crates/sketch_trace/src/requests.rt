@@ -1,7 +1,7 @@
 // A line as a request: the call that it names, its numbers, and how many words are lent to it.
 ghost use Rattle.std.specs.Prelude.{◌≤◌};
 
-use lines::{Asked, Source};
+use lines::Asked;
 
 // The calls, in the order of their names in the table below; then a line that is none, and one that asks nothing.
 pub const LEND: usize = 0;
@@ -47,37 +47,44 @@ pub struct Plan {
     pub c: u64,
 }
 
-// What the line that was found last asks for, on no more words than there are.
-pub fn planned(s: State, line: &[u8; 257], source: Source) -> Plan
+// What the line asks for, on no more words than there are.
+pub fn planned(s: State, line: &[u8]) -> Plan
     ensures { result.words ≤ 65536 }
 {
-    let asked = asked_of(line, source);
+    let names = b"lend index record digest increase estimate ensure word poke-word poke-record";
+    let asked = lines::requested(line, names);
     let call = call_of(s, asked);
+    let [a, b, c] = numbers_of(asked);
     Plan {
         call,
-        words: lent_to(s, call, asked.a),
-        a: asked.a,
-        b: asked.b,
-        c: asked.c,
+        words: lent_to(s, call, a),
+        a,
+        b,
+        c,
     }
 }
 
-fn asked_of(line: &[u8; 257], source: Source) -> Asked {
-    let names = b"lend index record digest increase estimate ensure word poke-word poke-record";
-    lines::requested(line, source, names)
+// The line's numbers; 0 where it has none.
+fn numbers_of(asked: Option<Asked>) -> [u64; 3] {
+    match asked {
+        Some(asked) => asked.numbers,
+        None => [0; 3],
+    }
 }
 
 // The call that a line is, if it has as many numbers as the call. Before the first lend only `lend` and `index` are
 // calls, and no more words can be lent than there are.
-fn call_of(s: State, asked: Asked) -> usize {
-    let word = asked.word;
-    if word == lines::SILENT {
+fn call_of(s: State, asked: Option<Asked>) -> usize {
+    let Some(asked) = asked else {
         return SILENT;
-    }
+    };
+    let Some(word) = asked.word else {
+        return BAD;
+    };
     if asked.parts != parts_of(word) {
         return BAD;
     }
-    if word == LEND && asked.a > MOST_WORDS {
+    if word == LEND && asked.numbers[0] > MOST_WORDS {
         return BAD;
     }
     if !s.lent && word > INDEX {
@@ -94,7 +101,6 @@ fn parts_of(word: usize) -> usize {
         DIGEST => 1,
         POKE_WORD => 3,
         POKE_RECORD => 4,
-        lines::NO_WORD => 5,
         _ => 2,
     }
 }

@@ -3,6 +3,7 @@ ghost use Rattle.std.specs.Prelude.{◌≤◌, length};
 ghost use Rattle.rules.specs.Places.{wheel01};
 ghost use Rattle.wheel_rules.specs.records.Counts.{IsOne, Counts, KeyReady, DueReady, FindsKey, Sooner, FindsDue};
 
+use crate::lent::{Entries, Nodes};
 pub use wheel_rules::records::Due;
 
 // 1 where the bucket is one of the total, else 0.
@@ -12,41 +13,54 @@ fn one(total: usize, bucket: usize) -> usize
     if bucket < total { 1 } else { 0 }
 }
 
-// How many slots are armed: those from the total of buckets on whose bucket is one.
-pub fn armed_count(heads: &[usize], bucket: &[usize]) -> usize
-    requires { length heads.now ≤ length bucket.now }
-    ensures { Counts wheel01 heads.now bucket.now result }
-{
-    let total = heads.len();
-    let mut n: usize = 0;
-    let mut x = total;
-    while x < bucket.len() {
-        n += one(total, bucket[x]);
-        x += 1;
+impl Nodes<'_> {
+    // How many slots are armed: those from the total of buckets on whose bucket is one.
+    pub fn armed_count(&self) -> usize
+        requires { length self.now.linked.heads.now ≤ length self.now.linked.home.now }
+        ensures { Counts wheel01 self.now.linked.heads.now self.now.linked.home.now result }
+    {
+        let total = self.linked.heads.len();
+        let mut n: usize = 0;
+        for x in total..self.linked.home.len() {
+            n += one(total, self.linked.home[x]);
+        }
+        n
     }
-    n
-}
 
-// What next due takes the least of: the deadline that the slot's entry holds, if the slot is armed.
-fn key(
-    total: usize,
-    bucket: &[usize],
-    entry: &[usize],
-    dated: &[bool],
-    deadline: &[u64],
-    x: usize,
-) -> Due
-    requires { KeyReady total bucket.now entry.now dated.now deadline.now x }
-    ensures { FindsKey total bucket.now entry.now dated.now deadline.now x result }
-{
-    if total <= bucket[x] {
-        return Due::Nothing;
+    // What next due takes the least of: the deadline that the slot's entry holds, if the slot is armed.
+    fn key(&self, entries: &Entries<'_>, x: usize) -> Due
+        requires { KeyReady
+            (length self.now.linked.heads.now) self.now.linked.home.now self.now.entry.now
+            entries.now.dated.now entries.now.deadline.now x }
+        ensures { FindsKey
+            (length self.now.linked.heads.now) self.now.linked.home.now self.now.entry.now
+            entries.now.dated.now entries.now.deadline.now x result }
+    {
+        if self.linked.heads.len() <= self.linked.home[x] {
+            return Due::Nothing;
+        }
+        let e = self.entry[x];
+        if entries.dated[e] {
+            return Due::At(entries.deadline[e]);
+        }
+        Due::Nothing
     }
-    let e = entry[x];
-    if dated[e] {
-        return Due::At(deadline[e]);
+
+    // The least deadline of the armed timers, or none.
+    pub fn next_due(&self, entries: &Entries<'_>) -> Due
+        requires { DueReady
+            self.now.linked.heads.now self.now.linked.home.now self.now.entry.now
+            entries.now.dated.now entries.now.deadline.now }
+        ensures { FindsDue wheel01
+            self.now.linked.heads.now self.now.linked.home.now self.now.entry.now
+            entries.now.dated.now entries.now.deadline.now result }
+    {
+        let mut least = Due::Nothing;
+        for x in self.linked.heads.len()..self.linked.home.len() {
+            least = sooner(self.key(entries, x), least);
+        }
+        least
     }
-    Due::Nothing
 }
 
 // The less of two.
@@ -63,26 +77,4 @@ fn sooner(a: Due, b: Due) -> Due
         return a;
     }
     b
-}
-
-// The least deadline of the armed timers, or none.
-pub fn next_due(
-    heads: &[usize],
-    bucket: &[usize],
-    entry: &[usize],
-    dated: &[bool],
-    deadline: &[u64],
-) -> Due
-    requires { DueReady heads.now bucket.now entry.now dated.now deadline.now }
-    ensures { FindsDue wheel01 heads.now bucket.now entry.now dated.now deadline.now result }
-{
-    let total = heads.len();
-    let mut least = Due::Nothing;
-    let mut x = total;
-    while x < bucket.len() {
-        let k = key(total, bucket, entry, dated, deadline, x);
-        least = sooner(k, least);
-        x += 1;
-    }
-    least
 }

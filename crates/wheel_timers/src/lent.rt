@@ -1,9 +1,8 @@
 // The lent records of a wheel in parallel slices, for reading or to be changed: the slots with the heads and tails of
 // the buckets, and the entries. The clock goes beside them, by value.
-ghost use Rattle.std.specs.Prelude.{◌≡◌};
-ghost use Rattle.wheel_timers.specs.Slices.{nodes_of, nodes_now, entries_of, entries_now};
+ghost use Rattle.wheel_timers.specs.Slices.{ReadsNodes, ReadsEntries};
 
-use deque::{Linked, LinkedMut};
+use deque::linked::{Linked, LinkedMut};
 
 // The slots: their links, whose `home` is the slot's bucket, and their payload.
 #[derive(Clone, Copy)]
@@ -15,6 +14,7 @@ pub struct Nodes<'a> {
 }
 
 // The same, to be changed.
+#[derive(Drop)]
 pub struct NodesMut<'a> {
     pub linked: LinkedMut<'a>,
     pub entry: &'a mut [usize],
@@ -24,7 +24,7 @@ pub struct NodesMut<'a> {
 
 impl NodesMut<'_> {
     pub fn as_read(&self) -> Nodes<'_>
-        ensures { nodes_of result ≡ nodes_now self.now }
+        ensures { ReadsNodes self.now result }
     {
         Nodes {
             linked: self.linked.as_read(),
@@ -44,6 +44,7 @@ pub struct Entries<'a> {
 }
 
 // The same, to be changed.
+#[derive(Drop)]
 pub struct EntriesMut<'a> {
     pub dated: &'a mut [bool],
     pub deadline: &'a mut [u64],
@@ -52,7 +53,7 @@ pub struct EntriesMut<'a> {
 
 impl EntriesMut<'_> {
     pub fn as_read(&self) -> Entries<'_>
-        ensures { entries_of result ≡ entries_now self.now }
+        ensures { ReadsEntries self.now result }
     {
         Entries {
             dated: self.dated,

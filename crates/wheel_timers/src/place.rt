@@ -16,11 +16,7 @@ pub use wheel_rules::place::Place;
 pub fn gap(reading: u64, deadline: u64) -> u64
     ensures { result ≡ deadline - reading }
 {
-    if deadline < reading {
-        0
-    } else {
-        deadline - reading
-    }
+    deadline.saturating_sub(reading)
 }
 
 // The index of a time at a level: its tick there, modulo the level's bucket count.

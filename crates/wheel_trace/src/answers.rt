@@ -1,7 +1,7 @@
 // What a call answers, as it is told: a word's place in the table and up to three numbers. A call that may change the
 // clock writes it.
 use crate::clocks::numbers_of;
-use lines::Source;
+use lines::{Answers, Lines};
 use wheel_rules::calls::{Clock, Counted, Due, Noted, Pulled, Rescheduled, Scheduled, Timed};
 
 // The words of the table below, in its order.
@@ -25,16 +25,10 @@ pub const PLACE: u64 = 8;
 
 pub const DIGEST: u64 = 9;
 
-// Puts the line of what was told after the bytes that wait in out, and answers how many wait then.
-pub fn say(
-    rt: &impl Print,
-    out: &mut [u8; 65536],
-    at: usize,
-    told: &[u64; 6],
-    source: Source,
-) -> usize {
+// Puts the line of what was told after the answers that wait.
+pub fn say(rt: &impl Print, answers: &mut Answers, told: &[u64; 6], input: &Lines) {
     let words = b"ok rescheduled removed end refused armed expired due place digest";
-    lines::say(rt, out, at, words, told, source)
+    answers.say(rt, words, told, input);
 }
 
 // Tells a word and so many of three numbers.

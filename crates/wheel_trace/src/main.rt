@@ -14,18 +14,19 @@ mod turns; // start, abandon, armed, due
 mod words; // a line's words as a call
 mod work; // the calls on the records that are lent
 
-use crate::sessions::{at_start, session};
+use crate::sessions::session;
+use lines::{Answers, Lines};
 
 // Answers line by line to the end of the input, lend by lend.
 fn main(rt: HostRuntime) {
-    let mut block = [0u8; 65536];
-    let mut line = [0u8; 257];
-    let mut out = [0u8; 65536];
-    let mut stand = at_start();
-    let mut turns = u64::MAX;
-    while turns > 0 {
-        stand = session(&rt, &mut block, &mut line, &mut out, stand);
-        turns = lines::turns_left(turns, stand.more);
+    let mut input = Lines::new();
+    let mut answers = Answers::new();
+    let mut lent = None;
+    for _ in 0..u64::MAX {
+        lent = session(&rt, &mut input, &mut answers, lent);
+        if lent.is_none() {
+            break;
+        }
     }
-    lines::flush(&rt, &out, stand.waiting);
+    answers.flush(&rt);
 }

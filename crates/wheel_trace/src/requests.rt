@@ -1,7 +1,7 @@
 // A line of the trace as what it asks for: the call's number and its fields.
 use crate::fields::{field_at, narrow};
 use crate::words::form_of;
-use lines::{Kind, Source};
+use lines::Kind;
 
 // What a line asks for: a call, its first field as an index, the numbers of the second and the third, the generation
 // among them, and whether the second is no dash.
@@ -63,18 +63,12 @@ pub const BAD: u64 = 0x74;
 // The forms from here on may come before the first lend.
 const ANY_TIME: u64 = 0x1_00_0_000;
 
-// What the line that was found asks for, if there was one. Before the first lend every call but `place` and `lend` is
-// none.
-pub fn request_of(line: &[u8; 257], source: Source, lent: bool) -> Request {
-    let more = source.more;
-    if !more {
-        return bare(SILENT);
-    }
-    let text = lines::first(line, source.held);
-    match lines::kind_of(text) {
+// What the line asks for. Before the first lend every call but `place` and `lend` is none.
+pub fn request_of(line: &[u8], lent: bool) -> Request {
+    match lines::kind_of(line) {
         Kind::Silent => bare(SILENT),
         Kind::Long => bare(BAD),
-        Kind::Call => called(text, form_of(text), lent),
+        Kind::Call => called(line, form_of(line), lent),
     }
 }
 

@@ -1,9 +1,11 @@
 // What is shown of the records: a bucket's slots, the clock, and the dump or its digest, row by row.
-use crate::answers::answer;
+use crate::answers::{answer, plain};
 use crate::clocks::number_of;
 use crate::requests::Request;
 use crate::{answers, requests};
-use lines::{NONE, Row, SHOWN};
+use lines::{Answers, NO_LINE, NONE, Value};
+
+const BUCKETS: usize = 165;
 
 // `bucket`, `clock`, `dump` or `digest`.
 pub fn show<'a>(
@@ -19,64 +21,32 @@ pub fn show<'a>(
     dated: &'a [bool],
     deadline: &'a [u64],
     stamp: &'a [u32],
-    out: &'a mut [u8; 65536],
+    answers: &'a mut Answers,
     clock: &'a mut [u64; 10],
     told: &'a mut [u64; 6],
-    at: usize,
     r: Request,
 ) -> &'a mut [u64; 6] {
     let call = r.call;
-    if call == requests::BUCKET {
-        let waits = lines::say_chain(
-            rt,
-            out,
-            at,
-            b"bucket",
-            number(heads, r.index) as usize,
-            next,
-        );
-        return answer(told, SHOWN, 0, waits as u64, 0, 0);
+    match call {
+        requests::BUCKET => answers.say_chain(rt, b"bucket", number(heads, r.index) as usize, next),
+        requests::CLOCK => answers.say_row(rt, b"clock", &clock_row(clock)),
+        requests::DIGEST => {
+            let h = digest(
+                heads, tails, next, prev, bucket, entry, generation, serial, dated, deadline,
+                stamp, clock,
+            );
+            return answer(told, answers::DIGEST, 1, h, 0, 0);
+        }
+        _ => dump(
+            rt, heads, tails, next, prev, bucket, entry, generation, serial, dated, deadline,
+            stamp, clock, answers,
+        ),
     }
-    let rows = rows_of(next.len(), dated.len(), call == requests::CLOCK);
-    if call == requests::DIGEST {
-        let digest = tell(
-            rt,
-            heads,
-            tails,
-            next,
-            prev,
-            bucket,
-            entry,
-            generation,
-            serial,
-            dated,
-            deadline,
-            stamp,
-            clock,
-            out,
-            lines::digest_start(),
-            rows,
-            true,
-        );
-        return answer(told, answers::DIGEST, 1, digest, 0, 0);
-    }
-    let waits = tell(
-        rt, heads, tails, next, prev, bucket, entry, generation, serial, dated, deadline, stamp,
-        clock, out, at as u64, rows, false,
-    );
-    answer(told, SHOWN, 0, waits, 0, 0)
+    plain(told, NO_LINE)
 }
 
-// How many rows there are: one if the clock is all.
-fn rows_of(nodes: usize, entries: usize, one: bool) -> usize {
-    if one {
-        return 1;
-    }
-    std::num::wrapping_add_usize(166, std::num::wrapping_add_usize(nodes, entries))
-}
-
-// The first rows, as lines or as a digest: how many bytes wait, or the digest.
-fn tell(
+// The clock, the buckets, the node records that are lent, and the entries, a line each.
+fn dump(
     rt: &impl Print,
     heads: &[usize],
     tails: &[usize],
@@ -90,30 +60,26 @@ fn tell(
     deadline: &[u64],
     stamp: &[u32],
     clock: &[u64; 10],
-    out: &mut [u8; 65536],
-    begun: u64,
-    rows: usize,
-    sums: bool,
-) -> u64 {
-    let mut told = begun;
-    let mut i: usize = 0;
-    while i < rows {
-        let r = row_at(
-            heads, tails, next, prev, bucket, entry, generation, serial, dated, deadline, stamp,
-            clock, sums, i,
-        );
-        told = tell_row(rt, out, told, r, sums);
-        i += 1;
+    answers: &mut Answers,
+) {
+    answers.say_row(rt, b"clock", &clock_row(clock));
+    for b in 0..BUCKETS {
+        answers.say_row(rt, b"bucket", &bucket_row(heads, tails, b));
     }
-    told
+    for x in 0..next.len() {
+        answers.say_row(
+            rt,
+            b"node",
+            &node_row(next, prev, bucket, entry, generation, serial, x),
+        );
+    }
+    for e in 0..dated.len() {
+        answers.say_row(rt, b"entry", &entry_row(dated, deadline, stamp, e));
+    }
 }
 
-fn tell_row(rt: &impl Print, out: &mut [u8; 65536], told: u64, r: Row, sums: bool) -> u64 {
-    lines::tell_row(rt, out, told, b"clock bucket node entry", r, sums)
-}
-
-// Row i: the clock, then the buckets, the node records that are lent, and the entries.
-fn row_at(
+// The digest of their numbers, in which an entry's deadline is two.
+fn digest(
     heads: &[usize],
     tails: &[usize],
     next: &[usize],
@@ -126,42 +92,40 @@ fn row_at(
     deadline: &[u64],
     stamp: &[u32],
     clock: &[u64; 10],
-    sums: bool,
-    i: usize,
-) -> Row {
-    if i == 0 {
-        return clock_row(clock);
+) -> u64 {
+    let mut h = lines::digest_row(lines::digest_start(), &clock_row(clock));
+    for b in 0..BUCKETS {
+        h = lines::digest_row(h, &bucket_row(heads, tails, b));
     }
-    let b = i - 1;
-    if b < 165 {
-        return bucket_row(b, number(heads, b), number(tails, b));
+    for x in 0..next.len() {
+        h = lines::digest_row(
+            h,
+            &node_row(next, prev, bucket, entry, generation, serial, x),
+        );
     }
-    let x = b - 165;
-    if x < next.len() {
-        return node_row(next, prev, bucket, entry, generation, serial, x);
+    for e in 0..dated.len() {
+        h = lines::digest_row(h, &entry_numbers(dated, deadline, stamp, e));
     }
-    entry_row(dated, deadline, stamp, x - next.len(), sums)
+    h
 }
 
 // `ENABLED READING SERIAL OPEN PREVIOUS LEVEL STEP NODES ENTRIES FREE`.
-fn clock_row(clock: &[u64; 10]) -> Row {
-    Row {
-        word: 0,
-        count: 10,
-        values: *clock,
-        links: 0x200,
+fn clock_row(clock: &[u64; 10]) -> [Value; 10] {
+    let mut row = [Value::Number(0); 10];
+    for k in 0..9 {
+        row[k] = Value::Number(clock[k]);
     }
+    row[9] = Value::Link(clock[9]);
+    row
 }
 
 // `B HEAD TAIL`.
-fn bucket_row(b: usize, head: u64, tail: u64) -> Row {
-    let values = [b as u64, head, tail, 0, 0, 0, 0, 0, 0, 0];
-    Row {
-        word: 1,
-        count: 3,
-        values,
-        links: 6,
-    }
+fn bucket_row(heads: &[usize], tails: &[usize], b: usize) -> [Value; 3] {
+    [
+        Value::Number(b as u64),
+        Value::Link(number(heads, b)),
+        Value::Link(number(tails, b)),
+    ]
 }
 
 // `S NEXT PREV BUCKET ENTRY GENERATION SERIAL`.
@@ -173,49 +137,42 @@ fn node_row(
     generation: &[u32],
     serial: &[u64],
     x: usize,
-) -> Row {
-    let values = [
-        x as u64,
-        number(next, x),
-        number(prev, x),
-        number(bucket, x),
-        number(entry, x),
-        narrow(generation, x),
-        wide(serial, x),
-        0,
-        0,
-        0,
-    ];
-    Row {
-        word: 2,
-        count: 7,
-        values,
-        links: 14,
-    }
+) -> [Value; 7] {
+    [
+        Value::Number(x as u64),
+        Value::Link(number(next, x)),
+        Value::Link(number(prev, x)),
+        Value::Link(number(bucket, x)),
+        Value::Number(number(entry, x)),
+        Value::Number(narrow(generation, x)),
+        Value::Number(wide(serial, x)),
+    ]
 }
 
-// Of the entry e: `E DEADLINE GENERATION` in the dump; in the digest the deadline is two numbers.
-fn entry_row(dated: &[bool], deadline: &[u64], stamp: &[u32], e: usize, sums: bool) -> Row {
+// Of the entry e: `E DEADLINE GENERATION`.
+fn entry_row(dated: &[bool], deadline: &[u64], stamp: &[u32], e: usize) -> [Value; 3] {
+    let due = if flag(dated, e) {
+        Value::Number(wide(deadline, e))
+    } else {
+        Value::Link(NONE)
+    };
+    [
+        Value::Number(e as u64),
+        due,
+        Value::Number(narrow(stamp, e)),
+    ]
+}
+
+// The same for the digest: whether it has a deadline, and that or 0.
+fn entry_numbers(dated: &[bool], deadline: &[u64], stamp: &[u32], e: usize) -> [Value; 4] {
     let has = flag(dated, e);
-    let due = wide(deadline, e);
-    let h = narrow(stamp, e);
-    if sums {
-        let kept = if has { due } else { 0 };
-        return Row {
-            word: 3,
-            count: 4,
-            values: [e as u64, number_of(has), kept, h, 0, 0, 0, 0, 0, 0],
-            links: 0,
-        };
-    }
-    let kept = if has { due } else { NONE };
-    let links = if has { 0 } else { 2 };
-    Row {
-        word: 3,
-        count: 3,
-        values: [e as u64, kept, h, 0, 0, 0, 0, 0, 0, 0],
-        links,
-    }
+    let kept = if has { wide(deadline, e) } else { 0 };
+    [
+        Value::Number(e as u64),
+        Value::Number(number_of(has)),
+        Value::Number(kept),
+        Value::Number(narrow(stamp, e)),
+    ]
 }
 
 // What a column has in record i: none, 0 or no where there is no such record.

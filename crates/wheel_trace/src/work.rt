@@ -9,8 +9,9 @@ use crate::requests::Request;
 use crate::shows::show;
 use crate::timers::on_timers;
 use crate::turns::on_clock;
+use lines::Answers;
 
-// A call: what is shown goes to out, after the bytes that wait there.
+// A call: what is shown goes to the answers, after those that wait.
 pub fn perform<'a>(
     rt: &impl Print,
     heads: &'a mut [usize],
@@ -24,10 +25,9 @@ pub fn perform<'a>(
     dated: &'a mut [bool],
     deadline: &'a mut [u64],
     stamp: &'a mut [u32],
-    out: &'a mut [u8; 65536],
+    answers: &'a mut Answers,
     clock: &'a mut [u64; 10],
     told: &'a mut [u64; 6],
-    at: usize,
     r: Request,
 ) -> &'a mut [u64; 6] {
     let group = r.call / 16;
@@ -46,7 +46,7 @@ pub fn perform<'a>(
         ),
         3 => show(
             rt, heads, tails, next, prev, bucket, entry, generation, serial, dated, deadline,
-            stamp, out, clock, told, at, r,
+            stamp, answers, clock, told, r,
         ),
         4 => poke_node(next, prev, bucket, entry, generation, serial, told, r),
         5 => poke_bucket(heads, tails, told, r),

@@ -16,7 +16,7 @@ use Rattle.deque_rules.proofs.Laws.{first_in}
 use Rattle.rules.specs.Places.{wheel01, buckets}
 use Rattle.rules.specs.Wheel.{Slot as Node, Entry, Wheel}
 use Rattle.wheel_rules.specs.declared.calls.Clock.{Clock}
-use Rattle.wheel_rules.specs.Lent.{Nodes, Entries, Records, records, nodes, entries, Shows, Armed, SoundRecords, wheel_of as shown, lent}
+use Rattle.wheel_rules.specs.Lent.{Nodes, Entries, Records, records, Shows, Armed, SoundRecords, wheel_of as shown}
 use Rattle.wheel_rules.specs.records.Records.{join}
 use Rattle.wheel_rules.specs.timers.Timers.{Ready, ArmReady, SlotReady, MoveReady}
 use Rattle.wheel_rules.specs.records.Counts.{DueReady}
@@ -105,16 +105,15 @@ arm_ready N E c e h k f z =
     }
 
 -- the deadline of its entry is in the slice
-module _ (h t n p b ee g s : List ℕ) (d : List Bool) (l m : List ℕ) (c : Clock) (e i k : ℕ) (f : RefusesSchedule (lent h t n p b ee g s d l m c) e i k)
-    (z : k ≡ 0) where
-  pub due_index : e < length l
+module _ (N : Nodes) (E : Entries) (c : Clock) (e i k : ℕ) (f : RefusesSchedule (records N E c) e i k) (z : k ≡ 0) where
+  pub due_index : e < length E.deadline
   due_index =
-      let s' = schedulable (nodes h t n p b ee g s) (entries d l m) c e i k f z in
+      let s' = schedulable N E c e i k f z in
       omega (arith, s'.entry, s'.sound.lengths.entries.deadline_len)
 
   pub due_bytes : Fits w64 (e * 8)
   due_bytes =
-      let s' = schedulable (nodes h t n p b ee g s) (entries d l m) c e i k f z in
+      let s' = schedulable N E c e i k f z in
       small e (omega (arith, s'.entry, s'.sound.lengths.ranges.entries_most))
 
 -- ---- set entry
@@ -169,48 +168,46 @@ armed_of N E c x n k =
 pub entry_exists : (N : Nodes) (E : Entries) (c : Clock) (x n : ℕ) → Handled N E c x n → get_or N.entry x 0 < c.entries
 entry_exists N E c x n k = k.sound.exist.each x (armed_of N E c x n k)
 
-module _ (h t n p b ee g s : List ℕ) (d : List Bool) (l m : List ℕ) (c : Clock) (x j i k : ℕ) (f : RefusesHandle (lent h t n p b ee g s d l m c) x j i k)
-    (z : k ≡ 0) where
-  handled : Handled (nodes h t n p b ee g s) (entries d l m) c x j
-  handled = handled_by (nodes h t n p b ee g s) (entries d l m) c x j i k f z
+module _ (N : Nodes) (E : Entries) (c : Clock) (x j i k : ℕ) (f : RefusesHandle (records N E c) x j i k) (z : k ≡ 0) where
+  handled : Handled N E c x j
+  handled = handled_by N E c x j i k f z
 
-  exists : get_or ee x 0 < c.entries
-  exists = entry_exists (nodes h t n p b ee g s) (entries d l m) c x j handled
+  exists : get_or N.entry x 0 < c.entries
+  exists = entry_exists N E c x j handled
 
-  pub entry_index : x < length ee
+  pub entry_index : x < length N.entry
   entry_index = omega (arith, handled.live.slot, handled.sound.lengths.nodes.entry_len)
 
   pub entry_bytes : Fits w64 (x * 8)
   entry_bytes = small x (omega (arith, handled.live.slot, handled.sound.lengths.ranges.nodes_most))
 
-  pub held_dated : get_or ee x 0 < length d
+  pub held_dated : get_or N.entry x 0 < length E.dated
   held_dated = omega (arith, exists, handled.sound.lengths.entries.dated_len)
 
-  pub held_deadline : get_or ee x 0 < length l
+  pub held_deadline : get_or N.entry x 0 < length E.deadline
   held_deadline = omega (arith, exists, handled.sound.lengths.entries.deadline_len)
 
-  pub held_bytes : Fits w64 (get_or ee x 0 * 8)
-  held_bytes = small (get_or ee x 0) (omega (arith, exists, handled.sound.lengths.ranges.entries_most))
+  pub held_bytes : Fits w64 (get_or N.entry x 0 * 8)
+  held_bytes = small (get_or N.entry x 0) (omega (arith, exists, handled.sound.lengths.ranges.entries_most))
 
 -- ---- pull
-pub turn_ready : (N : Nodes) (t : List Bool) (d m : List ℕ) (c : Clock) (k : ℕ) → RefusesOpen (records N (entries t d m) c) k → k ≡ 0 → TurnReady wheel01 N t d
-    c
-turn_ready N t d m c k f z =
-    let u = standing_past (records N (entries t d m) c) (unless (c.open ≡ true) 6 answered) k f.by z in
+pub turn_ready : (N : Nodes) (E : Entries) (c : Clock) (k : ℕ) → RefusesOpen (records N E c) k → k ≡ 0 → TurnReady wheel01 N E.dated E.deadline c
+turn_ready N E c k f z =
+    let u = standing_past (records N E c) (unless (c.open ≡ true) 6 answered) k f.by z in
     let v = past 6 k u.2 (λ i. omega (arith, z, i)) in
-    record { ages = m; ready = ready N (entries t d m) c u.0 u.1; opened = v.0 }
+    record { ages = E.generation; ready = ready N E c u.0 u.1; opened = v.0 }
 
 -- ---- the two counts
-module _ (h t n p b ee g s : List ℕ) (d : List Bool) (l m : List ℕ) (c : Clock) (o : SoundRecords wheel01 (lent h t n p b ee g s d l m c)) where
-  room : length h ≤ length b
+module _ (N : Nodes) (E : Entries) (c : Clock) (o : SoundRecords wheel01 (records N E c)) where
+  room : length N.links.heads ≤ length N.links.home
   room = omega (arith, o.lengths.ends.heads_len, o.lengths.nodes.bucket_len, o.lengths.ranges.room)
 
-  exists_at : (x : ℕ) → length h ≤ x → x < length b → get_or b x 0 < length h → get_or ee x 0 < c.entries
+  exists_at : (x : ℕ) → length N.links.heads ≤ x → x < length N.links.home → get_or N.links.home x 0 < length N.links.heads → get_or N.entry x 0 < c.entries
   exists_at x i j a =
       o.exist.each x
       (record { after = omega (arith, i, o.lengths.ends.heads_len); lent = j; names = omega (arith, a, o.lengths.ends.heads_len) })
 
-  due_of : DueReady h b ee d l
+  due_of : DueReady N.links.heads N.links.home N.entry E.dated E.deadline
   due_of =
       record {
         entry_len = o.lengths.nodes.entry_len ∙ sym o.lengths.nodes.bucket_len;
@@ -219,12 +216,12 @@ module _ (h t n p b ee g s : List ℕ) (d : List Bool) (l m : List ℕ) (c : Clo
         deadline = λ x i j a. omega (arith, exists_at x i j a, o.lengths.entries.deadline_len);
       }
 
-module _ (h t n p b ee g s : List ℕ) (d : List Bool) (l m : List ℕ) (c : Clock) (k : ℕ) where
-  pub count_ready : RefusesCount (lent h t n p b ee g s d l m c) k → k ≡ 0 → length h ≤ length b
-  count_ready f z = room h t n p b ee g s d l m c (standing_past (lent h t n p b ee g s d l m c) answered k f.by z).1
+module _ (N : Nodes) (E : Entries) (c : Clock) (k : ℕ) where
+  pub count_ready : RefusesCount (records N E c) k → k ≡ 0 → length N.links.heads ≤ length N.links.home
+  count_ready f z = room N E c (standing_past (records N E c) answered k f.by z).1
 
-  pub due_ready : RefusesClosed (lent h t n p b ee g s d l m c) k → k ≡ 0 → DueReady h b ee d l
-  due_ready f z = due_of h t n p b ee g s d l m c (closed_past (lent h t n p b ee g s d l m c) answered k f.by z).1
+  pub due_ready : RefusesClosed (records N E c) k → k ≡ 0 → DueReady N.links.heads N.links.home N.entry E.dated E.deadline
+  due_ready f z = due_of N E c (closed_past (records N E c) answered k f.by z).1
 
 -- ---- what the wheel that the records show says of them
 -- an entry's deadline

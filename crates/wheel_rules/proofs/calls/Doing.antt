@@ -164,6 +164,6 @@ pub pull_acts : (R : Records) → open_rows R 0 → Acts pull R (pulled R) (pull
 pull_acts R f =
     let E : Entries = R.entries in
     let y : TurnReady wheel01 R.nodes E.dated E.deadline R.clock =
-    turn_ready R.nodes E.dated E.deadline E.generation R.clock 0 (record { by = f }) refl in
+    turn_ready R.nodes E R.clock 0 (record { by = f }) refl in
     lift pull R (pulled R) (pull_says R) (open_past R f).0
     (λ w t o. pull_does R.nodes E.dated E.deadline R.clock y E.generation w t o)

@@ -1,6 +1,17 @@
 -- `lines::parts::part` meets its contract.
-use Rattle.lines.proofs.Scans.{part_is}
+use Rattle.std.proofs.Common.{◌≡◌, ℕ, ◌-◌, ap, sym, ◌∙◌, arith}
+use Rattle.lines.specs.Parts.{skipped, before, space}
+use Rattle.lines.proofs.Scans.{skipped_on}
 use Rattle.lines.proofs.parts.part.Goals as goal
 
+pub loop-preserved : goal.loop-preserved
+loop-preserved c =
+    let s = c.loop in
+    ap (skipped _) c.cut.ensures.back ∙ sym (skipped_on c.args.k s.counter s.rest.now (omega arith)) ∙ s.invariant
+
 pub returns : goal.returns
-returns c = part_is _ _ _ _ c.skip-a.ensures.1 c.stop-e.ensures.2
+unfolding skipped
+returns c =
+    let s = c.loop in
+    let e : c.args.k - s.counter ≡ 0 = omega arith in
+    c.cut-2.ensures.front ∙ ap (before space) (sym (ap (λ (n : ℕ). skipped n s.rest.now) e) ∙ s.invariant)

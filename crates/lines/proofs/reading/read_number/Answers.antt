@@ -1,14 +1,12 @@
--- `lines::reading::read_number` meets its contract: each way is a case of the definition.
-use borrow.Author.Tests.{eq-eqb, ne_eqb}
+-- `lines::reading::read_number` meets its contract.
+use Rattle.std.proofs.Common.{◌≡◌, ◌∙◌, ◌<◌, length, sym, rules}
+use Rattle.std.specs.Cmp.Lexicographic.{other_text}
+use Rattle.lines.specs.Reading.{said}
+use Rattle.lines.proofs.Decimals.{all_digits}
 use Rattle.lines.proofs.reading.read_number.Goals as goal
-
-pub returns-then-text-eq0 : goal.returns-then-text-eq0
-returns-then-text-eq0 c = simp (eq-eqb _ _ c.if-text-eq0.true)
-
-pub returns-then-first-eq-DASH : goal.returns-then-first-eq-DASH
-returns-then-first-eq-DASH c =
-    simp (ne_eqb _ _ c.if-text-eq0.false, eq-eqb _ _ c.if-first-eq-DASH.true) c.dashed.ensures
 
 pub returns : goal.returns
 returns c =
-    simp (ne_eqb _ _ c.if-text-eq0.false, ne_eqb _ _ c.if-first-eq-DASH.false) c.digits.ensures
+    let e : c.map_or.result ≡ said c.digits.result = search rules in
+    let some : 0 < length c.args.text.now = search rules in
+    e ∙ c.digits.ensures ∙ all_digits _ some (other_text _ _ (sym c.if-eq.false ∙ c.eq.ensures))

@@ -1,9 +1,0 @@
--- `bench::main` is safe and ends. Nothing has to hold from turn to turn; the measure is the number of turns that
--- are left.
-use Rattle.bench.proofs.main.Given as goal
-
-abbrev pub invariant-loop-turns : goal.invariant-loop-turns
-invariant-loop-turns l = Unit {0}
-
-abbrev pub decreases-loop-turns : goal.decreases-loop-turns
-decreases-loop-turns l = l.turns
