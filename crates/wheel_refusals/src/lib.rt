@@ -14,7 +14,8 @@ pub mod sound;
 
 use crate::sound::is_sound;
 use crate::sound::lengths::{ends_lent, entries_lent, nodes_lent, ranged};
-use deque::{Linked, NONE};
+use deque::NONE;
+use deque::linked::Linked;
 use numbers::refusals::Refusal;
 use wheel_rules::calls::Clock;
 use wheel_timers::lent::{Entries, Nodes};

@@ -16,7 +16,6 @@ use crate::sound::lengths::lengths_kept;
 use crate::sound::position::advance_stands;
 use crate::sound::serials::serials_differ;
 use crate::sound::slots::{entries_exist, kinds, serials_below};
-use deque::sound::sound;
 use wheel_rules::calls::Clock;
 use wheel_timers::lent::{Entries, Nodes};
 
@@ -29,14 +28,7 @@ pub fn is_sound(nodes: Nodes<'_>, entries: Entries<'_>, clock: Clock, total: usi
     lengths_kept(nodes, entries, clock, total)
         && advance_stands(clock)
         && kinds(links.home, total)
-        && sound(
-            links.heads,
-            links.tails,
-            links.next,
-            links.prev,
-            links.home,
-            clock.free,
-        )
+        && links.sound(clock.free)
         && entries_exist(links.home, nodes.entry, total, clock.entries)
         && serials_below(links.home, nodes.serial, total, clock.serial)
         && serials_differ(links.home, nodes.serial, total)

@@ -4,7 +4,6 @@ ghost use Rattle.rules.specs.Places.{wheel01};
 ghost use Rattle.wheel_rules.specs.records.Counts.{IsOne, Counts, KeyReady, DueReady, FindsKey, Sooner, FindsDue};
 
 use crate::lent::{Entries, Nodes};
-pub use wheel_rules::records::Due;
 
 // 1 where the bucket is one of the total, else 0.
 fn one(total: usize, bucket: usize) -> usize
@@ -28,7 +27,7 @@ impl Nodes<'_> {
     }
 
     // What next due takes the least of: the deadline that the slot's entry holds, if the slot is armed.
-    fn key(&self, entries: &Entries<'_>, x: usize) -> Due
+    fn key(&self, entries: &Entries<'_>, x: usize) -> Option<u64>
         requires { KeyReady
             (length self.now.linked.heads.now) self.now.linked.home.now self.now.entry.now
             entries.now.dated.now entries.now.deadline.now x }
@@ -37,17 +36,18 @@ impl Nodes<'_> {
             entries.now.dated.now entries.now.deadline.now x result }
     {
         if self.linked.heads.len() <= self.linked.home[x] {
-            return Due::Nothing;
+            return None;
         }
         let e = self.entry[x];
         if entries.dated[e] {
-            return Due::At(entries.deadline[e]);
+            Some(entries.deadline[e])
+        } else {
+            None
         }
-        Due::Nothing
     }
 
     // The least deadline of the armed timers, or none.
-    pub fn next_due(&self, entries: &Entries<'_>) -> Due
+    pub fn next_due(&self, entries: &Entries<'_>) -> Option<u64>
         requires { DueReady
             self.now.linked.heads.now self.now.linked.home.now self.now.entry.now
             entries.now.dated.now entries.now.deadline.now }
@@ -55,7 +55,7 @@ impl Nodes<'_> {
             self.now.linked.heads.now self.now.linked.home.now self.now.entry.now
             entries.now.dated.now entries.now.deadline.now result }
     {
-        let mut least = Due::Nothing;
+        let mut least = None;
         for x in self.linked.heads.len()..self.linked.home.len() {
             least = sooner(self.key(entries, x), least);
         }
@@ -63,18 +63,12 @@ impl Nodes<'_> {
     }
 }
 
-// The less of two.
-fn sooner(a: Due, b: Due) -> Due
+// The less of two, where there are two.
+fn sooner(a: Option<u64>, b: Option<u64>) -> Option<u64>
     ensures { Sooner a b result }
 {
-    let Due::At(d) = a else {
-        return b;
-    };
-    let Due::At(c) = b else {
-        return a;
-    };
-    if d < c {
-        return a;
+    match (a, b) {
+        (Some(d), Some(c)) => Some(d.min(c)),
+        _ => a.or(b),
     }
-    b
 }

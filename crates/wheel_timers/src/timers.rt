@@ -8,12 +8,12 @@ ghost use Rattle.wheel_timers.specs.Slices.{nodes_now, SameNodes};
 
 use crate::lent::NodesMut;
 use crate::place::bucket_of;
-use wheel_rules::calls::Clock;
-pub use wheel_rules::timers::Armed;
+use wheel_rules::calls::{After, Clock, Handle};
 
 impl NodesMut<'_> {
-    // Arms the first free slot for the entry e, with its generation h, at the back of the bucket of its deadline.
-    pub fn arm(&mut self, clock: Clock, e: usize, h: u32, deadline: u64) -> Armed
+    // Arms the first free slot for the entry e, with its generation h, at the back of the bucket of its deadline. Answers
+    // its handle.
+    pub fn arm(&mut self, clock: Clock, e: usize, h: u32, deadline: u64) -> After<Handle>
         requires { ArmReady wheel01 (nodes_now self.old) clock }
         ensures does { Arms wheel01 (nodes_now self.old) clock (nodes_now self.new) result e h deadline }
         ensures same { SameNodes self.old self.new }
@@ -25,10 +25,9 @@ impl NodesMut<'_> {
         after.free = self.linked.push(slot, b);
         self.write(slot, e, h, n);
         after.serial = n + 1;
-        Armed {
+        After {
             clock: after,
-            slot,
-            serial: n,
+            answer: Handle { slot, serial: n },
         }
     }
 
