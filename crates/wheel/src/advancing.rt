@@ -12,12 +12,7 @@ use wheel_timers::lent::{Entries, Nodes};
 use wheel_timers::moments;
 
 // Opens an advance to q: the reading becomes q, the old one is kept. It moves no node. Refuses (1, 4, 5).
-pub fn start(
-    nodes: Nodes<'_>,
-    entries: Entries<'_>,
-    clock: Clock,
-    q: u64,
-) -> Result<Clock, Refusal>
+pub fn start(nodes: Nodes<'_>, entries: Entries<'_>, clock: Clock, q: u64) -> Result<Clock, Refusal>
     ensures { Promised (start q) (records (nodes_of nodes.entry) (entries_of entries.entry) clock)
         (records (nodes_of nodes.entry) (entries_of entries.entry) (timed_clock clock result)) (timed_says result) }
 {

@@ -10,11 +10,7 @@ use wheel_rules::calls::Clock;
 use wheel_timers::lent::{Entries, Nodes};
 
 // How many slots are armed. It answers while an advance is open too. Refuses (1, 4).
-pub fn armed_count(
-    nodes: Nodes<'_>,
-    entries: Entries<'_>,
-    clock: Clock,
-) -> Result<usize, Refusal>
+pub fn armed_count(nodes: Nodes<'_>, entries: Entries<'_>, clock: Clock) -> Result<usize, Refusal>
     ensures { Promised armed_count (records (nodes_of nodes.entry) (entries_of entries.entry) clock)
         (records (nodes_of nodes.entry) (entries_of entries.entry) clock) (counted_says result) }
 {
@@ -32,5 +28,5 @@ pub fn next_due(
         (records (nodes_of nodes.entry) (entries_of entries.entry) clock) (due_says result) }
 {
     closed_refusal(nodes, entries, clock)?;
-    Ok(nodes.next_due(entries))
+    Ok(nodes.next_due(&entries))
 }

@@ -21,5 +21,5 @@ pub fn pull(
     ensures same { SameNodes nodes.old nodes.new }
 {
     open_refusal(nodes.as_read(), entries, clock)?;
-    Ok(wheel_advance::pull::pull(nodes, entries, clock))
+    Ok(wheel_advance::pull::pull(nodes, &entries, clock))
 }

@@ -24,6 +24,6 @@ pub fn set_entry(
     ensures same { SameEntries entries.old entries.new }
 {
     entry_refusal(nodes, entries.as_read(), clock, e)?;
-    entries.set(e, deadline, h);
+    entries.set_entry(e, deadline.is_some(), deadline.unwrap_or(0), h);
     Ok(())
 }
