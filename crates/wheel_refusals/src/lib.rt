@@ -17,13 +17,13 @@ use crate::sound::lengths::{ends_lent, entries_lent, nodes_lent, ranged};
 use deque::NONE;
 use deque::linked::Linked;
 use numbers::refusals::Refusal;
-use wheel_rules::calls::Clock;
+use wheel_rules::calls::{Clock, Handle};
 use wheel_timers::lent::{Entries, Nodes};
 
 // The buckets of the wheel.
 pub const BUCKETS: usize = 165;
 // The serial that is never given: there is none after it.
-const LAST: u64 = 18446744073709551615;
+const LAST: u64 = u64::MAX;
 
 // Whether this serial is that one.
 fn is_last(serial: u64) -> bool
@@ -114,11 +114,12 @@ pub fn handle_refusal(
     nodes: Nodes<'_>,
     entries: Entries<'_>,
     clock: Clock,
-    slot: usize,
-    number: u64,
+    handle: Handle,
     h: u32,
 ) -> Result<(), Refusal>
-    ensures { RefusesHandle (records (nodes_of nodes.entry) (entries_of entries.entry) clock) slot number h (refusal_in result) }
+    ensures { RefusesHandle
+        (records (nodes_of nodes.entry) (entries_of entries.entry) clock)
+        handle.slot handle.serial h (refusal_in result) }
 {
     closed_refusal(nodes, entries, clock)?;
     let Linked {
@@ -127,6 +128,7 @@ pub fn handle_refusal(
         home,
         ..
     } = nodes.linked;
+    let slot = handle.slot;
     if next.len() <= slot {
         return Err(Refusal::StaleHandle);
     }
@@ -136,7 +138,7 @@ pub fn handle_refusal(
     if heads.len() <= home[slot] {
         return Err(Refusal::StaleHandle);
     }
-    if nodes.serial[slot] != number {
+    if nodes.serial[slot] != handle.serial {
         return Err(Refusal::StaleHandle);
     }
     if nodes.generation[slot] != h {

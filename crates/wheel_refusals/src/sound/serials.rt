@@ -7,6 +7,7 @@ ghost use Rattle.wheel_rules.specs.sound.Filing.{Walkable, Met, Fileable, Files,
 
 // The slots filed so far: the latest slot under each remainder, and for each slot the one filed before it, 0 where
 // there is none (slot 0 is a sentinel). Each way back goes over earlier slots only.
+// Stays 0 for none: the definitions of wheel_rules, specs/sound/Filing.antt, speak of lists of numbers.
 #[derive(Drop)]
 pub struct Filing {
     pub latest: [u16; 4096],

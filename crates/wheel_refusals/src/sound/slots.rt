@@ -34,7 +34,8 @@ pub fn entries_exist(bucket: &[usize], entry: &[usize], total: usize, entries: u
     (total..bucket.len()).all(|x| total <= bucket[x] || entry[x] < entries)
 }
 
-// Whether the serials of armed slots lie below the next.
+// Whether the serials of armed slots lie below the next. No plainer as one generic function with entries_exist: that one
+// would ask for an order with laws, where each is one line.
 pub fn serials_below(bucket: &[usize], serial: &[u64], total: usize, next: u64) -> bool
     requires { length serial.now ≡ length bucket.now }
     ensures { Decides (SerialsBelow total next bucket.now serial.now) result }
