@@ -15,7 +15,6 @@ pub mod sound;
 use crate::sound::is_sound;
 use crate::sound::lengths::{ends_lent, entries_lent, nodes_lent, ranged};
 use deque::NONE;
-use deque::linked::Linked;
 use numbers::refusals::Refusal;
 use wheel_rules::calls::{Clock, Handle};
 use wheel_timers::lent::{Entries, Nodes};
@@ -122,23 +121,14 @@ pub fn handle_refusal(
         handle.slot handle.serial h (refusal_in result) }
 {
     closed_refusal(nodes, entries, clock)?;
-    let Linked {
-        heads,
-        next,
-        home,
-        ..
-    } = nodes.linked;
+    let links = nodes.linked;
     let slot = handle.slot;
-    if next.len() <= slot {
-        return Err(Refusal::StaleHandle);
-    }
-    if slot < heads.len() {
-        return Err(Refusal::StaleHandle);
-    }
-    if heads.len() <= home[slot] {
-        return Err(Refusal::StaleHandle);
-    }
-    if nodes.serial[slot] != handle.serial {
+    // absent, a sentinel, free, or of another serial
+    if links.next.len() <= slot
+        || slot < links.heads.len()
+        || links.heads.len() <= links.home[slot]
+        || nodes.serial[slot] != handle.serial
+    {
         return Err(Refusal::StaleHandle);
     }
     if nodes.generation[slot] != h {
@@ -162,13 +152,10 @@ pub fn around_refusal(
     if enabled {
         return Err(Refusal::AlreadyEnabled);
     }
-    if !ranged(BUCKETS, nodes, dated) {
-        return Err(Refusal::LengthsOutOfRange);
-    }
-    if !ends_lent(BUCKETS, heads, tails) {
-        return Err(Refusal::LengthsOutOfRange);
-    }
-    if !entries_lent(dated, dated, deadline, stamp) {
+    let fits = ranged(BUCKETS, nodes, dated)
+        && ends_lent(BUCKETS, heads, tails)
+        && entries_lent(dated, dated, deadline, stamp);
+    if !fits {
         return Err(Refusal::LengthsOutOfRange);
     }
     Ok(())
