@@ -25,14 +25,7 @@ pub fn reschedule(
         (rescheduled_says result) }
     ensures same { SameNodes nodes.old nodes.new }
 {
-    handle_refusal(
-        nodes.as_read(),
-        entries,
-        clock,
-        handle.slot,
-        handle.serial,
-        h,
-    )?;
+    handle_refusal(nodes.as_read(), entries, clock, handle, h)?;
     let e = nodes.entry[handle.slot];
     if !entries.dated[e] {
         return Ok(After {
@@ -60,13 +53,6 @@ pub fn deschedule(
         (records (nodes_now nodes.new) (entries_of entries.entry) (timed_clock clock result)) (timed_says result) }
     ensures same { SameNodes nodes.old nodes.new }
 {
-    handle_refusal(
-        nodes.as_read(),
-        entries,
-        clock,
-        handle.slot,
-        handle.serial,
-        h,
-    )?;
+    handle_refusal(nodes.as_read(), entries, clock, handle, h)?;
     Ok(nodes.disarm(clock, handle.slot))
 }

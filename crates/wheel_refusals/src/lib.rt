@@ -15,15 +15,14 @@ pub mod sound;
 use crate::sound::is_sound;
 use crate::sound::lengths::{ends_lent, entries_lent, nodes_lent, ranged};
 use deque::NONE;
-use deque::linked::Linked;
 use numbers::refusals::Refusal;
-use wheel_rules::calls::Clock;
+use wheel_rules::calls::{Clock, Handle};
 use wheel_timers::lent::{Entries, Nodes};
 
 // The buckets of the wheel.
 pub const BUCKETS: usize = 165;
 // The serial that is never given: there is none after it.
-const LAST: u64 = 18446744073709551615;
+const LAST: u64 = u64::MAX;
 
 // Whether this serial is that one.
 fn is_last(serial: u64) -> bool
@@ -114,29 +113,22 @@ pub fn handle_refusal(
     nodes: Nodes<'_>,
     entries: Entries<'_>,
     clock: Clock,
-    slot: usize,
-    number: u64,
+    handle: Handle,
     h: u32,
 ) -> Result<(), Refusal>
-    ensures { RefusesHandle (records (nodes_of nodes.entry) (entries_of entries.entry) clock) slot number h (refusal_in result) }
+    ensures { RefusesHandle
+        (records (nodes_of nodes.entry) (entries_of entries.entry) clock)
+        handle.slot handle.serial h (refusal_in result) }
 {
     closed_refusal(nodes, entries, clock)?;
-    let Linked {
-        heads,
-        next,
-        home,
-        ..
-    } = nodes.linked;
-    if next.len() <= slot {
-        return Err(Refusal::StaleHandle);
-    }
-    if slot < heads.len() {
-        return Err(Refusal::StaleHandle);
-    }
-    if heads.len() <= home[slot] {
-        return Err(Refusal::StaleHandle);
-    }
-    if nodes.serial[slot] != number {
+    let links = nodes.linked;
+    let slot = handle.slot;
+    // absent, a sentinel, free, or of another serial
+    if links.next.len() <= slot
+        || slot < links.heads.len()
+        || links.heads.len() <= links.home[slot]
+        || nodes.serial[slot] != handle.serial
+    {
         return Err(Refusal::StaleHandle);
     }
     if nodes.generation[slot] != h {
@@ -160,13 +152,10 @@ pub fn around_refusal(
     if enabled {
         return Err(Refusal::AlreadyEnabled);
     }
-    if !ranged(BUCKETS, nodes, dated) {
-        return Err(Refusal::LengthsOutOfRange);
-    }
-    if !ends_lent(BUCKETS, heads, tails) {
-        return Err(Refusal::LengthsOutOfRange);
-    }
-    if !entries_lent(dated, dated, deadline, stamp) {
+    let fits = ranged(BUCKETS, nodes, dated)
+        && ends_lent(BUCKETS, heads, tails)
+        && entries_lent(dated, dated, deadline, stamp);
+    if !fits {
         return Err(Refusal::LengthsOutOfRange);
     }
     Ok(())
