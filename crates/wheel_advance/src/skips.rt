@@ -46,7 +46,8 @@ pub fn pass_over(linked: Linked<'_>, clock: Clock) -> Clock
     if waiting(linked.heads, clock) < linked.next.len() {
         return clock;
     }
-    let mut after = clock;
-    after.step = step_past(linked, clock);
-    after
+    Clock {
+        step: step_past(linked, clock),
+        ..clock
+    }
 }

@@ -48,11 +48,13 @@ fn go_on(linked: &mut LinkedMut<'_>, clock: Clock) -> Turn
     };
     let b = bucket_at(to.level, clock.previous, to.step - 1);
     linked.turn(b, b);
-    let mut after = clock;
-    after.level = to.level;
-    after.step = to.step;
+    let entered = Clock {
+        level: to.level,
+        step: to.step,
+        ..clock
+    };
     Turn {
-        clock: after,
+        clock: entered,
         event: None,
     }
 }

@@ -1,16 +1,9 @@
 // For proved code only, unchecked: the two calls that only read: armed count and next due.
 ghost use Rattle.std.specs.Prelude.{◌≤◌, length};
 ghost use Rattle.rules.specs.Places.{wheel01};
-ghost use Rattle.wheel_rules.specs.records.Counts.{IsOne, Counts, KeyReady, DueReady, FindsKey, Sooner, FindsDue};
+ghost use Rattle.wheel_rules.specs.records.Counts.{Counts, KeyReady, DueReady, FindsKey, Sooner, FindsDue};
 
 use crate::lent::{Entries, Nodes};
-
-// 1 where the bucket is one of the total, else 0.
-fn one(total: usize, bucket: usize) -> usize
-    ensures { IsOne total bucket result }
-{
-    if bucket < total { 1 } else { 0 }
-}
 
 impl Nodes<'_> {
     // How many slots are armed: those from the total of buckets on whose bucket is one.
@@ -19,11 +12,10 @@ impl Nodes<'_> {
         ensures { Counts wheel01 self.now.linked.heads.now self.now.linked.home.now result }
     {
         let total = self.linked.heads.len();
-        let mut n: usize = 0;
-        for x in total..self.linked.home.len() {
-            n += one(total, self.linked.home[x]);
-        }
-        n
+        self.linked.home[total..]
+            .iter()
+            .filter(|bucket| **bucket < total)
+            .count()
     }
 
     // What next due takes the least of: the deadline that the slot's entry holds, if the slot is armed.

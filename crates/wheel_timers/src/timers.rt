@@ -19,15 +19,17 @@ impl NodesMut<'_> {
         ensures same { SameNodes self.old self.new }
     {
         let slot = clock.free;
-        let n = clock.serial;
+        let serial = clock.serial;
         let b = bucket_of(clock.reading, deadline);
-        let mut after = clock;
-        after.free = self.linked.push(slot, b);
-        self.write(slot, e, h, n);
-        after.serial = n + 1;
+        let free = self.linked.push(slot, b);
+        self.write(slot, e, h, serial);
         After {
-            clock: after,
-            answer: Handle { slot, serial: n },
+            clock: Clock {
+                serial: serial + 1,
+                free,
+                ..clock
+            },
+            answer: Handle { slot, serial },
         }
     }
 
@@ -39,9 +41,7 @@ impl NodesMut<'_> {
     {
         self.linked.remove(clock.free, x);
         self.write(x, 0, 0, 0);
-        let mut after = clock;
-        after.free = x;
-        after
+        Clock { free: x, ..clock }
     }
 
     // Moves the armed slot x to the back of the bucket that its deadline has at the reading. Its payload stays.
