@@ -5,19 +5,29 @@ ghost use Rattle.sketch_rules.specs.Sketch.{sound};
 use sketch_rules::Sketch;
 
 // Whether the record is sound. A power of two L is what a capacity c gives just where L / 2 < c and c <= L.
+// Tests one by one: as one condition of `&&` they are slower, since a loop of increases then makes them in each turn.
 pub fn is_sound(lent: usize, sketch: Sketch) -> bool
     ensures { result ≡ sound lent sketch }
 {
     let Sketch { used, sample, size } = sketch;
-    let words = used as u64;
-    let capacity = sample / 10;
     if used == 0 {
         return sample == 0 && size == 0;
     }
-    used <= lent
-        && numbers::is_power(words)
-        && sample % 10 == 0
-        && words / 2 < capacity
-        && capacity <= words
-        && size < sample
+    if lent < used {
+        return false;
+    }
+    if !numbers::is_power(used as u64) {
+        return false;
+    }
+    let capacity = sample / 10;
+    if sample % 10 != 0 {
+        return false;
+    }
+    if capacity <= used as u64 / 2 {
+        return false;
+    }
+    if capacity > used as u64 {
+        return false;
+    }
+    size < sample
 }
