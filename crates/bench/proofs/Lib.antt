@@ -2,6 +2,5 @@
 pub mod DequeParts
 pub mod DequeStanding
 pub mod DequeTurns
-pub mod WheelParts
 pub mod WheelStaying
 pub mod WheelKeeping

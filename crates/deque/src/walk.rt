@@ -18,28 +18,17 @@ impl Linked<'_> {
         let n = self.next.len();
         let mut b = NONE;
         let mut x = self.heads[d];
-        let mut k: usize = 0;
-        while x != NONE {
-            if k == n {
-                return None;
+        for k in 0..=n {
+            if x == NONE {
+                return if self.tails[d] == b { Some(k) } else { None };
             }
-            if n <= x {
-                return None;
-            }
-            if self.prev[x] != b {
-                return None;
-            }
-            if self.home[x] != d {
+            if n <= x || self.prev[x] != b || self.home[x] != d {
                 return None;
             }
             b = x;
             x = self.next[x];
-            k += 1;
         }
-        if self.tails[d] != b {
-            return None;
-        }
-        Some(k)
+        None
     }
 
     // How many slots are chained from free, or None where that is no chain of slots that name no deque.
@@ -49,20 +38,15 @@ impl Linked<'_> {
     {
         let n = self.next.len();
         let mut x = free;
-        let mut k: usize = 0;
-        while x != NONE {
-            if k == n {
-                return None;
+        for k in 0..=n {
+            if x == NONE {
+                return Some(k);
             }
-            if n <= x {
-                return None;
-            }
-            if self.home[x] != NONE {
+            if n <= x || self.home[x] != NONE {
                 return None;
             }
             x = self.next[x];
-            k += 1;
         }
-        Some(k)
+        None
     }
 }

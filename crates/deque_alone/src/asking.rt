@@ -1,147 +1,59 @@
 // The public calls that look, count or move a cursor: refusals in order, then the work. None asks anything of its
 // input. A refused call leaves every record as found.
-ghost use Rattle.deque_rules.specs.Deque.{DequePromised, look_front, look_back, length_of, next_by_cursor, reset_cursor, state};
+#![tactic(auto, using(deque_rules::proofs::alone::Refusing::ready))]
+
+ghost use Rattle.deque_rules.specs.Deque.{DequePromised, look_front, look_back, length_of, next_by_cursor, reset_cursor};
+ghost use Rattle.deque_alone.specs.Slices.{state_of};
 
 use crate::NONE;
-use crate::looks::{back, front, step};
-use crate::refuse::deque_refusal;
+use crate::lending::Deques;
 use deque_rules::alone::{Done, Looked, Measured};
 
-// Looks at the front of the deque d: the node and its element, Nothing where the deque is empty, or refuses (4, 16).
-pub fn look_front(
-    heads: &[usize],
-    tails: &[usize],
-    lens: &[usize],
-    cursors: &[usize],
-    next: &[usize],
-    prev: &[usize],
-    home: &[usize],
-    element: &[u64],
-    free: usize,
-    d: usize,
-) -> Looked
-    ensures { DequePromised (look_front d)
-        (state heads.now tails.now lens.now cursors.now next.now prev.now home.now element.now) free
-        (state heads.now tails.now lens.now cursors.now next.now prev.now home.now element.now) result }
-{
-    let no = deque_refusal(
-        heads, tails, lens, cursors, next, prev, home, element, free, d,
-    );
-    if no != 0 {
-        return Looked::Refused(no);
+impl Deques<'_> {
+    // Looks at the front of the deque d: the node and its element, None where the deque is empty, or refuses (4, 16).
+    pub fn look_front(self, cursors: &[usize], free: usize, d: usize) -> Looked
+        ensures { DequePromised (look_front d) (state_of self.entry cursors.now) free
+            (state_of self.entry cursors.now) result }
+    {
+        self.deque_refusal(cursors, free, d)?;
+        Ok(self.front(cursors, free, d))
     }
-    front(
-        heads, tails, lens, cursors, next, prev, home, element, free, d,
-    )
-}
 
-// Looks at the back of the deque d: the node and its element, Nothing where the deque is empty, or refuses (4, 16).
-pub fn look_back(
-    heads: &[usize],
-    tails: &[usize],
-    lens: &[usize],
-    cursors: &[usize],
-    next: &[usize],
-    prev: &[usize],
-    home: &[usize],
-    element: &[u64],
-    free: usize,
-    d: usize,
-) -> Looked
-    ensures { DequePromised (look_back d)
-        (state heads.now tails.now lens.now cursors.now next.now prev.now home.now element.now) free
-        (state heads.now tails.now lens.now cursors.now next.now prev.now home.now element.now) result }
-{
-    let no = deque_refusal(
-        heads, tails, lens, cursors, next, prev, home, element, free, d,
-    );
-    if no != 0 {
-        return Looked::Refused(no);
+    // Looks at the back of the deque d: the node and its element, None where the deque is empty, or refuses (4, 16).
+    pub fn look_back(self, cursors: &[usize], free: usize, d: usize) -> Looked
+        ensures { DequePromised (look_back d) (state_of self.entry cursors.now) free
+            (state_of self.entry cursors.now) result }
+    {
+        self.deque_refusal(cursors, free, d)?;
+        Ok(self.back(cursors, free, d))
     }
-    back(
-        heads, tails, lens, cursors, next, prev, home, element, free, d,
-    )
-}
 
-// The length of the deque d, or refuses (4, 16).
-pub fn length_of(
-    heads: &[usize],
-    tails: &[usize],
-    lens: &[usize],
-    cursors: &[usize],
-    next: &[usize],
-    prev: &[usize],
-    home: &[usize],
-    element: &[u64],
-    free: usize,
-    d: usize,
-) -> Measured
-    ensures { DequePromised (length_of d)
-        (state heads.now tails.now lens.now cursors.now next.now prev.now home.now element.now) free
-        (state heads.now tails.now lens.now cursors.now next.now prev.now home.now element.now) result }
-{
-    let no = deque_refusal(
-        heads, tails, lens, cursors, next, prev, home, element, free, d,
-    );
-    if no != 0 {
-        return Measured::Refused(no);
+    // The length of the deque d, or refuses (4, 16).
+    pub fn length_of(self, cursors: &[usize], free: usize, d: usize) -> Measured
+        ensures { DequePromised (length_of d) (state_of self.entry cursors.now) free
+            (state_of self.entry cursors.now) result }
+    {
+        self.deque_refusal(cursors, free, d)?;
+        Ok(self.lens[d])
     }
-    let n = lens[d];
-    Measured::Length(n)
-}
 
-// The node at the cursor of the deque d, which starts at the head and moves on; after the last Nothing once. Refuses
-// (4, 16).
-pub fn next_by_cursor(
-    heads: &[usize],
-    tails: &[usize],
-    lens: &[usize],
-    cursors: &mut [usize],
-    next: &[usize],
-    prev: &[usize],
-    home: &[usize],
-    element: &[u64],
-    free: usize,
-    d: usize,
-) -> Looked
-    ensures { DequePromised (next_by_cursor d)
-        (state heads.now tails.now lens.now cursors.old next.now prev.now home.now element.now) free
-        (state heads.now tails.now lens.now cursors.new next.now prev.now home.now element.now) result }
-{
-    let no = deque_refusal(
-        heads, tails, lens, cursors, next, prev, home, element, free, d,
-    );
-    if no != 0 {
-        return Looked::Refused(no);
+    // The node at the cursor of the deque d, which starts at the head and moves on; after the last None once. Refuses
+    // (4, 16).
+    pub fn next_by_cursor(self, cursors: &mut [usize], free: usize, d: usize) -> Looked
+        ensures { DequePromised (next_by_cursor d) (state_of self.entry cursors.old) free
+            (state_of self.entry cursors.new) result }
+    {
+        self.deque_refusal(cursors, free, d)?;
+        Ok(self.step(cursors, free, d))
     }
-    step(
-        heads, tails, lens, cursors, next, prev, home, element, free, d,
-    )
-}
 
-// Puts the cursor of the deque d back to none, or refuses (4, 16).
-pub fn reset_cursor(
-    heads: &[usize],
-    tails: &[usize],
-    lens: &[usize],
-    cursors: &mut [usize],
-    next: &[usize],
-    prev: &[usize],
-    home: &[usize],
-    element: &[u64],
-    free: usize,
-    d: usize,
-) -> Done
-    ensures { DequePromised (reset_cursor d)
-        (state heads.now tails.now lens.now cursors.old next.now prev.now home.now element.now) free
-        (state heads.now tails.now lens.now cursors.new next.now prev.now home.now element.now) result }
-{
-    let no = deque_refusal(
-        heads, tails, lens, cursors, next, prev, home, element, free, d,
-    );
-    if no != 0 {
-        return Done::Refused(no);
+    // Puts the cursor of the deque d back to none, or refuses (4, 16).
+    pub fn reset_cursor(self, cursors: &mut [usize], free: usize, d: usize) -> Done
+        ensures { DequePromised (reset_cursor d) (state_of self.entry cursors.old) free
+            (state_of self.entry cursors.new) result }
+    {
+        self.deque_refusal(cursors, free, d)?;
+        cursors[d] = NONE;
+        Ok(())
     }
-    cursors[d] = NONE;
-    Done::Done
 }

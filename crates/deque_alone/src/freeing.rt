@@ -1,69 +1,39 @@
 // The public calls that take a node out and free it: refusals in order, then the work. None asks anything of its input.
 // A refused call leaves every record as found.
-ghost use Rattle.deque_rules.specs.Deque.{DequePromised, pop_front, unlink_and_drop, state};
+#![tactic(auto, using(deque_rules::proofs::alone::Refusing::ready))]
 
-use crate::refuse::{deque_refusal, node_refusal};
-use crate::unchecked::{pop, release};
-use deque_rules::alone::{Dropped, Popped};
+ghost use Rattle.deque_rules.specs.Deque.{DequePromised, pop_front, unlink_and_drop};
+ghost use Rattle.deque_alone.specs.Slices.{state_now, SameDeques};
 
-// Takes the front of the deque d out and frees its node. Answers the node and its element, Nothing where the deque is
-// empty, or refuses (4, 16).
-pub fn pop_front(
-    heads: &mut [usize],
-    tails: &mut [usize],
-    lens: &mut [usize],
-    cursors: &mut [usize],
-    next: &mut [usize],
-    prev: &mut [usize],
-    home: &mut [usize],
-    element: &mut [u64],
-    free: usize,
-    d: usize,
-) -> Popped
-    ensures { DequePromised (pop_front d)
-        (state heads.old tails.old lens.old cursors.old next.old prev.old home.old element.old) free
-        (state heads.new tails.new lens.new cursors.new next.new prev.new home.new element.new) result }
-{
-    let no = deque_refusal(
-        heads, tails, lens, cursors, next, prev, home, element, free, d,
-    );
-    if no != 0 {
-        return Popped::Refused(no);
+use crate::lending::DequesMut;
+use deque_rules::alone::{Dropped, Freed, Popped};
+
+impl DequesMut<'_> {
+    // Takes the front of the deque d out and frees its node. Answers the node and its element, None where the deque is
+    // empty, or refuses (4, 16).
+    pub fn pop_front(&mut self, cursors: &mut [usize], free: usize, d: usize) -> Popped
+        ensures does { DequePromised (pop_front d) (state_now self.old cursors.old) free
+            (state_now self.new cursors.new) result }
+        ensures same { SameDeques self.old self.new }
+    {
+        self.as_read().deque_refusal(cursors, free, d)?;
+        Ok(self.pop(cursors, free, d))
     }
-    pop(
-        heads, tails, lens, cursors, next, prev, home, element, free, d,
-    )
-}
 
-// Unlinks the node s of the deque d and frees it. Answers its element, or refuses (4, 16, 17).
-pub fn unlink_and_drop(
-    heads: &mut [usize],
-    tails: &mut [usize],
-    lens: &mut [usize],
-    cursors: &mut [usize],
-    next: &mut [usize],
-    prev: &mut [usize],
-    home: &mut [usize],
-    element: &mut [u64],
-    free: usize,
-    d: usize,
-    s: usize,
-) -> Dropped
-    ensures { DequePromised (unlink_and_drop d s)
-        (state heads.old tails.old lens.old cursors.old next.old prev.old home.old element.old) free
-        (state heads.new tails.new lens.new cursors.new next.new prev.new home.new element.new) result }
-{
-    let no = node_refusal(
-        heads, tails, lens, cursors, next, prev, home, element, free, d, s,
-    );
-    if no != 0 {
-        return Dropped::Refused(no);
-    }
-    let e = release(
-        heads, tails, lens, cursors, next, prev, home, element, free, d, s,
-    );
-    Dropped::Element {
-        element: e,
-        free: s,
+    // Unlinks the node s of the deque d and frees it. Answers its element, or refuses (4, 16, 17).
+    pub fn unlink_and_drop(
+        &mut self,
+        cursors: &mut [usize],
+        free: usize,
+        d: usize,
+        s: usize,
+    ) -> Dropped
+        ensures does { DequePromised (unlink_and_drop d s) (state_now self.old cursors.old) free
+            (state_now self.new cursors.new) result }
+        ensures same { SameDeques self.old self.new }
+    {
+        self.as_read().node_refusal(cursors, free, d, s)?;
+        let element = self.release(cursors, free, d, s);
+        Ok(Freed { element, free: s })
     }
 }

@@ -1,70 +1,83 @@
 // The public calls that put a node at the back: refusals in order, then the work. None asks anything of its input. A
 // refused call leaves every record as found.
-ghost use Rattle.deque_rules.specs.Deque.{DequePromised, push_back, move_to_back, state};
+#![tactic(auto, using(deque_rules::proofs::alone::Refusing::ready))]
 
-use crate::refuse::{node_refusal, push_refusal};
-use crate::unchecked::{push, shift};
-use deque_rules::alone::{Done, Pushed};
+ghost use Rattle.deque_rules.specs.Deque.{DequePromised, push_back, move_to_back};
+ghost use Rattle.deque_rules.specs.alone.Refuse.{RefusesNode};
+ghost use Rattle.numbers.specs.Refusals.{refusal_in};
+ghost use Rattle.deque.specs.Slices.{links_of, links_now, SameSlices};
+ghost use Rattle.deque_alone.specs.Slices.{records, state_now, SameDeques};
 
-// Puts the element e at the back of the deque d, in the first free node. Answers that node, or refuses (4, 10, 16).
-pub fn push_back(
-    heads: &mut [usize],
-    tails: &mut [usize],
-    lens: &mut [usize],
-    cursors: &mut [usize],
-    next: &mut [usize],
-    prev: &mut [usize],
-    home: &mut [usize],
-    element: &mut [u64],
-    free: usize,
-    d: usize,
-    e: u64,
-) -> Pushed
-    ensures { DequePromised (push_back d e)
-        (state heads.old tails.old lens.old cursors.old next.old prev.old home.old element.old) free
-        (state heads.new tails.new lens.new cursors.new next.new prev.new home.new element.new) result }
-{
-    let no = push_refusal(
-        heads, tails, lens, cursors, next, prev, home, element, free, d,
-    );
-    if no != 0 {
-        return Pushed::Refused(no);
+use crate::lending::{Deques, DequesMut};
+use crate::unchecked::{shift, to_back};
+use deque::linked::{Linked, LinkedMut};
+use deque_rules::alone::{Done, Placed, Pushed};
+use numbers::refusals::Refusal;
+
+impl DequesMut<'_> {
+    // Puts the element e at the back of the deque d, in the first free node. Answers that node, or refuses (4, 10, 16).
+    pub fn push_back(&mut self, cursors: &mut [usize], free: usize, d: usize, e: u64) -> Pushed
+        ensures does { DequePromised (push_back d e) (state_now self.old cursors.old) free
+            (state_now self.new cursors.new) result }
+        ensures same { SameDeques self.old self.new }
+    {
+        self.as_read().push_refusal(cursors, free, d)?;
+        let rest = self.push(cursors, free, d, e);
+        Ok(Placed {
+            slot: free,
+            free: rest,
+        })
     }
-    let rest = push(
-        heads, tails, lens, cursors, next, prev, home, element, free, d, e,
-    );
-    Pushed::At {
-        slot: free,
-        free: rest,
+
+    // Moves the node s of the deque d to its back, or refuses (4, 16, 17).
+    pub fn move_to_back(&mut self, cursors: &mut [usize], free: usize, d: usize, s: usize) -> Done
+        ensures does { DequePromised (move_to_back d s) (state_now self.old cursors.old) free
+            (state_now self.new cursors.new) result }
+        ensures same { SameDeques self.old self.new }
+    {
+        self.as_read().node_refusal(cursors, free, d, s)?;
+        to_back(&mut self.links, cursors, d, s);
+        Ok(())
     }
 }
 
-// Moves the node s of the deque d to its back, or refuses (4, 16, 17).
+// The same on lengths and elements that are lent for reading: a move writes none.
 pub fn move_to_back(
-    heads: &mut [usize],
-    tails: &mut [usize],
+    links: &mut LinkedMut<'_>,
     lens: &[usize],
     cursors: &mut [usize],
-    next: &mut [usize],
-    prev: &mut [usize],
-    home: &mut [usize],
     element: &[u64],
     free: usize,
     d: usize,
     s: usize,
 ) -> Done
-    ensures { DequePromised (move_to_back d s)
-        (state heads.old tails.old lens.now cursors.old next.old prev.old home.old element.now) free
-        (state heads.new tails.new lens.now cursors.new next.new prev.new home.new element.now) result }
+    ensures does { DequePromised (move_to_back d s)
+        (records (links_now links.old) lens.now cursors.old element.now) free
+        (records (links_now links.new) lens.now cursors.new element.now) result }
+    ensures same { SameSlices links.old links.new }
 {
-    let no = node_refusal(
-        heads, tails, lens, cursors, next, prev, home, element, free, d, s,
-    );
-    if no != 0 {
-        return Done::Refused(no);
-    }
-    shift(
-        heads, tails, lens, cursors, next, prev, home, element, free, d, s,
-    );
-    Done::Done
+    refuse_move(links.as_read(), lens, cursors, element, free, d, s)?;
+    shift(links, lens, cursors, element, free, d, s);
+    Ok(())
+}
+
+// Whether a move is refused.
+fn refuse_move<'a>(
+    links: Linked<'a>,
+    lens: &'a [usize],
+    cursors: &[usize],
+    element: &'a [u64],
+    free: usize,
+    d: usize,
+    s: usize,
+) -> Result<(), Refusal>
+    ensures { RefusesNode (records (links_of links.entry) lens.now cursors.now element.now) free d s
+        (refusal_in result) }
+{
+    let deques = Deques {
+        links,
+        lens,
+        element,
+    };
+    deques.node_refusal(cursors, free, d, s)
 }

@@ -1,33 +1,27 @@
 // Making: the refusal, then the work. It asks nothing of its input. A refused call leaves every record as found.
 ghost use Rattle.std.specs.Prelude.{ℕ};
-ghost use Rattle.deque_rules.specs.Deque.{DequePromised, make, state};
+ghost use Rattle.deque_rules.specs.Deque.{DequePromised, make};
+ghost use Rattle.deque_alone.specs.Slices.{state_now, SameDeques};
 
-use crate::layout::{clear, zero};
-use crate::sound::lent;
-use deque::layout::lay_out;
+use crate::NONE;
+use crate::lending::DequesMut;
 use deque_rules::alone::Made;
+use numbers::refusals::Refusal;
 
-// Makes heads.len() empty deques over next.len() free nodes, whatever the records held. Answers the first free node, or
-// refuses (3).
-pub fn make(
-    heads: &mut [usize],
-    tails: &mut [usize],
-    lens: &mut [usize],
-    cursors: &mut [usize],
-    next: &mut [usize],
-    prev: &mut [usize],
-    home: &mut [usize],
-    element: &mut [u64],
-) -> Made
-    ensures { (free : ℕ) → DequePromised make
-        (state heads.old tails.old lens.old cursors.old next.old prev.old home.old element.old) free
-        (state heads.new tails.new lens.new cursors.new next.new prev.new home.new element.new) result }
-{
-    if !lent(heads, tails, lens, cursors, next, prev, home, element) {
-        return Made::Refused(3);
+impl DequesMut<'_> {
+    // Makes as many empty deques as there are heads, over as many free nodes as there are next slots, whatever the
+    // records held. Answers the first free node, or refuses (3).
+    pub fn make(&mut self, cursors: &mut [usize]) -> Made
+        ensures does { (free : ℕ) → DequePromised make (state_now self.old cursors.old) free
+            (state_now self.new cursors.new) result }
+        ensures same { SameDeques self.old self.new }
+    {
+        if !self.as_read().lent(cursors) {
+            return Err(Refusal::LengthsOutOfRange);
+        }
+        self.lens.fill(0);
+        cursors.fill(NONE);
+        self.element.fill(0);
+        Ok(self.links.lay_out())
     }
-    clear(lens, cursors);
-    zero(element);
-    let free = lay_out(heads, tails, next, prev, home);
-    Made::First(free)
 }

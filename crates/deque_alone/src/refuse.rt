@@ -1,91 +1,62 @@
-// Which refusal applies: the lowest number of 01 whose row holds, or 0. Each reads the records and changes nothing.
-ghost use Rattle.deque_rules.specs.Deque.{state};
+// Which refusal applies: that of the lowest number of 01 whose row holds. Each reads the records and changes nothing.
 ghost use Rattle.deque_rules.specs.alone.Refuse.{RefusesDeque, RefusesPush, RefusesNode};
+ghost use Rattle.deque_alone.specs.Slices.{state_of};
+ghost use Rattle.numbers.specs.Refusals.{refusal_in};
 
 use crate::NONE;
-use crate::sound::sound;
+use crate::lending::Deques;
+use numbers::refusals::Refusal;
 
-// Length, pop front, looks, next by cursor, reset cursor: 4, 16.
-pub fn deque_refusal(
-    heads: &[usize],
-    tails: &[usize],
-    lens: &[usize],
-    cursors: &[usize],
-    next: &[usize],
-    prev: &[usize],
-    home: &[usize],
-    element: &[u64],
-    free: usize,
-    d: usize,
-) -> u32
-    ensures { RefusesDeque (state heads.now tails.now lens.now cursors.now next.now prev.now home.now element.now)
-        free d result }
-{
-    if !sound(heads, tails, lens, cursors, next, prev, home, element, free) {
-        return 4;
+impl Deques<'_> {
+    // Length, pop front, looks, next by cursor, reset cursor: 4, 16.
+    pub fn deque_refusal(self, cursors: &[usize], free: usize, d: usize) -> Result<(), Refusal>
+        ensures { RefusesDeque (state_of self.entry cursors.now) free d (refusal_in result) }
+    {
+        if !self.sound(cursors, free) {
+            return Err(Refusal::NotSound);
+        }
+        if self.links.heads.len() <= d {
+            return Err(Refusal::NoSuchDeque);
+        }
+        Ok(())
     }
-    if heads.len() <= d {
-        return 16;
-    }
-    0
-}
 
-// Push back: 4, 10, 16.
-pub fn push_refusal(
-    heads: &[usize],
-    tails: &[usize],
-    lens: &[usize],
-    cursors: &[usize],
-    next: &[usize],
-    prev: &[usize],
-    home: &[usize],
-    element: &[u64],
-    free: usize,
-    d: usize,
-) -> u32
-    ensures { RefusesPush (state heads.now tails.now lens.now cursors.now next.now prev.now home.now element.now) free
-        d result }
-{
-    if !sound(heads, tails, lens, cursors, next, prev, home, element, free) {
-        return 4;
+    // Push back: 4, 10, 16.
+    pub fn push_refusal(self, cursors: &[usize], free: usize, d: usize) -> Result<(), Refusal>
+        ensures { RefusesPush (state_of self.entry cursors.now) free d (refusal_in result) }
+    {
+        if !self.sound(cursors, free) {
+            return Err(Refusal::NotSound);
+        }
+        if free == NONE {
+            return Err(Refusal::NoFreeSlot);
+        }
+        if self.links.heads.len() <= d {
+            return Err(Refusal::NoSuchDeque);
+        }
+        Ok(())
     }
-    if free == NONE {
-        return 10;
-    }
-    if heads.len() <= d {
-        return 16;
-    }
-    0
-}
 
-// Move to back, unlink and drop: 4, 16, 17.
-pub fn node_refusal(
-    heads: &[usize],
-    tails: &[usize],
-    lens: &[usize],
-    cursors: &[usize],
-    next: &[usize],
-    prev: &[usize],
-    home: &[usize],
-    element: &[u64],
-    free: usize,
-    d: usize,
-    s: usize,
-) -> u32
-    ensures { RefusesNode (state heads.now tails.now lens.now cursors.now next.now prev.now home.now element.now) free
-        d s result }
-{
-    if !sound(heads, tails, lens, cursors, next, prev, home, element, free) {
-        return 4;
+    // Move to back, unlink and drop: 4, 16, 17.
+    pub fn node_refusal(
+        self,
+        cursors: &[usize],
+        free: usize,
+        d: usize,
+        s: usize,
+    ) -> Result<(), Refusal>
+        ensures { RefusesNode (state_of self.entry cursors.now) free d s (refusal_in result) }
+    {
+        if !self.sound(cursors, free) {
+            return Err(Refusal::NotSound);
+        }
+        if self.links.heads.len() <= d {
+            return Err(Refusal::NoSuchDeque);
+        }
+        let home = self.links.home;
+        if home.len() <= s || home[s] != d {
+            return Err(Refusal::NotInThisDeque);
+        }
+        Ok(())
     }
-    if heads.len() <= d {
-        return 16;
-    }
-    if home.len() <= s {
-        return 17;
-    }
-    if home[s] != d {
-        return 17;
-    }
-    0
 }

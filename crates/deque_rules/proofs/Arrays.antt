@@ -42,7 +42,3 @@ module _ (h n : List ℕ) (d : ℕ) where
       simp (ne_eqb x none k) (get_or-set_other n p x q 0 m))
       (λ (k : p ≡ none → ⊥). simp (ne_eqb p none k, get_or-set_other n p x q 0 m))
       (same? p none)
-
--- two stores keep the length
-pub kept_two : (l l' : List ℕ) (i v j w : ℕ) → l' ≡ set (set l i v) j w → length l' ≡ length l
-kept_two l l' i v j w e = rw e (simp length-set)

@@ -6,7 +6,7 @@ use lib.ListN.{get_or}
 use Rattle.deque_rules.specs.Chain.{last, following}
 use Rattle.deque_rules.specs.Links.{Chain, first, Links, Deques as Lists, links, slot_after as step, deq, Rep}
 use Rattle.numbers.specs.Shared.{no_slot as none, In, after_in as after, before_in as before}
-use Rattle.deque_rules.specs.Read.{Front, Follows}
+use Rattle.deque_rules.specs.Read.{Follows}
 use Rattle.numbers.proofs.Members.{split}
 use Rattle.deque_rules.proofs.Chains.{chain_last, parts}
 use Rattle.deque_rules.proofs.Arrays.{step_slot}
@@ -32,9 +32,6 @@ module _ (a : Links) (v : Lists) (loose : List ℕ) (r : Rep a v loose) (d : ℕ
       (parts none (step a.heads a.next d) (step a.tails a.prev d) none (before s (deq v d)) s (after s (deq v d))
       (subst (λ (xs : List ℕ). Chain none (step a.heads a.next d) (step a.tails a.prev d) none xs) (split (deq v d) s m) (r.linked d h))
       ).1
-
-pub front_does : (heads : List ℕ) (d : ℕ) → Front heads d (get_or heads d 0)
-front_does heads d = record { is = refl; does = λ t n p o v loose r h. head_is (links heads t n p o) v loose r d h }
 
 pub follows_does : (next : List ℕ) (s : ℕ) → Follows next s (get_or next s 0)
 follows_does next s = record { is = refl; does = λ h t p o v loose r d l m. next_is (links h t next p o) v loose r d l s m }

@@ -285,10 +285,6 @@ module _ (h t n p o : List ℕ) (d s : ℕ) (k : HeldBy (links h t n p o) d s) w
   pub head_bytes : length p * 8 < 2 ^ 63 → Fits w64 (get_or h d 0 * 8)
   head_bytes g = scaled_Fits (get_or h d 0) (length p) 8 head_index g
 
-  -- the slot after s, once prev has been written elsewhere
-  pub next_index : (i w : ℕ) → get_or n s 0 < length n → get_or n s 0 < length (set p i w)
-  next_index i w l = simp length-set (omega (arith, l, k.rep.next_len, k.rep.prev_len))
-
 -- ---- what `turn` ensures
 module _ (a : Links) (d s : ℕ) (k : HeldBy a d s) where
   slots_same : (v : Lists) (loose : List ℕ) → Rep a v loose → (s < v.slots) × (d < v.count)

@@ -3,26 +3,16 @@ use Prim.Native.Nat.{ℕ, ◌+◌, ◌≤◌, ◌<◌}
 use mathlib.Core.Path.{◌≡◌, sym, ◌∙◌}
 use mathlib.Core.Logic.{⊎_elim}
 use mathlib.Core.Bool.{Bool, true, false, false≢true, not}
-use mathlib.Core.List.{List}
 use lib.ListN.{length}
 use lib.Dec.{eqb}
-use borrow.Author.Tests.{eq-eqb, eqb-true, not-true, not-false}
+use borrow.Author.Tests.{eq-eqb, eqb-true, not-true}
 use Rattle.numbers.specs.Shared.{no_slot as none}
-use Rattle.deque_rules.specs.Links.{Links, links, Whole}
-use Rattle.deque_rules.specs.Layout.{Sizes}
+use Rattle.deque_rules.specs.Links.{Links, Whole}
 use Rattle.deque_rules.specs.Sound.{Verdict, Sized, Walked, WalkedFree}
 use Rattle.numbers.proofs.Cases.{same?}
-use Rattle.deque_rules.proofs.Judging.{Upto, begin, whole_sizes, no_walk, no_walk_free, too_few, is_whole}
+use Rattle.deque_rules.proofs.Judging.{Upto, whole_sizes, no_walk, no_walk_free, too_few, is_whole}
 
 module _ (a : Links) where
-  -- the lengths
-  pub unsized : (Sizes a → ⊥) → Sized a false
-  unsized n = record { sound = λ e. absurd (false≢true e); complete = λ z. absurd (n z) }
-
-  -- the loop starts where they are
-  pub begins : (r : Bool) → Sized a r → not r ≡ false → Upto a 0 0
-  begins r z e = begin a (z.sound (not-false r e))
-
   module _ (free : ℕ) where
     nay : (Whole a free → ⊥) → Verdict a free false
     nay n = record { sound = λ e. absurd (false≢true e); complete = λ w. absurd (n w) }
@@ -44,15 +34,6 @@ module _ (a : Links) where
           complete = λ w. ⊎_elim (λ e. eq-eqb (total + c) (length a.next) e)
               (λ (n : total + c ≡ length a.next → ⊥). absurd (too_few a free d total c u h k l n w)) (same? (total + c) (length a.next));
         }
-
--- the last test of the lengths
-pub sized_by : (h t n p o : List ℕ) → length h ≤ none → length n ≤ none → length t ≡ length h → length p ≡ length n → Sized (links h t n p o)
-    (eqb (length o) (length n))
-sized_by h t n p o i j k l =
-    record {
-      sound = λ e. record { tails_len = k; prev_len = l; home_len = eqb-true (length o) (length n) e; few = i; small = j };
-      complete = λ z. eq-eqb (length o) (length n) z.home_len;
-    }
 
 -- the laws of the ways out of the loop, and after it
 pub ruleset exits = (not_sized, fails, fails_free, counts)

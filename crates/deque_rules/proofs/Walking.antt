@@ -21,9 +21,6 @@ pub record Going (a : Links) (d b x k : ℕ) : Type 0 where
   pub whole : (ys : List ℕ) → Runs a d b ys → (xs : List ℕ) × Runs a d none xs × (length xs ≡ k + length ys)
   pub ahead : (xs : List ℕ) → Runs a d none xs → (ys : List ℕ) × Runs a d b ys × (length xs ≡ k + length ys)
 
-pub start : (a : Links) (d : ℕ) → Going a d none (get_or a.heads d 0) 0
-start a d = record { here = refl; few = omega arith; whole = λ ys h. (ys, h, omega arith); ahead = λ xs h. (xs, h, omega arith) }
-
 module _ (a : Links) (d : ℕ) (z : Sizes a × (d < length a.heads)) where
   real : (b : ℕ) (xs : List ℕ) → Runs a d b xs → (y : ℕ) → In y xs → y ≡ none → ⊥
   real b xs h y m e = omega (arith, (h.1 y m).0, z.0.small, e)
@@ -50,7 +47,7 @@ module _ (a : Links) (d : ℕ) (z : Sizes a × (d < length a.heads)) where
     stuck : ((ys : List ℕ) → Runs a d b ys → ⊥) → Walked a d 4097
     stuck n = record { found = λ i. absurd (omega (arith, i)); bad = λ _ xs h. n (g.ahead xs h).0 (g.ahead xs h).1 }
 
-    pub full : (x ≡ none → ⊥) → k ≡ length a.next → Walked a d 4097
+    pub full : (x ≡ none → ⊥) → length a.next ≤ k → Walked a d 4097
     full n e =
         stuck (λ ys h.
         let u = passed n ys h in
@@ -66,7 +63,7 @@ module _ (a : Links) (d : ℕ) (z : Sizes a × (d < length a.heads)) where
     pub stranger : (x ≡ none → ⊥) → (get_or a.home x 0 ≡ d → ⊥) → Walked a d 4097
     stranger n e = stuck (λ ys h. e (passed n ys h).4)
 
-    pub goes : (x ≡ none → ⊥) → (k ≡ length a.next → ⊥) → x < length a.next → get_or a.prev x 0 ≡ b → get_or a.home x 0 ≡ d → Going a d x
+    pub goes : (x ≡ none → ⊥) → k < length a.next → x < length a.next → get_or a.prev x 0 ≡ b → get_or a.home x 0 ≡ d → Going a d x
         (get_or a.next x 0) (k + 1)
     goes n l i p o =
         record {

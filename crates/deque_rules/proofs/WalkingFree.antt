@@ -16,9 +16,6 @@ pub record GoingFree (next home : List ℕ) (free x k : ℕ) : Type 0 where
   pub whole : (ys : List ℕ) → Spares next home x ys → (xs : List ℕ) × Spares next home free xs × (length xs ≡ k + length ys)
   pub ahead : (xs : List ℕ) → Spares next home free xs → (ys : List ℕ) × Spares next home x ys × (length xs ≡ k + length ys)
 
-pub start : (next home : List ℕ) (free : ℕ) → GoingFree next home free free 0
-start next home free = record { few = omega arith; whole = λ ys h. (ys, h, omega arith); ahead = λ xs h. (xs, h, omega arith) }
-
 module _ (next home : List ℕ) (free : ℕ) (z : SizesFree next home) where
   real : (b : ℕ) (xs : List ℕ) → Spares next home b xs → (y : ℕ) → In y xs → y ≡ none → ⊥
   real b xs h y m e = omega (arith, (h.2 y m).0, z.small, e)
@@ -37,7 +34,7 @@ module _ (next home : List ℕ) (free : ℕ) (z : SizesFree next home) where
     stuck : ((ys : List ℕ) → Spares next home x ys → ⊥) → WalkedFree next home free 4097
     stuck n = record { found = λ i. absurd (omega (arith, i)); bad = λ _ xs h. n (g.ahead xs h).0 (g.ahead xs h).1 }
 
-    pub full : (x ≡ none → ⊥) → k ≡ length next → WalkedFree next home free 4097
+    pub full : (x ≡ none → ⊥) → length next ≤ k → WalkedFree next home free 4097
     full n e =
         stuck (λ ys h.
         let u = passed n ys h in
@@ -50,7 +47,7 @@ module _ (next home : List ℕ) (free : ℕ) (z : SizesFree next home) where
     pub homed : (x ≡ none → ⊥) → (get_or home x 0 ≡ none → ⊥) → WalkedFree next home free 4097
     homed n e = stuck (λ ys h. e (passed n ys h).4)
 
-    pub goes : (x ≡ none → ⊥) → (k ≡ length next → ⊥) → x < length next → get_or home x 0 ≡ none → GoingFree next home free (get_or next x 0) (k + 1)
+    pub goes : (x ≡ none → ⊥) → k < length next → x < length next → get_or home x 0 ≡ none → GoingFree next home free (get_or next x 0) (k + 1)
     goes n l i o =
         record {
           few = omega (arith, g.few, l);

@@ -4,7 +4,6 @@ pub mod Testing
 pub mod Refusing
 pub mod Keeping
 pub mod Looking
-pub mod Clearing
 pub mod Meeting
 pub mod Relinking
 pub mod Working

@@ -1,21 +1,13 @@
 -- 01, "The deque by itself": its records, when they are sound, what each call writes and answers, the promise of every
 -- call, and histories of calls.
-use Rattle.std.specs.Prelude.{ℕ, ◌≤◌, ◌<◌, ◌+◌, ◌-◌, cond, List, [], ◌∷◌, ◌⊎◌, ◌≡◌, eqb, length, get_or, replicate, set}
+use Rattle.std.specs.Prelude.{ℕ, ◌≤◌, ◌<◌, ◌+◌, ◌-◌, cond, List, [], ◌∷◌, ◌⊎◌, ◌≡◌, eqb, length, get_or, replicate, set, Result, Ok, Err, Option, Some, None}
 use Rattle.deque_rules.specs.Links.{Links, links, list_from, Chain, slot_after, home_of, Path, first, fresh, link_back, removed, move_back}
-use Rattle.deque_rules.specs.declared.alone.Measured.{Measured}
-use Rattle.deque_rules.specs.declared.alone.Measured.TheVariants.{Length, Refused as MeasuredRefused}
-use Rattle.deque_rules.specs.declared.alone.Done.{Done}
-use Rattle.deque_rules.specs.declared.alone.Done.TheVariants.{Done as Did, Refused as DoneRefused}
-use Rattle.deque_rules.specs.declared.alone.Dropped.{Dropped}
-use Rattle.deque_rules.specs.declared.alone.Dropped.TheVariants.{Element, Refused as DroppedRefused}
-use Rattle.deque_rules.specs.declared.alone.Looked.{Looked}
-use Rattle.deque_rules.specs.declared.alone.Looked.TheVariants.{Node as LookedNode, Nothing as LookedNothing, Refused as LookedRefused}
-use Rattle.deque_rules.specs.declared.alone.Made.{Made}
-use Rattle.deque_rules.specs.declared.alone.Made.TheVariants.{First, Refused as MadeRefused}
-use Rattle.deque_rules.specs.declared.alone.Popped.{Popped}
-use Rattle.deque_rules.specs.declared.alone.Popped.TheVariants.{Node as PoppedNode, Nothing as PoppedNothing, Refused as PoppedRefused}
-use Rattle.deque_rules.specs.declared.alone.Pushed.{Pushed}
-use Rattle.deque_rules.specs.declared.alone.Pushed.TheVariants.{At, Refused as PushedRefused}
+use Rattle.deque_rules.specs.declared.alone.Node.{Node}
+use Rattle.deque_rules.specs.declared.alone.Placed.{Placed}
+use Rattle.deque_rules.specs.declared.alone.Taken.{Taken}
+use Rattle.deque_rules.specs.declared.alone.Freed.{Freed}
+use Rattle.numbers.specs.Refusals.{number_of}
+use Rattle.numbers.specs.declared.refusals.Refusal.{Refusal}
 use Rattle.numbers.specs.Shared.{no_slot, In, past_end, unless, not_refused, up_from}
 
 -- ======== the records
@@ -189,36 +181,58 @@ pub data DequeAnswer : Type 0 where
   nothing : DequeAnswer
   values : List ℕ → DequeAnswer
 
--- ---- what each case of the code's answers tells
+-- ---- what the code's calls answer with
+abbrev pub Made : Type 0
+Made = Result ℕ Refusal
+
+abbrev pub Pushed : Type 0
+Pushed = Result Placed Refusal
+
+abbrev pub Popped : Type 0
+Popped = Result (Option Taken) Refusal
+
+abbrev pub Looked : Type 0
+Looked = Result (Option Node) Refusal
+
+abbrev pub Dropped : Type 0
+Dropped = Result Freed Refusal
+
+abbrev pub Measured : Type 0
+Measured = Result ℕ Refusal
+
+abbrev pub Done : Type 0
+Done = Result Unit Refusal
+
+-- ---- what each case of these answers tells
 abbrev pub made_told : Made → DequeAnswer
-made_told (First free) = values (free ∷ [])
-made_told (MadeRefused k) = refused k
+made_told (Ok free) = values (free ∷ [])
+made_told (Err why) = refused (number_of why)
 
 abbrev pub pushed_told : Pushed → DequeAnswer
-pushed_told (At slot free) = values (slot ∷ free ∷ [])
-pushed_told (PushedRefused k) = refused k
+pushed_told (Ok x) = values (x.slot ∷ x.free ∷ [])
+pushed_told (Err why) = refused (number_of why)
 
 abbrev pub popped_told : Popped → DequeAnswer
-popped_told (PoppedNode slot element free) = values (slot ∷ element ∷ free ∷ [])
-popped_told PoppedNothing = nothing
-popped_told (PoppedRefused k) = refused k
+popped_told (Ok (Some x)) = values (x.slot ∷ x.element ∷ x.free ∷ [])
+popped_told (Ok None) = nothing
+popped_told (Err why) = refused (number_of why)
 
 abbrev pub looked_told : Looked → DequeAnswer
-looked_told (LookedNode slot element) = values (slot ∷ element ∷ [])
-looked_told LookedNothing = nothing
-looked_told (LookedRefused k) = refused k
+looked_told (Ok (Some x)) = values (x.slot ∷ x.element ∷ [])
+looked_told (Ok None) = nothing
+looked_told (Err why) = refused (number_of why)
 
 abbrev pub dropped_told : Dropped → DequeAnswer
-dropped_told (Element element free) = values (element ∷ free ∷ [])
-dropped_told (DroppedRefused k) = refused k
+dropped_told (Ok x) = values (x.element ∷ x.free ∷ [])
+dropped_told (Err why) = refused (number_of why)
 
 abbrev pub measured_told : Measured → DequeAnswer
-measured_told (Length n) = values (n ∷ [])
-measured_told (MeasuredRefused k) = refused k
+measured_told (Ok n) = values (n ∷ [])
+measured_told (Err why) = refused (number_of why)
 
 abbrev pub done_told : Done → DequeAnswer
-done_told Did = values []
-done_told (DoneRefused k) = refused k
+done_told (Ok u) = values []
+done_told (Err why) = refused (number_of why)
 
 -- ---- what the looks and next by cursor tell where they are not refused
 -- the node x with its element, or Nothing where x is no node
@@ -278,7 +292,7 @@ pub data DequeCall : Type 0 where
   next_by_cursor : (d : ℕ) → DequeCall
   reset_cursor : (d : ℕ) → DequeCall
 
--- the enum that a call answers with, and 01's number and values for each of its cases
+-- the type that a call answers with, and 01's number and values for each of its cases
 abbrev pub AnswerOf : DequeCall → Type 0
 AnswerOf make = Made
 AnswerOf (push_back d e) = Pushed
@@ -325,21 +339,21 @@ pub record DequePromised (c : DequeCall) (a : State) (free : ℕ) (b : State) (r
 -- ---- the first free node after a call, where it was free before: what the answer hands on, and the same one where it
 -- hands none on
 abbrev pub made_free : Made → ℕ → ℕ
-made_free (First free') free = free'
-made_free (MadeRefused k) free = free
+made_free (Ok free') free = free'
+made_free (Err why) free = free
 
 abbrev pub pushed_free : Pushed → ℕ → ℕ
-pushed_free (At slot free') free = free'
-pushed_free (PushedRefused k) free = free
+pushed_free (Ok x) free = x.free
+pushed_free (Err why) free = free
 
 abbrev pub popped_free : Popped → ℕ → ℕ
-popped_free (PoppedNode slot element free') free = free'
-popped_free PoppedNothing free = free
-popped_free (PoppedRefused k) free = free
+popped_free (Ok (Some x)) free = x.free
+popped_free (Ok None) free = free
+popped_free (Err why) free = free
 
 abbrev pub dropped_free : Dropped → ℕ → ℕ
-dropped_free (Element element free') free = free'
-dropped_free (DroppedRefused k) free = free
+dropped_free (Ok x) free = x.free
+dropped_free (Err why) free = free
 
 abbrev pub free_then : (c : DequeCall) → AnswerOf c → ℕ → ℕ
 free_then make r free = made_free r free

@@ -1,103 +1,65 @@
-// What a call answers. An answer is told as six numbers: its word's place in the table, how many numbers follow, three
-// numbers, and the first free node after the call.
-use deque_rules::alone::{Done, Dropped, Looked, Made, Measured, Popped, Pushed};
+// What a call answers, and the line that says it.
+use deque_alone::Node;
 use lines::{Answers, Lines};
+use numbers::refusals::Refusal;
 
-// The words of the table below, in its order.
-const SLOT: u64 = 0;
+#[derive(Clone, Copy, Debug, PartialEq, Eq)]
+pub enum Answer {
+    Slot(usize),
+    Popped { slot: usize, element: u64 },
+    Element(u64),
+    Node { slot: usize, element: u64 },
+    Nothing,
+    Done,
+    Length(usize),
+    Digest(u64),
+    BadLine,
+    NoLine,
+}
 
-const POPPED: u64 = 1;
+// An answer, and the first free node after the call.
+#[derive(Clone, Copy, Debug, PartialEq, Eq)]
+pub struct Told {
+    pub answer: Answer,
+    pub free: usize,
+}
 
-const ELEMENT: u64 = 2;
-
-pub const REFUSED: u64 = 3;
-
-const NOTHING: u64 = 4;
-
-pub const OK: u64 = 5;
-
-const LENGTH: u64 = 6;
-
-pub const DIGESTED: u64 = 7;
-
-// Puts the line of what was told after the answers that wait.
-pub fn say(rt: &impl Print, answers: &mut Answers, told: &[u64; 6], input: &Lines) {
+// Puts the answer's line after the answers that wait. A line is told by the place of its word in the table and its
+// numbers.
+pub fn say(
+    rt: &impl Print,
+    answers: &mut Answers,
+    told: Result<Told, Refusal>,
+    input: &Lines,
+) {
+    let mut line = [0; 6];
+    match told {
+        Ok(told) => tell(&mut line, told.answer),
+        Err(why) => lines::tell(&mut line, 3, 1, why.number(), 0, 0),
+    }
     let words = b"slot popped element refused nothing ok length digest";
-    answers.say(rt, words, told, input);
+    answers.say(rt, words, &line, input);
 }
 
-// Tells a word with so many of two numbers, and the first free node.
-pub fn answer(
-    told: &mut [u64; 6],
-    free: usize,
-    word: u64,
-    numbers: u64,
-    a: u64,
-    b: u64,
-) -> &mut [u64; 6] {
-    lines::tell(told, word, numbers, a, b, 0);
-    told[5] = free as u64;
-    told
-}
-
-pub fn refused(told: &mut [u64; 6], free: usize, k: u32) -> &mut [u64; 6] {
-    answer(told, free, REFUSED, 1, k as u64, 0)
-}
-
-pub fn made(told: &mut [u64; 6], free: usize, r: Made) -> &mut [u64; 6] {
-    match r {
-        Made::First(first) => answer(told, first, OK, 0, 0, 0),
-        Made::Refused(k) => refused(told, free, k),
+fn tell(line: &mut [u64; 6], answer: Answer) {
+    match answer {
+        Answer::Slot(slot) => lines::tell(line, 0, 1, slot as u64, 0, 0),
+        Answer::Popped { slot, element } => lines::tell(line, 1, 2, slot as u64, element, 0),
+        Answer::Element(element) => lines::tell(line, 2, 1, element, 0, 0),
+        Answer::Node { slot, element } => lines::tell(line, 2, 2, slot as u64, element, 0),
+        Answer::Nothing => lines::tell(line, 4, 0, 0, 0, 0),
+        Answer::Done => lines::tell(line, 5, 0, 0, 0, 0),
+        Answer::Length(n) => lines::tell(line, 6, 1, n as u64, 0, 0),
+        Answer::Digest(h) => lines::tell(line, 7, 1, h, 0, 0),
+        Answer::BadLine => lines::tell(line, lines::BAD_LINE, 0, 0, 0, 0),
+        Answer::NoLine => lines::tell(line, lines::NO_LINE, 0, 0, 0, 0),
     }
 }
 
-pub fn pushed(told: &mut [u64; 6], free: usize, r: Pushed) -> &mut [u64; 6] {
-    match r {
-        Pushed::At { slot, free: rest } => answer(told, rest, SLOT, 1, slot as u64, 0),
-        Pushed::Refused(k) => refused(told, free, k),
-    }
-}
-
-pub fn popped(told: &mut [u64; 6], free: usize, r: Popped) -> &mut [u64; 6] {
-    match r {
-        Popped::Node {
-            slot,
-            element,
-            free: first,
-        } => answer(told, first, POPPED, 2, slot as u64, element),
-        Popped::Nothing => answer(told, free, NOTHING, 0, 0, 0),
-        Popped::Refused(k) => refused(told, free, k),
-    }
-}
-
-pub fn dropped(told: &mut [u64; 6], free: usize, r: Dropped) -> &mut [u64; 6] {
-    match r {
-        Dropped::Element {
-            element,
-            free: first,
-        } => answer(told, first, ELEMENT, 1, element, 0),
-        Dropped::Refused(k) => refused(told, free, k),
-    }
-}
-
-pub fn looked(told: &mut [u64; 6], free: usize, r: Looked) -> &mut [u64; 6] {
-    match r {
-        Looked::Node { slot, element } => answer(told, free, ELEMENT, 2, slot as u64, element),
-        Looked::Nothing => answer(told, free, NOTHING, 0, 0, 0),
-        Looked::Refused(k) => refused(told, free, k),
-    }
-}
-
-pub fn counted(told: &mut [u64; 6], free: usize, r: Measured) -> &mut [u64; 6] {
-    match r {
-        Measured::Length(n) => answer(told, free, LENGTH, 1, n as u64, 0),
-        Measured::Refused(k) => refused(told, free, k),
-    }
-}
-
-pub fn done(told: &mut [u64; 6], free: usize, r: Done) -> &mut [u64; 6] {
-    match r {
-        Done::Done => answer(told, free, OK, 0, 0, 0),
-        Done::Refused(k) => refused(told, free, k),
+// A look, where there is a node.
+pub fn looked(node: Option<Node>) -> Answer {
+    match node {
+        Some(Node { slot, element }) => Answer::Node { slot, element },
+        None => Answer::Nothing,
     }
 }

@@ -6,17 +6,17 @@ mod parse;
 mod pokes;
 mod shows;
 mod state;
-mod words;
 mod work;
 
 use crate::answers::say;
 use crate::parse::found;
-use crate::state::{State, after, planned};
+use crate::state::State;
 use crate::work::perform;
+use deque::linked::LinkedMut;
+use deque_alone::DequesMut;
 use lines::{Answers, Lines};
 
-// Answers line by line to the end of the input. The records are lent to a call and are its to the end of it: it hands
-// back what it told.
+// Answers line by line to the end of the input. A refused call leaves the state.
 fn main(rt: HostRuntime) {
     let mut heads = [0usize; 256];
     let mut tails = [0usize; 256];
@@ -26,7 +26,6 @@ fn main(rt: HostRuntime) {
     let mut prev = [0usize; 4096];
     let mut home = [0usize; 4096];
     let mut element = [0u64; 4096];
-    let mut told = [0u64; 6];
     let mut input = Lines::new();
     let mut answers = Answers::new();
     let mut state = State {
@@ -39,26 +38,36 @@ fn main(rt: HostRuntime) {
         let Some(line) = input.line() else {
             break;
         };
-        let plan = planned(state, found(line));
+        let plan = state.planned(found(line));
         let d = plan.deques;
         let n = plan.nodes;
-        perform(
+        let mut deques = DequesMut {
+            links: LinkedMut {
+                heads: &mut heads[..d],
+                tails: &mut tails[..d],
+                next: &mut next[..n],
+                prev: &mut prev[..n],
+                home: &mut home[..n],
+            },
+            lens: &mut lens[..d],
+            element: &mut element[..n],
+        };
+        let told = perform(
             &rt,
-            &mut heads[..d],
-            &mut tails[..d],
-            &mut lens[..d],
+            &mut deques,
             &mut cursors[..d],
-            &mut next[..n],
-            &mut prev[..n],
-            &mut home[..n],
-            &mut element[..n],
             &mut answers,
-            &mut told,
             state.free,
             plan.call,
         );
-        say(&rt, &mut answers, &told, &input);
-        state = after(state, plan, &told);
+        say(&rt, &mut answers, told, &input);
+        if let Ok(told) = told {
+            state = State {
+                deques: d,
+                nodes: n,
+                free: told.free,
+            };
+        }
     }
     answers.flush(&rt);
 }

@@ -1,16 +1,14 @@
 // What goes from line to line beside the records: how many there are, and the first free node.
 ghost use Rattle.std.specs.Prelude.{◌≤◌};
 
-use crate::answers::REFUSED;
-use crate::parse::{BAD, Call, SILENT, TOO_MANY};
-use crate::words::MAKE;
+use crate::parse::Call;
 
 const MOST_DEQUES: usize = 256;
 
 const MOST_NODES: usize = 4096;
 
 // How many deques over how many nodes were made (none before the first making), and the first free node.
-#[derive(Clone, Copy)]
+#[derive(Clone, Copy, Debug, PartialEq, Eq)]
 pub struct State {
     pub deques: usize,
     pub nodes: usize,
@@ -18,58 +16,40 @@ pub struct State {
 }
 
 // A call, and how many deques and nodes are lent to it.
-#[derive(Clone, Copy)]
+#[derive(Clone, Copy, Debug, PartialEq, Eq)]
 pub struct Plan {
     pub call: Call,
     pub deques: usize,
     pub nodes: usize,
 }
 
-// What the call does in the state, on no more records than there are.
-pub fn planned(s: State, call: Call) -> Plan
-    ensures { (result.deques ≤ 256) × (result.nodes ≤ 4096) }
-{
-    let plan = meant(s, call);
-    let call = plan.call;
-    Plan {
-        call,
-        deques: lines::within(plan.deques, MOST_DEQUES),
-        nodes: lines::within(plan.nodes, MOST_NODES),
-    }
-}
-
-// Before the first making every other call is a bad line, and more records than there are cannot be lent.
-fn meant(s: State, call: Call) -> Plan {
-    let mut plan = Plan {
-        call,
-        deques: s.deques,
-        nodes: s.nodes,
-    };
-    let asks = call.asks;
-    if asks == MAKE {
-        if call.i <= MOST_DEQUES && call.x <= 4096 {
-            plan.deques = call.i;
-            plan.nodes = call.x as usize;
-            return plan;
+impl State {
+    // What the call does in the state, on no more records than there are. Before the first making every other call is a
+    // bad line, and more records than there are cannot be lent.
+    pub fn planned(self, call: Call) -> Plan
+        ensures { (result.deques ≤ 256) × (result.nodes ≤ 4096) }
+    {
+        match call {
+            Call::Make { deques, nodes } if deques <= 256 && nodes <= 4096 => Plan {
+                call,
+                deques: deques as usize,
+                nodes: nodes as usize,
+            },
+            Call::Make { .. } => self.plan(Call::TooMany),
+            Call::Silent => self.plan(call),
+            _ if self.deques == 0 => self.plan(Call::Bad),
+            _ => self.plan(call),
         }
-        plan.call.asks = TOO_MANY;
-        return plan;
     }
-    if s.deques == 0 && asks != SILENT {
-        plan.call.asks = BAD;
-    }
-    plan
-}
 
-// The state that the call leaves, by what it told: a refused call leaves the state, and the last number is the first
-// free node.
-pub fn after(s: State, plan: Plan, told: &[u64; 6]) -> State {
-    if told[0] == REFUSED {
-        return s;
-    }
-    State {
-        deques: plan.deques,
-        nodes: plan.nodes,
-        free: told[5] as usize,
+    // The call on as many records as were made.
+    fn plan(self, call: Call) -> Plan
+        ensures { (result.deques ≤ 256) × (result.nodes ≤ 4096) }
+    {
+        Plan {
+            call,
+            deques: self.deques.min(MOST_DEQUES),
+            nodes: self.nodes.min(MOST_NODES),
+        }
     }
 }

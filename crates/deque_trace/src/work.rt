@@ -1,179 +1,143 @@
-// The calls of the trace, on the lent records. These are the call's to its end, so it hands back what it told and
-// nothing else.
-use crate::answers::{
-    DIGESTED, OK, answer, counted, done, dropped, looked, made, popped, pushed, refused,
-};
-use crate::parse::{
-    Call, POKE_CURSOR, POKE_ELEMENT, POKE_FREE, POKE_HEAD, POKE_HOME, POKE_LENGTH, POKE_NEXT,
-    POKE_PREV, POKE_TAIL, SILENT, TOO_MANY,
-};
-use crate::pokes::{put, put_element};
+// The calls of the trace, on the lent records.
+use crate::answers::{Answer, Told, looked};
+use crate::parse::{Call, Column};
+use crate::pokes::put;
 use crate::shows::{digest, dump};
-use crate::words::{
-    BACK, DIGEST, DUMP, FRONT, LENGTH, LIST, MAKE, MOVE, NEXT, POP, PUSH, RESET, UNLINK,
-};
-use lines::{Answers, BAD_LINE, NO_LINE};
+use deque_alone::{Deques, DequesMut};
+use lines::Answers;
+use numbers::refusals::Refusal;
 
-// A call on the lent records. A list and a dump go to the answers, after those that wait.
-pub fn perform<'a>(
+// A call on the lent records. A list and a dump go to the answers.
+pub fn perform(
     rt: &impl Print,
-    heads: &'a mut [usize],
-    tails: &'a mut [usize],
-    lens: &'a mut [usize],
-    cursors: &'a mut [usize],
-    next: &'a mut [usize],
-    prev: &'a mut [usize],
-    home: &'a mut [usize],
-    element: &'a mut [u64],
-    answers: &'a mut Answers,
-    told: &'a mut [u64; 6],
+    deques: &mut DequesMut<'_>,
+    cursors: &mut [usize],
+    answers: &mut Answers,
     free: usize,
     call: Call,
-) -> &'a mut [u64; 6] {
-    let asks = call.asks;
-    let i = call.i;
-    let x = call.x;
-    match asks {
-        PUSH => pushed(
-            told,
+) -> Result<Told, Refusal> {
+    match call {
+        Call::Make { .. } => {
+            let free = deques.make(cursors)?;
+            Ok(Told {
+                answer: Answer::Done,
+                free,
+            })
+        }
+        Call::Push { d, element } => {
+            let placed = deques.push_back(cursors, free, d, element)?;
+            Ok(Told {
+                answer: Answer::Slot(placed.slot),
+                free: placed.free,
+            })
+        }
+        Call::Pop { d } => match deques.pop_front(cursors, free, d)? {
+            Some(taken) => Ok(Told {
+                answer: Answer::Popped {
+                    slot: taken.slot,
+                    element: taken.element,
+                },
+                free: taken.free,
+            }),
+            None => Ok(Told {
+                answer: Answer::Nothing,
+                free,
+            }),
+        },
+        Call::Unlink { d, s } => {
+            let freed = deques.unlink_and_drop(cursors, free, d, s)?;
+            Ok(Told {
+                answer: Answer::Element(freed.element),
+                free: freed.free,
+            })
+        }
+        Call::PokeFree { free } => Ok(Told {
+            answer: Answer::Done,
             free,
-            deque_alone::push_back(
-                heads, tails, lens, cursors, next, prev, home, element, free, i, x,
-            ),
-        ),
-        POP => popped(
-            told,
+        }),
+        _ => Ok(Told {
+            answer: change(rt, deques, cursors, answers, free, call)?,
             free,
-            deque_alone::pop_front(
-                heads, tails, lens, cursors, next, prev, home, element, free, i,
-            ),
-        ),
-        UNLINK => dropped(
-            told,
-            free,
-            deque_alone::unlink_and_drop(
-                heads, tails, lens, cursors, next, prev, home, element, free, i, x as usize,
-            ),
-        ),
-        MOVE => done(
-            told,
-            free,
-            deque_alone::move_to_back(
-                heads, tails, lens, cursors, next, prev, home, element, free, i, x as usize,
-            ),
-        ),
-        MAKE => made(
-            told,
-            free,
-            deque_alone::make(heads, tails, lens, cursors, next, prev, home, element),
-        ),
-        POKE_NEXT => put(next, told, free, call),
-        POKE_PREV => put(prev, told, free, call),
-        POKE_HOME => put(home, told, free, call),
-        POKE_ELEMENT => put_element(element, told, free, call),
-        POKE_HEAD => put(heads, told, free, call),
-        POKE_TAIL => put(tails, told, free, call),
-        POKE_LENGTH => put(lens, told, free, call),
-        POKE_CURSOR => put(cursors, told, free, call),
-        _ => look(
-            rt, heads, tails, lens, cursors, next, prev, home, element, answers, told, free, call,
-        ),
+        }),
+    }
+}
+
+// The calls that write, and leave the first free node.
+fn change(
+    rt: &impl Print,
+    deques: &mut DequesMut<'_>,
+    cursors: &mut [usize],
+    answers: &mut Answers,
+    free: usize,
+    call: Call,
+) -> Result<Answer, Refusal> {
+    match call {
+        Call::Move { d, s } => {
+            deques.move_to_back(cursors, free, d, s)?;
+            Ok(Answer::Done)
+        }
+        Call::Poke { column, i, x } => Ok(poke(deques, cursors, column, i, x)),
+        Call::PokeElement { s, element } => Ok(put(deques.element, s, element)),
+        _ => look(rt, deques.as_read(), cursors, answers, free, call),
+    }
+}
+
+// A link, a length or a cursor is written.
+fn poke(
+    deques: &mut DequesMut<'_>,
+    cursors: &mut [usize],
+    column: Column,
+    i: usize,
+    x: usize,
+) -> Answer {
+    match column {
+        Column::Next => put(deques.links.next, i, x),
+        Column::Prev => put(deques.links.prev, i, x),
+        Column::Home => put(deques.links.home, i, x),
+        Column::Head => put(deques.links.heads, i, x),
+        Column::Tail => put(deques.links.tails, i, x),
+        Column::Length => put(deques.lens, i, x),
+        Column::Cursor => put(cursors, i, x),
     }
 }
 
 // The calls that write no more than a cursor.
-fn look<'a>(
+fn look(
     rt: &impl Print,
-    heads: &'a [usize],
-    tails: &'a [usize],
-    lens: &'a [usize],
-    cursors: &'a mut [usize],
-    next: &'a [usize],
-    prev: &'a [usize],
-    home: &'a [usize],
-    element: &'a [u64],
-    answers: &'a mut Answers,
-    told: &'a mut [u64; 6],
+    deques: Deques<'_>,
+    cursors: &mut [usize],
+    answers: &mut Answers,
     free: usize,
     call: Call,
-) -> &'a mut [u64; 6] {
-    let asks = call.asks;
-    let d = call.i;
-    match asks {
-        NEXT => looked(
-            told,
-            free,
-            deque_alone::next_by_cursor(
-                heads, tails, lens, cursors, next, prev, home, element, free, d,
-            ),
-        ),
-        RESET => done(
-            told,
-            free,
-            deque_alone::reset_cursor(
-                heads, tails, lens, cursors, next, prev, home, element, free, d,
-            ),
-        ),
-        FRONT => looked(
-            told,
-            free,
-            deque_alone::look_front(
-                heads, tails, lens, cursors, next, prev, home, element, free, d,
-            ),
-        ),
-        BACK => looked(
-            told,
-            free,
-            deque_alone::look_back(
-                heads, tails, lens, cursors, next, prev, home, element, free, d,
-            ),
-        ),
-        LENGTH => counted(
-            told,
-            free,
-            deque_alone::length_of(
-                heads, tails, lens, cursors, next, prev, home, element, free, d,
-            ),
-        ),
-        LIST => list(rt, heads, next, answers, told, free, d),
-        DUMP => {
-            dump(
-                rt, heads, tails, lens, cursors, next, prev, home, element, answers, free,
-            );
-            answer(told, free, NO_LINE, 0, 0, 0)
+) -> Result<Answer, Refusal> {
+    match call {
+        Call::Next { d } => Ok(looked(deques.next_by_cursor(cursors, free, d)?)),
+        Call::Reset { d } => {
+            deques.reset_cursor(cursors, free, d)?;
+            Ok(Answer::Done)
         }
-        DIGEST => {
-            let h = digest(heads, tails, lens, cursors, next, prev, home, element, free);
-            answer(told, free, DIGESTED, 1, h, 0)
+        Call::Front { d } => Ok(looked(deques.look_front(cursors, free, d)?)),
+        Call::Back { d } => Ok(looked(deques.look_back(cursors, free, d)?)),
+        Call::Length { d } => Ok(Answer::Length(deques.length_of(cursors, free, d)?)),
+        Call::List { d } => Ok(list(rt, deques, answers, d)),
+        Call::Dump => {
+            dump(rt, deques, cursors, answers, free);
+            Ok(Answer::NoLine)
         }
-        _ => aside(told, free, call),
+        Call::Digest => Ok(Answer::Digest(digest(deques, cursors, free))),
+        Call::TooMany => Err(Refusal::LengthsOutOfRange),
+        Call::Silent => Ok(Answer::NoLine),
+        _ => Ok(Answer::BadLine),
     }
 }
 
 // `list D`: the nodes from the deque's head on.
-fn list<'a>(
-    rt: &impl Print,
-    heads: &'a [usize],
-    next: &'a [usize],
-    answers: &'a mut Answers,
-    told: &'a mut [u64; 6],
-    free: usize,
-    d: usize,
-) -> &'a mut [u64; 6] {
-    if heads.len() <= d {
-        return answer(told, free, BAD_LINE, 0, 0, 0);
-    }
-    answers.say_chain(rt, b"list", heads[d], next);
-    answer(told, free, NO_LINE, 0, 0, 0)
-}
-
-// What touches no record.
-fn aside(told: &mut [u64; 6], free: usize, call: Call) -> &mut [u64; 6] {
-    let asks = call.asks;
-    match asks {
-        POKE_FREE => answer(told, call.x as usize, OK, 0, 0, 0),
-        SILENT => answer(told, free, NO_LINE, 0, 0, 0),
-        TOO_MANY => refused(told, free, 3),
-        _ => answer(told, free, BAD_LINE, 0, 0, 0),
+fn list(rt: &impl Print, deques: Deques<'_>, answers: &mut Answers, d: usize) -> Answer {
+    match deques.links.heads.get(d) {
+        Some(head) => {
+            answers.say_chain(rt, b"list", *head, deques.links.next);
+            Answer::NoLine
+        }
+        None => Answer::BadLine,
     }
 }

@@ -1,6 +1,6 @@
 // A line as a word of a table and up to three numbers.
 use crate::collecting::{Kind, kind_of};
-use crate::parts::{count, part};
+use crate::parts::{SPACE, count, part};
 use crate::reading::{Number, number_at};
 
 // What a line asks for: its word's place in the table, if it has one there; how many parts it has if all after the word
@@ -46,5 +46,5 @@ fn numbered(line: &[u8], word: Option<usize>) -> Asked {
 
 // The place of the word in the table.
 fn place_of(word: &[u8], words: &[u8]) -> Option<usize> {
-    (0..count(words)).find(|k| part(words, *k) == word)
+    words.split(|b| *b == SPACE).position(|w| w == word)
 }

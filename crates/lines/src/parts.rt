@@ -2,7 +2,7 @@
 ghost use Rattle.std.specs.Prelude.{◌≡◌, ◌==◌, take, position};
 ghost use Rattle.lines.specs.Parts.{count_of, part_of, before, after, alike, space};
 
-const SPACE: u8 = b' ';
+pub const SPACE: u8 = b' ';
 
 // How many parts the line has: one more than it has spaces.
 pub fn count(line: &[u8]) -> usize

@@ -1,7 +1,9 @@
 // A row of records: a line of a dump, or numbers of a digest.
+ghost use Rattle.std.specs.Prelude.{◌≡◌, ◌≤◌, length};
+ghost use Rattle.lines.specs.Digests.{mixed_row, counts_as};
+
 use crate::answers::Answers;
 use crate::digests::digest_step;
-use crate::parts::part;
 
 // A link to no node.
 pub const NONE: u64 = numbers::slots::NONE as u64;
@@ -22,16 +24,16 @@ pub enum Value {
 }
 
 // The digest h with the row's values after it.
-pub fn digest_row(h: u64, values: &[Value]) -> u64 {
-    let mut digest = h;
-    for value in values {
-        digest = digest_step(digest, counted(*value));
-    }
-    digest
+pub fn digest_row(h: u64, values: &[Value]) -> u64
+    ensures { result ≡ mixed_row h values.now }
+{
+    values.iter().fold(h, |d, v| digest_step(d, counted(*v)))
 }
 
 // What a value counts as in a digest.
-fn counted(value: Value) -> u64 {
+fn counted(value: Value) -> u64
+    ensures { result ≡ counts_as value }
+{
     match value {
         Value::Link(NONE) => NONE_COUNTS,
         Value::Link(PAST_END) => END_COUNTS,
@@ -42,7 +44,9 @@ fn counted(value: Value) -> u64 {
 impl Answers {
     // Puts a line with the word and the row's values after what waits: a number, `-` for none and `end` for past the
     // end.
-    pub fn say_row(&mut self, rt: &impl Print, word: &[u8], values: &[Value]) {
+    pub fn say_row(&mut self, rt: &impl Print, word: &[u8], values: &[Value])
+        ensures { self.new.waiting ≤ length self.new.out }
+    {
         self.append(rt, word);
         for value in values {
             self.say_value(rt, *value);

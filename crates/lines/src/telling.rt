@@ -1,5 +1,6 @@
 // What a program tells of a line: an answer as six numbers, and the line that says it.
-ghost use Rattle.std.specs.Prelude.{◌≡◌, ◌∷◌, [], slice_index};
+ghost use Rattle.std.specs.Prelude.{◌≡◌, ◌∷◌, [], slice_index, true};
+ghost use Rattle.lines.specs.Collecting.{all_taken};
 
 use crate::answers::Answers;
 use crate::collecting::Lines;
@@ -32,7 +33,9 @@ pub fn tell_none(told: &mut [u64; 6], word: u64)
 impl Answers {
     // Puts the line of what was told after what waits, with its word out of the table, and writes all out where all
     // that was read is answered, so that nothing waits while more is read.
-    pub fn say(&mut self, rt: &impl Print, words: &[u8], told: &[u64; 6], input: &Lines) {
+    pub fn say(&mut self, rt: &impl Print, words: &[u8], told: &[u64; 6], input: &Lines)
+        ensures { all_taken input.now ≡ true → self.new.waiting ≡ 0 }
+    {
         match told[0] {
             NO_LINE => {}
             BAD_LINE => self.append(rt, b"bad line\n"),

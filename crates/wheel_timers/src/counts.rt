@@ -1,17 +1,9 @@
 // For proved code only, unchecked: the two calls that only read: armed count and next due.
 ghost use Rattle.std.specs.Prelude.{◌≤◌, length};
 ghost use Rattle.rules.specs.Places.{wheel01};
-ghost use Rattle.wheel_rules.specs.records.Counts.{IsOne, Counts, KeyReady, DueReady, FindsKey, Sooner, FindsDue};
+ghost use Rattle.wheel_rules.specs.records.Counts.{Counts, KeyReady, DueReady, FindsKey, Sooner, FindsDue};
 
 use crate::lent::{Entries, Nodes};
-pub use wheel_rules::records::Due;
-
-// 1 where the bucket is one of the total, else 0.
-fn one(total: usize, bucket: usize) -> usize
-    ensures { IsOne total bucket result }
-{
-    if bucket < total { 1 } else { 0 }
-}
 
 impl Nodes<'_> {
     // How many slots are armed: those from the total of buckets on whose bucket is one.
@@ -20,15 +12,14 @@ impl Nodes<'_> {
         ensures { Counts wheel01 self.now.linked.heads.now self.now.linked.home.now result }
     {
         let total = self.linked.heads.len();
-        let mut n: usize = 0;
-        for x in total..self.linked.home.len() {
-            n += one(total, self.linked.home[x]);
-        }
-        n
+        self.linked.home[total..]
+            .iter()
+            .filter(|bucket| **bucket < total)
+            .count()
     }
 
     // What next due takes the least of: the deadline that the slot's entry holds, if the slot is armed.
-    fn key(&self, entries: &Entries<'_>, x: usize) -> Due
+    fn key(&self, entries: &Entries<'_>, x: usize) -> Option<u64>
         requires { KeyReady
             (length self.now.linked.heads.now) self.now.linked.home.now self.now.entry.now
             entries.now.dated.now entries.now.deadline.now x }
@@ -37,17 +28,18 @@ impl Nodes<'_> {
             entries.now.dated.now entries.now.deadline.now x result }
     {
         if self.linked.heads.len() <= self.linked.home[x] {
-            return Due::Nothing;
+            return None;
         }
         let e = self.entry[x];
         if entries.dated[e] {
-            return Due::At(entries.deadline[e]);
+            Some(entries.deadline[e])
+        } else {
+            None
         }
-        Due::Nothing
     }
 
     // The least deadline of the armed timers, or none.
-    pub fn next_due(&self, entries: &Entries<'_>) -> Due
+    pub fn next_due(&self, entries: &Entries<'_>) -> Option<u64>
         requires { DueReady
             self.now.linked.heads.now self.now.linked.home.now self.now.entry.now
             entries.now.dated.now entries.now.deadline.now }
@@ -55,7 +47,7 @@ impl Nodes<'_> {
             self.now.linked.heads.now self.now.linked.home.now self.now.entry.now
             entries.now.dated.now entries.now.deadline.now result }
     {
-        let mut least = Due::Nothing;
+        let mut least = None;
         for x in self.linked.heads.len()..self.linked.home.len() {
             least = sooner(self.key(entries, x), least);
         }
@@ -63,18 +55,12 @@ impl Nodes<'_> {
     }
 }
 
-// The less of two.
-fn sooner(a: Due, b: Due) -> Due
+// The less of two, where there are two.
+fn sooner(a: Option<u64>, b: Option<u64>) -> Option<u64>
     ensures { Sooner a b result }
 {
-    let Due::At(d) = a else {
-        return b;
-    };
-    let Due::At(c) = b else {
-        return a;
-    };
-    if d < c {
-        return a;
+    match (a, b) {
+        (Some(d), Some(c)) => Some(d.min(c)),
+        _ => a.or(b),
     }
-    b
 }

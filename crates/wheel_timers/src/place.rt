@@ -9,7 +9,7 @@ ghost use Rattle.wheel_rules.specs.place.Promises.{Found, InBucket};
 pub mod levels;
 pub mod visits;
 
-use crate::place::levels::{known, level_count, level_first, level_shift, level_span};
+use crate::place::levels::{LAST, known, level_count, level_first, level_shift, level_span};
 pub use wheel_rules::place::Place;
 
 // How far the deadline lies ahead of the reading. A deadline before the reading counts as difference 0.
@@ -45,19 +45,12 @@ pub fn find(reading: u64, deadline: u64) -> Place
     ensures { Found reading deadline result }
 {
     let ahead = gap(reading, deadline);
-    if ahead < level_span(1) {
-        return place_at(0, deadline);
+    for level in 0..LAST {
+        if ahead < level_span(level + 1) {
+            return place_at(level, deadline);
+        }
     }
-    if ahead < level_span(2) {
-        return place_at(1, deadline);
-    }
-    if ahead < level_span(3) {
-        return place_at(2, deadline);
-    }
-    if ahead < level_span(4) {
-        return place_at(3, deadline);
-    }
-    place_at(4, deadline)
+    place_at(LAST, deadline)
 }
 
 // The number of the bucket, which is also the slot of its sentinel.

@@ -8,27 +8,28 @@ ghost use Rattle.wheel_timers.specs.Slices.{nodes_now, SameNodes};
 
 use crate::lent::NodesMut;
 use crate::place::bucket_of;
-use wheel_rules::calls::Clock;
-pub use wheel_rules::timers::Armed;
+use wheel_rules::calls::{After, Clock, Handle};
 
 impl NodesMut<'_> {
-    // Arms the first free slot for the entry e, with its generation h, at the back of the bucket of its deadline.
-    pub fn arm(&mut self, clock: Clock, e: usize, h: u32, deadline: u64) -> Armed
+    // Arms the first free slot for the entry e, with its generation h, at the back of the bucket of its deadline. Answers
+    // its handle.
+    pub fn arm(&mut self, clock: Clock, e: usize, h: u32, deadline: u64) -> After<Handle>
         requires { ArmReady wheel01 (nodes_now self.old) clock }
         ensures does { Arms wheel01 (nodes_now self.old) clock (nodes_now self.new) result e h deadline }
         ensures same { SameNodes self.old self.new }
     {
         let slot = clock.free;
-        let n = clock.serial;
+        let serial = clock.serial;
         let b = bucket_of(clock.reading, deadline);
-        let mut after = clock;
-        after.free = self.linked.push(slot, b);
-        self.write(slot, e, h, n);
-        after.serial = n + 1;
-        Armed {
-            clock: after,
-            slot,
-            serial: n,
+        let free = self.linked.push(slot, b);
+        self.write(slot, e, h, serial);
+        After {
+            clock: Clock {
+                serial: serial + 1,
+                free,
+                ..clock
+            },
+            answer: Handle { slot, serial },
         }
     }
 
@@ -40,9 +41,7 @@ impl NodesMut<'_> {
     {
         self.linked.remove(clock.free, x);
         self.write(x, 0, 0, 0);
-        let mut after = clock;
-        after.free = x;
-        after
+        Clock { free: x, ..clock }
     }
 
     // Moves the armed slot x to the back of the bucket that its deadline has at the reading. Its payload stays.

@@ -1,29 +1,23 @@
 -- Two results that meet the promise of a call coincide: the answer itself, and every record.
 use Prim.Native.Nat.{ℕ}
-use native.Mathlib.Omega.{arith}
 use mathlib.Core.Path.{◌≡◌, refl, sym, ap, ◌∙◌}
 use mathlib.Core.Logic.{⊎_elim}
 use Rattle.numbers.proofs.Cases.{same?}
 use Rattle.numbers.proofs.Rows.{Single, none_left, row}
+use Rattle.deque_rules.specs.Deque.{Made, Pushed, Popped, Looked, Dropped, Measured, Done}
 use Rattle.deque_rules.specs.Deque.{State, DequeAnswer as Told, refused, made_told, pushed_told, popped_told, looked_told, dropped_told, measured_told, done_told, make_rows}
 use Rattle.deque_rules.specs.Deque.{deque_rows, push_rows, node_rows, Meets, DequeCall as Call, make, push_back, pop_front, look_front, look_back}
 use Rattle.deque_rules.specs.Deque.{move_to_back, unlink_and_drop, length_of, next_by_cursor, reset_cursor, AnswerOf, told, Promise}
 use Rattle.deque_rules.specs.Deque.{DequePromised as Promised}
 use Rattle.numbers.specs.Shared.{not_refused as answered}
-use Rattle.deque_rules.specs.declared.alone.Made.{Made}
-use Rattle.deque_rules.specs.declared.alone.Made.TheVariants.{First, Refused as MadeRefused}
-use Rattle.deque_rules.specs.declared.alone.Pushed.{Pushed}
-use Rattle.deque_rules.specs.declared.alone.Pushed.TheVariants.{At, Refused as PushedRefused}
-use Rattle.deque_rules.specs.declared.alone.Popped.{Popped}
-use Rattle.deque_rules.specs.declared.alone.Popped.TheVariants.{Node as PoppedNode, Nothing as PoppedNothing, Refused as PoppedRefused}
-use Rattle.deque_rules.specs.declared.alone.Looked.{Looked}
-use Rattle.deque_rules.specs.declared.alone.Looked.TheVariants.{Node as LookedNode, Nothing as LookedNothing, Refused as LookedRefused}
-use Rattle.deque_rules.specs.declared.alone.Dropped.{Dropped}
-use Rattle.deque_rules.specs.declared.alone.Dropped.TheVariants.{Element, Refused as DroppedRefused}
-use Rattle.deque_rules.specs.declared.alone.Measured.{Measured}
-use Rattle.deque_rules.specs.declared.alone.Measured.TheVariants.{Length, Refused as MeasuredRefused}
-use Rattle.deque_rules.specs.declared.alone.Done.{Done}
-use Rattle.deque_rules.specs.declared.alone.Done.TheVariants.{Done as Did, Refused as DoneRefused}
+use Rattle.std.specs.Prelude.{Ok, Err, Some, None}
+use Rattle.deque_rules.specs.declared.alone.Node.{Node}
+use Rattle.deque_rules.specs.declared.alone.Placed.{Placed}
+use Rattle.deque_rules.specs.declared.alone.Taken.{Taken}
+use Rattle.deque_rules.specs.declared.alone.Freed.{Freed}
+use Rattle.numbers.proofs.Numbered.{number_once}
+use Rattle.numbers.specs.Refusals.{number_of}
+use Rattle.numbers.specs.declared.refusals.Refusal.{Refusal}
 
 -- ---- rows give one number
 make_single : (a : State) → Single (make_rows a)
@@ -54,69 +48,84 @@ met rows a b c after t u then s m n =
     (same? m.number 0)
 
 -- ---- what is told determines the answer
-made_told_lem : (r s : Made) → made_told r ≡ made_told s → r ≡ s
-made_told_lem (First x) (First y) e = cc
-made_told_lem (First x) (MadeRefused y) e = let z : ◌≡◌ {A = ℕ} 0 1 = cc in absurd (omega arith)
-made_told_lem (MadeRefused x) (First y) e = let z : ◌≡◌ {A = ℕ} 0 1 = cc in absurd (omega arith)
-made_told_lem (MadeRefused x) (MadeRefused y) e = cc
+why_once : (x y : Refusal) → refused (number_of x) ≡ refused (number_of y) → x ≡ y
+why_once x y e = number_once x y (cc)
 
-pushed_told_lem : (r s : Pushed) → pushed_told r ≡ pushed_told s → r ≡ s
-pushed_told_lem (At x y) (At u w) e = cc
-pushed_told_lem (At x y) (PushedRefused u) e = let z : ◌≡◌ {A = ℕ} 0 1 = cc in absurd (omega arith)
-pushed_told_lem (PushedRefused x) (At u w) e = let z : ◌≡◌ {A = ℕ} 0 1 = cc in absurd (omega arith)
-pushed_told_lem (PushedRefused x) (PushedRefused y) e = cc
+placed_once : (x y : Placed) → x.slot ≡ y.slot → x.free ≡ y.free → x ≡ y
+placed_once x y p q = λ i. record { slot = p i; free = q i }
 
-popped_told_lem : (r s : Popped) → popped_told r ≡ popped_told s → r ≡ s
-popped_told_lem (PoppedNode x y z) (PoppedNode u v w) e = cc
-popped_told_lem (PoppedNode x y z) PoppedNothing e = let q : ◌≡◌ {A = ℕ} 0 1 = cc in absurd (omega arith)
-popped_told_lem (PoppedNode x y z) (PoppedRefused u) e = let q : ◌≡◌ {A = ℕ} 0 1 = cc in absurd (omega arith)
-popped_told_lem PoppedNothing (PoppedNode u v w) e = let q : ◌≡◌ {A = ℕ} 0 1 = cc in absurd (omega arith)
-popped_told_lem PoppedNothing PoppedNothing e = refl
-popped_told_lem PoppedNothing (PoppedRefused u) e = let q : ◌≡◌ {A = ℕ} 0 1 = cc in absurd (omega arith)
-popped_told_lem (PoppedRefused x) (PoppedNode u v w) e = let q : ◌≡◌ {A = ℕ} 0 1 = cc in absurd (omega arith)
-popped_told_lem (PoppedRefused x) PoppedNothing e = let q : ◌≡◌ {A = ℕ} 0 1 = cc in absurd (omega arith)
-popped_told_lem (PoppedRefused x) (PoppedRefused u) e = cc
+node_once : (x y : Node) → x.slot ≡ y.slot → x.element ≡ y.element → x ≡ y
+node_once x y p q = λ i. record { slot = p i; element = q i }
 
-looked_told_lem : (r s : Looked) → looked_told r ≡ looked_told s → r ≡ s
-looked_told_lem (LookedNode x y) (LookedNode u v) e = cc
-looked_told_lem (LookedNode x y) LookedNothing e = let q : ◌≡◌ {A = ℕ} 0 1 = cc in absurd (omega arith)
-looked_told_lem (LookedNode x y) (LookedRefused u) e = let q : ◌≡◌ {A = ℕ} 0 1 = cc in absurd (omega arith)
-looked_told_lem LookedNothing (LookedNode u v) e = let q : ◌≡◌ {A = ℕ} 0 1 = cc in absurd (omega arith)
-looked_told_lem LookedNothing LookedNothing e = refl
-looked_told_lem LookedNothing (LookedRefused u) e = let q : ◌≡◌ {A = ℕ} 0 1 = cc in absurd (omega arith)
-looked_told_lem (LookedRefused x) (LookedNode u v) e = let q : ◌≡◌ {A = ℕ} 0 1 = cc in absurd (omega arith)
-looked_told_lem (LookedRefused x) LookedNothing e = let q : ◌≡◌ {A = ℕ} 0 1 = cc in absurd (omega arith)
-looked_told_lem (LookedRefused x) (LookedRefused u) e = cc
+taken_once : (x y : Taken) → x.slot ≡ y.slot → x.element ≡ y.element → x.free ≡ y.free → x ≡ y
+taken_once x y p q r = λ i. record { slot = p i; element = q i; free = r i }
 
-dropped_told_lem : (r s : Dropped) → dropped_told r ≡ dropped_told s → r ≡ s
-dropped_told_lem (Element x y) (Element u w) e = cc
-dropped_told_lem (Element x y) (DroppedRefused u) e = let z : ◌≡◌ {A = ℕ} 0 1 = cc in absurd (omega arith)
-dropped_told_lem (DroppedRefused x) (Element u w) e = let z : ◌≡◌ {A = ℕ} 0 1 = cc in absurd (omega arith)
-dropped_told_lem (DroppedRefused x) (DroppedRefused y) e = cc
+freed_once : (x y : Freed) → x.element ≡ y.element → x.free ≡ y.free → x ≡ y
+freed_once x y p q = λ i. record { element = p i; free = q i }
 
-counted_told : (r s : Measured) → measured_told r ≡ measured_told s → r ≡ s
-counted_told (Length x) (Length y) e = cc
-counted_told (Length x) (MeasuredRefused y) e = let z : ◌≡◌ {A = ℕ} 0 1 = cc in absurd (omega arith)
-counted_told (MeasuredRefused x) (Length y) e = let z : ◌≡◌ {A = ℕ} 0 1 = cc in absurd (omega arith)
-counted_told (MeasuredRefused x) (MeasuredRefused y) e = cc
+made_once : (r s : Made) → made_told r ≡ made_told s → r ≡ s
+made_once (Ok x) (Ok y) e = cc
+made_once (Ok x) (Err y) e = cc
+made_once (Err x) (Ok y) e = cc
+made_once (Err x) (Err y) e = ap Err (why_once x y e)
 
-done_told_lem : (r s : Done) → done_told r ≡ done_told s → r ≡ s
-done_told_lem Did Did e = refl
-done_told_lem Did (DoneRefused y) e = let z : ◌≡◌ {A = ℕ} 0 1 = cc in absurd (omega arith)
-done_told_lem (DoneRefused x) Did e = let z : ◌≡◌ {A = ℕ} 0 1 = cc in absurd (omega arith)
-done_told_lem (DoneRefused x) (DoneRefused y) e = cc
+pushed_once : (r s : Pushed) → pushed_told r ≡ pushed_told s → r ≡ s
+pushed_once (Ok x) (Ok y) e = ap Ok (placed_once x y (cc) (cc))
+pushed_once (Ok x) (Err y) e = cc
+pushed_once (Err x) (Ok y) e = cc
+pushed_once (Err x) (Err y) e = ap Err (why_once x y e)
+
+popped_once : (r s : Popped) → popped_told r ≡ popped_told s → r ≡ s
+popped_once (Ok (Some x)) (Ok (Some y)) e = ap (λ (z : Taken). Ok (Some z)) (taken_once x y (cc) (cc) (cc))
+popped_once (Ok (Some x)) (Ok None) e = cc
+popped_once (Ok (Some x)) (Err y) e = cc
+popped_once (Ok None) (Ok (Some y)) e = cc
+popped_once (Ok None) (Ok None) e = refl
+popped_once (Ok None) (Err y) e = cc
+popped_once (Err x) (Ok (Some y)) e = cc
+popped_once (Err x) (Ok None) e = cc
+popped_once (Err x) (Err y) e = ap Err (why_once x y e)
+
+looked_once : (r s : Looked) → looked_told r ≡ looked_told s → r ≡ s
+looked_once (Ok (Some x)) (Ok (Some y)) e = ap (λ (z : Node). Ok (Some z)) (node_once x y (cc) (cc))
+looked_once (Ok (Some x)) (Ok None) e = cc
+looked_once (Ok (Some x)) (Err y) e = cc
+looked_once (Ok None) (Ok (Some y)) e = cc
+looked_once (Ok None) (Ok None) e = refl
+looked_once (Ok None) (Err y) e = cc
+looked_once (Err x) (Ok (Some y)) e = cc
+looked_once (Err x) (Ok None) e = cc
+looked_once (Err x) (Err y) e = ap Err (why_once x y e)
+
+dropped_once : (r s : Dropped) → dropped_told r ≡ dropped_told s → r ≡ s
+dropped_once (Ok x) (Ok y) e = ap Ok (freed_once x y (cc) (cc))
+dropped_once (Ok x) (Err y) e = cc
+dropped_once (Err x) (Ok y) e = cc
+dropped_once (Err x) (Err y) e = ap Err (why_once x y e)
+
+measured_once : (r s : Measured) → measured_told r ≡ measured_told s → r ≡ s
+measured_once (Ok x) (Ok y) e = cc
+measured_once (Ok x) (Err y) e = cc
+measured_once (Err x) (Ok y) e = cc
+measured_once (Err x) (Err y) e = ap Err (why_once x y e)
+
+done_once : (r s : Done) → done_told r ≡ done_told s → r ≡ s
+done_once (Ok x) (Ok y) e = refl
+done_once (Ok x) (Err y) e = cc
+done_once (Err x) (Ok y) e = cc
+done_once (Err x) (Err y) e = ap Err (why_once x y e)
 
 told_only : (c : Call) (r s : AnswerOf c) → told c r ≡ told c s → r ≡ s
-told_only make r s e = made_told_lem r s e
-told_only (push_back d x) r s e = pushed_told_lem r s e
-told_only (pop_front d) r s e = popped_told_lem r s e
-told_only (look_front d) r s e = looked_told_lem r s e
-told_only (look_back d) r s e = looked_told_lem r s e
-told_only (move_to_back d x) r s e = done_told_lem r s e
-told_only (unlink_and_drop d x) r s e = dropped_told_lem r s e
-told_only (length_of d) r s e = counted_told r s e
-told_only (next_by_cursor d) r s e = looked_told_lem r s e
-told_only (reset_cursor d) r s e = done_told_lem r s e
+told_only make r s e = made_once r s e
+told_only (push_back d x) r s e = pushed_once r s e
+told_only (pop_front d) r s e = popped_once r s e
+told_only (look_front d) r s e = looked_once r s e
+told_only (look_back d) r s e = looked_once r s e
+told_only (move_to_back d x) r s e = done_once r s e
+told_only (unlink_and_drop d x) r s e = dropped_once r s e
+told_only (length_of d) r s e = measured_once r s e
+told_only (next_by_cursor d) r s e = looked_once r s e
+told_only (reset_cursor d) r s e = done_once r s e
 
 -- ---- the calls
 promise_only : (c : Call) (a : State) (free : ℕ) (b z : State) (t u : Told) → Promise c a free b t → Promise c a free z u → (t ≡ u) × (b ≡ z)

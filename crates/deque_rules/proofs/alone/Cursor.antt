@@ -14,13 +14,11 @@ use Rattle.deque_rules.specs.Links.{first, Deques as Lists, deq}
 use Rattle.numbers.specs.Shared.{no_slot as none, In, past_end}
 use Rattle.deque_rules.proofs.Laws.{head_is, tail_is, next_is}
 use Rattle.deque_rules.specs.Deque.{State, back_of, element_of, moved_on, cursor_node, with_cursor, stepped, step_off, released, moved_back, DequeAnswer as Told, nothing}
-use Rattle.deque_rules.specs.Deque.{values, looked_told, measured_told, look_told, next_told, deque_rows, Meets, look_front, look_back, length_of}
+use Rattle.deque_rules.specs.Deque.{Looked, Measured, values, looked_told, measured_told, look_told, next_told, deque_rows, Meets, look_front, look_back, length_of}
 use Rattle.deque_rules.specs.Deque.{next_by_cursor, DequePromised as Promised}
 use Rattle.deque_rules.specs.alone.State.{Shows}
 use Rattle.deque_rules.specs.alone.Step.{cursor_of}
 use Rattle.deque_rules.specs.alone.History.{move_on}
-use Rattle.deque_rules.specs.declared.alone.Looked.{Looked}
-use Rattle.deque_rules.specs.declared.alone.Measured.{Measured}
 use Rattle.deque_rules.proofs.alone.Sounding.{shows_sound}
 use Rattle.deque_rules.proofs.alone.Keeping.{in-cursors, stepped_shows}
 

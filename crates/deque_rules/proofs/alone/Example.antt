@@ -9,9 +9,8 @@ use Rattle.numbers.specs.Shared.{no_slot as none}
 use Rattle.deque_rules.specs.Links.{fresh, link_back, cut_out, removed, hand_back}
 use Rattle.deque_rules.specs.Deque.{State, state, Lent, Sound, make, push_back, pop_front, DequePromised as Promised, Event, event, DequeLeads as Leads}
 use Rattle.deque_rules.specs.Deque.{done, then}
-use Rattle.deque_rules.specs.declared.alone.Made.TheVariants.{First}
-use Rattle.deque_rules.specs.declared.alone.Pushed.TheVariants.{At, Refused as PushedRefused}
-use Rattle.deque_rules.specs.declared.alone.Popped.TheVariants.{Node, Refused as PoppedRefused}
+use Rattle.std.specs.Prelude.{Ok, Err, Some}
+use Rattle.numbers.specs.declared.refusals.Refusal.TheVariants as why
 use Rattle.deque_rules.proofs.alone.Meeting.{no, yes_by}
 use Rattle.deque_rules.proofs.alone.Kept.{make_sound, keeps}
 
@@ -30,7 +29,7 @@ one = state (0 ∷ []) (0 ∷ []) (1 ∷ []) (none ∷ []) (none ∷ none ∷ []
 not_sound : Sound found 9 → ⊥
 not_sound s = ⊎_elim (λ h. omega (arith, h)) (λ e. omega (arith, e)) (s.nodes 0 (omega arith))
 
-pop_before : Promised (pop_front 0) found 9 found (PoppedRefused 4)
+pop_before : Promised (pop_front 0) found 9 found (Err why.NotSound)
 pop_before = record { meets = no _ found _ _ 4 (inl (not_sound, refl)) (λ i. omega (arith, i)) }
 
 lent : Lent found
@@ -40,37 +39,37 @@ lent =
       nodes = record { some = omega arith; small = omega arith; prev_len = refl; home_len = refl; elements_len = refl };
     }
 
-makes : Promised make found 9 empty (First 0)
+makes : Promised make found 9 empty (Ok 0)
 unfolding fresh
 makes = record { meets = yes_by _ found empty _ _ _ 0 (inr (lent, refl)) refl refl refl }
 
 empty_sound : Sound empty 0
 empty_sound = make_sound found empty 9 0 makes
 
-push_7 : Promised (push_back 0 7) empty 0 one (At 0 1)
+push_7 : Promised (push_back 0 7) empty 0 one (Ok (record { slot = 0; free = 1 }))
 unfolding link_back
 push_7 = record { meets = yes_by _ empty one _ _ _ 0 (inr (empty_sound, inr ((λ i. omega (arith, i)), inr (omega arith, refl)))) refl refl refl }
 
 one_sound : Sound one 1
-one_sound = keeps (push_back 0 7) empty 0 one (At 0 1) empty_sound push_7
+one_sound = keeps (push_back 0 7) empty 0 one (Ok (record { slot = 0; free = 1 })) empty_sound push_7
 
-push_elsewhere : Promised (push_back 3 7) one 1 one (PushedRefused 16)
+push_elsewhere : Promised (push_back 3 7) one 1 one (Err why.NoSuchDeque)
 push_elsewhere = record {
   meets = no _ one _ _ 16 (inr (one_sound, inr ((λ i. omega (arith, i)), inl ((λ h. omega (arith, h)), refl)))) (λ i. omega (arith, i));
 }
 
-pop_7 : Promised (pop_front 0) one 1 empty (Node 0 7 0)
+pop_7 : Promised (pop_front 0) one 1 empty (Ok (Some (record { slot = 0; element = 7; free = 0 })))
 unfolding removed cut_out hand_back
 pop_7 = record { meets = yes_by _ one empty _ _ _ 0 (inr (one_sound, inr (omega arith, refl))) refl refl refl }
 
 -- ---- the history
 abbrev events : List Event
 events =
-    event (pop_front 0) (PoppedRefused 4)
-    ∷ event make (First 0)
-    ∷ event (push_back 0 7) (At 0 1)
-    ∷ event (push_back 3 7) (PushedRefused 16)
-    ∷ event (pop_front 0) (Node 0 7 0)
+    event (pop_front 0) (Err why.NotSound)
+    ∷ event make (Ok 0)
+    ∷ event (push_back 0 7) (Ok (record { slot = 0; free = 1 }))
+    ∷ event (push_back 3 7) (Err why.NoSuchDeque)
+    ∷ event (pop_front 0) (Ok (Some (record { slot = 0; element = 7; free = 0 })))
     ∷ []
 
 pub example : Leads found 9 events empty 0

@@ -4,7 +4,7 @@ use Prim.Native.Nat.{ℕ}
 use mathlib.Core.Path.{◌≡◌}
 use mathlib.Core.List.{List, [], ◌∷◌, ◌++◌}
 use Rattle.deque_rules.specs.Deque.{State, Sound, refused, DequeCall as Call, make, AnswerOf, told, Event, event, DequeLeads as Leads, done, then}
-use Rattle.deque_rules.specs.declared.alone.Made.TheVariants.{First}
+use Rattle.std.specs.Prelude.{Ok}
 use Rattle.deque_rules.proofs.alone.Kept.{make_sound, keeps, not_four}
 
 -- calls on sound records leave sound records
@@ -26,17 +26,17 @@ between (x ∷ xs) ys (then m l) =
     record { records = u.records; first_free = u.first_free; first = then m u.first; second = u.second }
 
 -- whatever was called before the make, refused or not, and whatever is called after it, another make too
-pub always_sound : {a z : State} {free last : ℕ} (xs : List Event) (f : ℕ) (ys : List Event) → Leads a free (xs ++ (event make (First f) ∷ ys)) z last → Sound z last
-always_sound xs f ys l = from_make (between xs (event make (First f) ∷ ys) l).second
+pub always_sound : {a z : State} {free last : ℕ} (xs : List Event) (f : ℕ) (ys : List Event) → Leads a free (xs ++ (event make (Ok f) ∷ ys)) z last → Sound z last
+always_sound xs f ys l = from_make (between xs (event make (Ok f) ∷ ys) l).second
   where
-    from_make : {a z : State} {free last f : ℕ} {es : List Event} → Leads a free (event make (First f) ∷ es) z last → Sound z last
+    from_make : {a z : State} {free last f : ℕ} {es : List Event} → Leads a free (event make (Ok f) ∷ es) z last → Sound z last
     from_make (then m l) = stays_sound l (make_sound _ _ _ _ m)
 
 -- no call after it is refused 4
 pub never_four : {a z : State} {free last : ℕ} (xs : List Event) (f : ℕ) (ys : List Event) (c : Call) (r : AnswerOf c) (zs : List Event)
-    → Leads a free ((xs ++ (event make (First f) ∷ ys)) ++ (event c r ∷ zs)) z last → told c r ≡ refused 4 → ⊥
+    → Leads a free ((xs ++ (event make (Ok f) ∷ ys)) ++ (event c r ∷ zs)) z last → told c r ≡ refused 4 → ⊥
 never_four xs f ys c r zs l =
-    let u = between (xs ++ (event make (First f) ∷ ys)) (event c r ∷ zs) l in
+    let u = between (xs ++ (event make (Ok f) ∷ ys)) (event c r ∷ zs) l in
     at_once u.second (always_sound xs f ys u.first)
   where
     at_once : {a z : State} {free last : ℕ} {c : Call} {r : AnswerOf c} {es : List Event} → Leads a free (event c r ∷ es) z last → Sound a free

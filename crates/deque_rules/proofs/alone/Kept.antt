@@ -7,25 +7,16 @@ use Rattle.deque_rules.specs.Links.{Deques as Lists, listed}
 use Rattle.numbers.proofs.Cases.{same?}
 use Rattle.deque_rules.specs.Deque.{State, Sound, front_of, back_of, DequeAnswer as Told, refused, deque_rows, Meets, DequeCall as Call, make, push_back, pop_front}
 use Rattle.deque_rules.specs.Deque.{look_front, look_back, move_to_back, unlink_and_drop, length_of, next_by_cursor, reset_cursor, AnswerOf, told}
-use Rattle.deque_rules.specs.Deque.{DequePromised as Promised, made_free, pushed_free, popped_free, dropped_free, free_then}
+use Rattle.deque_rules.specs.Deque.{Made, Pushed, Popped, Dropped, Done, DequePromised as Promised, made_free, pushed_free, popped_free, dropped_free, free_then}
 use Rattle.deque_rules.specs.alone.State.{Shows}
-use Rattle.deque_rules.specs.declared.alone.Made.{Made}
-use Rattle.deque_rules.specs.declared.alone.Made.TheVariants.{First, Refused as MadeRefused}
-use Rattle.deque_rules.specs.declared.alone.Pushed.{Pushed}
-use Rattle.deque_rules.specs.declared.alone.Pushed.TheVariants.{At, Refused as PushedRefused}
-use Rattle.deque_rules.specs.declared.alone.Popped.{Popped}
-use Rattle.deque_rules.specs.declared.alone.Popped.TheVariants.{Node as PoppedNode, Nothing as PoppedNothing, Refused as PoppedRefused}
-use Rattle.deque_rules.specs.declared.alone.Dropped.{Dropped}
-use Rattle.deque_rules.specs.declared.alone.Dropped.TheVariants.{Element, Refused as DroppedRefused}
-use Rattle.deque_rules.specs.declared.alone.Done.{Done}
-use Rattle.deque_rules.specs.declared.alone.Done.TheVariants.{Done as Did, Refused as DoneRefused}
+use Rattle.std.specs.Prelude.{Ok, Err, Some, None}
 use Rattle.deque_rules.proofs.alone.Sounding.{shows_sound, sound_shows}
 use Rattle.deque_rules.proofs.alone.Refusing.{deque_ready}
 use Rattle.deque_rules.proofs.alone.Keeping.{stepped_shows, reset_shows}
 use Rattle.deque_rules.proofs.alone.Laws.{make_not_4, deque_not_4, push_not_4, node_not_4, no_4, left_alone, not_values, pop_refused, look_refused}
 use Rattle.deque_rules.proofs.alone.Laws.{next_refused, make_lists, push_lists, pop_lists, pop_empty, drop_lists, move_lists}
 
-pub make_sound : (a b : State) (free f : ℕ) → Promised make a free b (First f) → Sound b f
+pub make_sound : (a b : State) (free f : ℕ) → Promised make a free b (Ok f) → Sound b f
 make_sound a b free f m = shows_sound b f _ (make_lists a b free f m).0
 
 module _ (a b : State) (free : ℕ) (s : Sound a free) where
@@ -39,26 +30,28 @@ module _ (a b : State) (free : ℕ) (s : Sound a free) where
   same e = rw e s
 
   make_keeps : (r : Made) → Promised make a free b r → Sound b (made_free r free)
-  make_keeps (First f) m = make_sound a b free f m
-  make_keeps (MadeRefused k) m = same (left_alone _ a b _ k _ m.meets (not_values _ k))
+  make_keeps (Ok f) m = make_sound a b free f m
+  make_keeps (Err why) m = same (left_alone _ a b _ _ _ m.meets (not_values _ _))
 
   module _ (d : ℕ) where
     push_keeps : (e : ℕ) (r : Pushed) → Promised (push_back d e) a free b r → Sound b (pushed_free r free)
-    push_keeps e (At x f) m = shows_sound b f _ (push_lists a b free v t d e x f m).2
-    push_keeps e (PushedRefused k) m = same (left_alone _ a b _ k _ m.meets (not_values _ k))
+    push_keeps e (Ok x) m = shows_sound b x.free _ (push_lists a b free v t d e x.slot x.free m).2
+    push_keeps e (Err why) m = same (left_alone _ a b _ _ _ m.meets (not_values _ _))
 
     pop_keeps : (r : Popped) → Promised (pop_front d) a free b r → Sound b (popped_free r free)
-    pop_keeps (PoppedNode x e f) m = let u = pop_lists a b free v t d x e f m in subst (λ (y : ℕ). Sound b y) (sym u.2) (shows_sound b x _ u.3)
-    pop_keeps PoppedNothing m = same (pop_empty a b free v t d m).1
-    pop_keeps (PoppedRefused k) m = same (left_alone _ a b _ k _ m.meets (pop_refused a d k))
+    pop_keeps (Ok (Some x)) m =
+        let u = pop_lists a b free v t d x.slot x.element x.free m in subst (λ (y : ℕ). Sound b y) (sym u.2) (shows_sound b x.slot _ u.3)
+    pop_keeps (Ok None) m = same (pop_empty a b free v t d m).1
+    pop_keeps (Err why) m = same (left_alone _ a b _ _ _ m.meets (pop_refused a d _))
 
     drop_keeps : (x : ℕ) (r : Dropped) → Promised (unlink_and_drop d x) a free b r → Sound b (dropped_free r free)
-    drop_keeps x (Element e f) m = let u = drop_lists a b free v t d x e f m in subst (λ (y : ℕ). Sound b y) (sym u.2) (shows_sound b x _ u.3)
-    drop_keeps x (DroppedRefused k) m = same (left_alone _ a b _ k _ m.meets (not_values _ k))
+    drop_keeps x (Ok y) m =
+        let u = drop_lists a b free v t d x y.element y.free m in subst (λ (z : ℕ). Sound b z) (sym u.2) (shows_sound b x _ u.3)
+    drop_keeps x (Err why) m = same (left_alone _ a b _ _ _ m.meets (not_values _ _))
 
     move_keeps : (x : ℕ) (r : Done) → Promised (move_to_back d x) a free b r → Sound b free
-    move_keeps x Did m = shows_sound b free _ (move_lists a b free v t d x m).1
-    move_keeps x (DoneRefused k) m = same (left_alone _ a b _ k _ m.meets (not_values _ k))
+    move_keeps x (Ok u) m = shows_sound b free _ (move_lists a b free v t d x m).1
+    move_keeps x (Err why) m = same (left_alone _ a b _ _ _ m.meets (not_values _ _))
 
     -- the calls by deque that hand on no first free node: it is enough that what they leave where they are not refused
     -- stands for lists
@@ -67,7 +60,7 @@ module _ (a b : State) (free : ℕ) (s : Sound a free) where
     by_deque after answer then f m =
         ⊎_elim
         (λ (z : m.number ≡ 0).
-        let y = deque_ready a free d m.number z (record { by = m.by }) in
+        let y = deque_ready a free d (record { by = subst (deque_rows a free d) z m.by }) in
         rw (m.result z).1 (shows_sound _ free _ (f y.v y.shows y.deque)))
         (λ (z : m.number ≡ 0 → ⊥). same (m.refusal z).1)
         (same? m.number 0)

@@ -19,11 +19,7 @@ use Rattle.deque_rules.specs.Deque.{DequeAnswer as Told, refused, nothing, value
 use Rattle.deque_rules.specs.Deque.{pop_front, move_to_back, unlink_and_drop, DequePromised as Promised, push_back as pushCall}
 use Rattle.deque_rules.specs.alone.State.{Shows}
 use Rattle.deque_rules.specs.alone.Work.{to_back}
-use Rattle.deque_rules.specs.declared.alone.Made.TheVariants.{First}
-use Rattle.deque_rules.specs.declared.alone.Pushed.TheVariants.{At}
-use Rattle.deque_rules.specs.declared.alone.Popped.TheVariants.{Node as PoppedNode, Nothing as PoppedNothing}
-use Rattle.deque_rules.specs.declared.alone.Dropped.TheVariants.{Element}
-use Rattle.deque_rules.specs.declared.alone.Done.TheVariants.{Done as Did}
+use Rattle.std.specs.Prelude.{Ok, Some, None}
 use Rattle.deque_rules.proofs.alone.Refusing.{deque_ready, push_ready, node_ready}
 use Rattle.deque_rules.proofs.alone.Keeping.{made_shows}
 use Rattle.deque_rules.proofs.alone.Relinking.{pushed_shows, released_shows, moved_shows}
@@ -58,11 +54,11 @@ no_4 rows a b after t then m n q e =
     same j k i = cc
 
 -- ---- a result that tells values was no refusal, and what a refusal leaves
-by_0 : (rows : ℕ → Type 0) (a b after : State) (t then : Told) → Meets rows a b t after then → ((k : ℕ) → t ≡ refused k → ⊥) → (number : ℕ) × rows number ×
-    (number ≡ 0) × (t ≡ then) × (b ≡ after)
+by_0 : (rows : ℕ → Type 0) (a b after : State) (t then : Told) → Meets rows a b t after then → ((k : ℕ) → t ≡ refused k → ⊥) → rows 0 × (t ≡ then) ×
+    (b ≡ after)
 by_0 rows a b after t then m n =
     ⊎_elim
-    (λ (z : m.number ≡ 0). (m.number, m.by, z, (m.result z).0, (m.result z).1))
+    (λ (z : m.number ≡ 0). (subst rows z m.by, (m.result z).0, (m.result z).1))
     (λ (z : m.number ≡ 0 → ⊥). absurd (n m.number (m.refusal z).0))
     (same? m.number 0)
 
@@ -105,12 +101,12 @@ next_refused a d k e =
     (same? (cursor_node a d) past_end)
 
 -- ---- make: all deques empty, all nodes free in ascending order from 0, sound
-pub make_lists : (a b : State) (free f : ℕ) → Promised make a free b (First f) → Shows b f (all_free (deques a) (nodes a)) × (f ≡ first (up_from (nodes a) 0))
+pub make_lists : (a b : State) (free f : ℕ) → Promised make a free b (Ok f) → Shows b f (all_free (deques a) (nodes a)) × (f ≡ first (up_from (nodes a) 0))
 make_lists a b free f m =
     let u = by_0 _ a b _ _ _ m.meets (not_refused_lem (f ∷ [])) in
-    let z : Lent a = ⊎_elim (λ w. absurd (omega (arith, w.1, u.2))) (λ w. w.0) u.1 in
-    let i : f ≡ first (up_from (nodes a) 0) = one f (first (up_from (nodes a) 0)) u.3 in
-    (subst (λ (y : ℕ). Shows b y (all_free (deques a) (nodes a))) (sym i) (rw u.4 (made_shows a z)), i)
+    let z : Lent a = ⊎_elim (λ w. absurd (omega (arith, w.1))) (λ w. w.0) u.0 in
+    let i : f ≡ first (up_from (nodes a) 0) = one f (first (up_from (nodes a) 0)) u.1 in
+    (subst (λ (y : ℕ). Shows b y (all_free (deques a) (nodes a))) (sym i) (rw u.2 (made_shows a z)), i)
   where
     one : (x y : ℕ) → values (x ∷ []) ≡ values (y ∷ []) → x ≡ y
     one x y e = cc
@@ -124,33 +120,33 @@ module _ (a b : State) (free : ℕ) (v : Lists) (s : Shows a free v) (d : ℕ) w
   count_of w t h = omega (arith, h, t.rep.heads_len, s.rep.heads_len)
 
   -- push back: the first free node, with the element, is the last of its deque
-  pub push_lists : (e x f : ℕ) → Promised (pushCall d e) a free b (At x f) → (v.free ≡ x ∷ rest v.free) × (element_of b x ≡ e) × Shows b f (push_back d x (taken v))
+  pub push_lists : (e x f : ℕ) → Promised (pushCall d e) a free b (Ok (record { slot = x; free = f })) → (v.free ≡ x ∷ rest v.free) × (element_of b x ≡ e) × Shows b f (push_back d x (taken v))
   push_lists e x f m =
       let u = by_0 _ a b _ _ _ m.meets (not_refused_lem (x ∷ f ∷ [])) in
-      let y = push_ready a free d u.0 u.2 (record { by = u.1 }) in
-      let p = two x f free (next_of a free) u.3 in
+      let y = push_ready a free d (record { by = u.0 }) in
+      let p = two x f free (next_of a free) u.1 in
       let l : free < v.slots = slot_of y.v y.shows free y.slot in
       let q = pushed_shows a free v s d e l (count_of y.v y.shows y.deque) in (
         some_first v.free x (s.free_is ∙ sym p.0) (λ i. omega (arith, i, p.0, l, s.rep.small)),
-        rw (u.4, p.0) (get_or-set_same a.elements free e 0 (omega (arith, l, s.rep.next_len, s.lent.nodes.elements_len))),
-        rw (u.4, p.0, p.1) q,
+        rw (u.2, p.0) (get_or-set_same a.elements free e 0 (omega (arith, l, s.rep.next_len, s.lent.nodes.elements_len))),
+        rw (u.2, p.0, p.1) q,
       )
     where
       two : (x y z w : ℕ) → values (x ∷ y ∷ []) ≡ values (z ∷ w ∷ []) → (x ≡ z) × (y ≡ w)
       two x y z w e = (cc, cc)
 
   -- pop front: the first of the deque leaves it and is the next node to be taken; where there is none nothing happens
-  pub pop_lists : (x e f : ℕ) → Promised (pop_front d) a free b (PoppedNode x e f) → (deq v d ≡ x ∷ rest (deq v d)) × (e ≡ element_of a x) × (f ≡ x) × Shows b x
+  pub pop_lists : (x e f : ℕ) → Promised (pop_front d) a free b (Ok (Some (record { slot = x; element = e; free = f }))) → (deq v d ≡ x ∷ rest (deq v d)) × (e ≡ element_of a x) × (f ≡ x) × Shows b x
       (freed x (with_deque d (rest (deq v d)) v))
   pop_lists x e f m =
       let u = by_0 _ a b _ _ _ m.meets (not_refused_lem (x ∷ e ∷ f ∷ [])) in
-      let y = deque_ready a free d u.0 u.2 (record { by = u.1 }) in
+      let y = deque_ready a free d (record { by = u.0 }) in
       let h : d < v.count = count_of y.v y.shows y.deque in
       ⊎_elim
-      (λ (i : front_of a d ≡ none). absurd (nothing_values _ (sym (simp (eq-eqb (front_of a d) none i) at u.3))))
+      (λ (i : front_of a d ≡ none). absurd (nothing_values _ (sym (simp (eq-eqb (front_of a d) none i) at u.1))))
       (λ (n : front_of a d ≡ none → ⊥).
-      let p = three x e f (front_of a d) (element_of a (front_of a d)) (simp (ne_eqb (front_of a d) none n) at u.3) in
-      let r : b ≡ released a free d (front_of a d) = u.4 ∙ simp (ne_eqb (front_of a d) none n) in
+      let p = three x e f (front_of a d) (element_of a (front_of a d)) (simp (ne_eqb (front_of a d) none n) at u.1) in
+      let r : b ≡ released a free d (front_of a d) = u.2 ∙ simp (ne_eqb (front_of a d) none n) in
       let k : deq v d ≡ x ∷ rest (deq v d) = some_first (deq v d) x (sym (head_is a.links v [] s.rep d h) ∙ sym p.0) (λ i. n (sym p.0 ∙ i)) in
       let w = s.rep.member d x h (in-same x (sym k) (inl refl)) in
       let q : Shows (released a free d x) x (freed x (take_out d x v)) = released_shows a free v s d x w.0 h w.1 in
@@ -166,18 +162,18 @@ module _ (a b : State) (free : ℕ) (v : Lists) (s : Shows a free v) (d : ℕ) w
       three : (x y z u w : ℕ) → values (x ∷ y ∷ z ∷ []) ≡ values (u ∷ w ∷ u ∷ []) → (x ≡ u) × (y ≡ w) × (z ≡ u)
       three x y z u w e = (cc, cc, cc)
 
-  pub pop_empty : Promised (pop_front d) a free b PoppedNothing → (deq v d ≡ []) × (b ≡ a)
+  pub pop_empty : Promised (pop_front d) a free b (Ok None) → (deq v d ≡ []) × (b ≡ a)
   pop_empty m =
       let u = by_0 _ a b _ _ _ m.meets nothing_refused in
-      let y = deque_ready a free d u.0 u.2 (record { by = u.1 }) in
+      let y = deque_ready a free d (record { by = u.0 }) in
       let h : d < v.count = count_of y.v y.shows y.deque in
       ⊎_elim
       (λ (i : front_of a d ≡ none). (
         no_first (deq v d) (slot_real a.links v [] s.rep d h) (sym (head_is a.links v [] s.rep d h) ∙ i),
-        u.4 ∙ simp
+        u.2 ∙ simp
             (eq-eqb (front_of a d) none i),
       ))
-      (λ (n : front_of a d ≡ none → ⊥). absurd (nothing_values _ (simp (ne_eqb (front_of a d) none n) at u.3)))
+      (λ (n : front_of a d ≡ none → ⊥). absurd (nothing_values _ (simp (ne_eqb (front_of a d) none n) at u.1)))
       (same? (front_of a d) none)
     where
       no_first : (xs : List ℕ) → ((x : ℕ) → In x xs → x ≡ none → ⊥) → first xs ≡ none → xs ≡ []
@@ -185,23 +181,23 @@ module _ (a b : State) (free : ℕ) (v : Lists) (s : Shows a free v) (d : ℕ) w
       no_first (x ∷ xs) p i = absurd (p x (inl refl) i)
 
   -- unlink and drop: the node leaves its deque and is the next to be taken
-  pub drop_lists : (x e f : ℕ) → Promised (unlink_and_drop d x) a free b (Element e f) → In x (deq v d) × (e ≡ element_of a x) × (f ≡ x) × Shows b x (freed x (take_out d x v))
+  pub drop_lists : (x e f : ℕ) → Promised (unlink_and_drop d x) a free b (Ok (record { element = e; free = f })) → In x (deq v d) × (e ≡ element_of a x) × (f ≡ x) × Shows b x (freed x (take_out d x v))
   drop_lists x e f m =
       let u = by_0 _ a b _ _ _ m.meets (not_refused_lem (e ∷ f ∷ [])) in
-      let y = node_ready a free d u.0 u.2 x (record { by = u.1 }) in
+      let y = node_ready a free d x (record { by = u.0 }) in
       let h : d < v.count = count_of y.v y.shows y.deque in
       let l : x < v.slots = slot_of y.v y.shows x y.slot in
-      let p = two e f (element_of a x) x u.3 in
-      (in-home a.links v [] s.rep x d l h y.homed, p.0, p.1, rw u.4 (released_shows a free v s d x l h y.homed))
+      let p = two e f (element_of a x) x u.1 in
+      (in-home a.links v [] s.rep x d l h y.homed, p.0, p.1, rw u.2 (released_shows a free v s d x l h y.homed))
     where
       two : (x y z w : ℕ) → values (x ∷ y ∷ []) ≡ values (z ∷ w ∷ []) → (x ≡ z) × (y ≡ w)
       two x y z w e = (cc, cc)
 
   -- move to back: the node is the last of its deque, the others in their order
-  pub move_lists : (x : ℕ) → Promised (move_to_back d x) a free b Did → In x (deq v d) × Shows b free (to_back d x v)
+  pub move_lists : (x : ℕ) → Promised (move_to_back d x) a free b (Ok tt) → In x (deq v d) × Shows b free (to_back d x v)
   move_lists x m =
       let u = by_0 _ a b _ _ _ m.meets (not_refused_lem []) in
-      let y = node_ready a free d u.0 u.2 x (record { by = u.1 }) in
+      let y = node_ready a free d x (record { by = u.0 }) in
       let h : d < v.count = count_of y.v y.shows y.deque in
       let l : x < v.slots = slot_of y.v y.shows x y.slot in
-      (in-home a.links v [] s.rep x d l h y.homed, rw u.4 (moved_shows a free v s d x l h y.homed))
+      (in-home a.links v [] s.rep x d l h y.homed, rw u.2 (moved_shows a free v s d x l h y.homed))

@@ -10,11 +10,12 @@ use lib.Dec.{eqb}
 use borrow.Author.Tests.{eq-eqb, ne_eqb}
 use Rattle.numbers.specs.Shared.{no_slot as none, In, past_end}
 use Rattle.deque_rules.specs.Links.{deq}
-use Rattle.numbers.proofs.Cases.{same?}
-use Rattle.deque_rules.specs.Deque.{State, state, moved_on, cursor_node, with_cursor, nothing, values, look_told}
+use Rattle.numbers.proofs.Cases.{below?, same?}
+use Rattle.deque_rules.specs.Deque.{State, state, moved_on, cursor_node, with_cursor, nothing, values, look_told, looked_told}
 use Rattle.deque_rules.specs.alone.Ready.{DequeReady}
-use Rattle.deque_rules.specs.alone.Work.{LooksFront, LooksBack, Steps}
-use Rattle.deque_rules.specs.declared.alone.Looked.TheVariants.{Node as LookedNode, Nothing as LookedNothing}
+use Rattle.deque_rules.specs.alone.Work.{ReadsNode, LooksFront, LooksBack, Steps}
+use Rattle.std.specs.Prelude.{Ok, Option, Some, None}
+use Rattle.deque_rules.specs.declared.alone.Node.{Node}
 use Rattle.deque_rules.proofs.alone.Keeping.{front_in, back_in, start_stands}
 
 module _ (h t l c n p o e : List ℕ) (free d : ℕ) where
@@ -41,21 +42,23 @@ module _ (h t l c n p o e : List ℕ) (free d : ℕ) where
     real x i k = omega (arith, i, k, y.shows.rep.next_len, y.shows.rep.small)
 
     -- ---- looks
-    pub front_empty : length n ≤ get_or h d 0 → LooksFront (state h t l c n p o e) d LookedNothing
-    front_empty i = record { told = simp (eq-eqb (get_or h d 0) none (head_none i)) }
+    -- what is read at a place that is none, or a node
+    looks_at : (x : ℕ) (r : Option Node) → (length n ≤ x → x ≡ none) → ReadsNode e x r → looked_told (Ok r) ≡ look_told a x
+    looks_at x r f k =
+        ⊎_elim
+        (λ (i : x < length n). rw (k.node (omega (arith, i, y.shows.lent.nodes.elements_len))) (simp (ne_eqb x none (real x i))))
+        (λ (i : length n ≤ x). rw (k.none (omega (arith, i, y.shows.lent.nodes.elements_len))) (simp (eq-eqb x none (f i))))
+        (below? x (length n))
 
-    pub front_does : get_or h d 0 < length n → LooksFront (state h t l c n p o e) d (LookedNode (get_or h d 0) (get_or e (get_or h d 0) 0))
-    front_does i = record { told = simp (ne_eqb (get_or h d 0) none (real (get_or h d 0) i)) }
+    pub front_does : (r : Option Node) → ReadsNode e (get_or h d 0) r → LooksFront (state h t l c n p o e) d r
+    front_does r k = record { told = looks_at (get_or h d 0) r head_none k }
 
-    pub back_empty : length n ≤ get_or t d 0 → LooksBack (state h t l c n p o e) d LookedNothing
-    back_empty i = record { told = simp (eq-eqb (get_or t d 0) none (tail_none i)) }
-
-    pub back_does : get_or t d 0 < length n → LooksBack (state h t l c n p o e) d (LookedNode (get_or t d 0) (get_or e (get_or t d 0) 0))
-    back_does i = record { told = simp (ne_eqb (get_or t d 0) none (real (get_or t d 0) i)) }
+    pub back_does : (r : Option Node) → ReadsNode e (get_or t d 0) r → LooksBack (state h t l c n p o e) d r
+    back_does r k = record { told = looks_at (get_or t d 0) r tail_none k }
 
     -- ---- next by cursor, from the node x
     pub step_ends : (x : ℕ) → x ≡ cursor_node (state h t l c n p o e) d → length n ≤ x → Steps (state h t l c n p o e) (state h t l (set c d none) n p o e) d
-        LookedNothing
+        None
     step_ends x i k =
         ⊎_elim
         (λ (m : cursor_node a d ≡ none).
@@ -79,7 +82,7 @@ module _ (h t l c n p o e : List ℕ) (free d : ℕ) where
         go z (inr m) = simp (eq-eqb z past_end m)
 
     pub step_does : (x q : ℕ) → x ≡ cursor_node (state h t l c n p o e) d → x < length n → q ≡ moved_on n x → Steps (state h t l c n p o e)
-        (state h t l (set c d q) n p o e) d (LookedNode x (get_or e x 0))
+        (state h t l (set c d q) n p o e) d (Some (record { slot = x; element = get_or e x 0 }))
     step_does x q i k j =
         let f : cursor_node a d ≡ none → ⊥ = λ z. real x k (i ∙ z) in
         let g : cursor_node a d ≡ past_end → ⊥ = λ z. omega (arith, k, i, z, y.shows.rep.next_len, y.shows.rep.small) in

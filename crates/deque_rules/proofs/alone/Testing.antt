@@ -1,78 +1,22 @@
 -- What the loop of the soundness test keeps, and why each of its answers is right.
 use Prim.Native.Nat.{ℕ, ◌+◌, ◌≤◌, ◌<◌}
 use native.Mathlib.Omega.{arith}
-use mathlib.Core.Path.{◌≡◌, refl, sym, ◌∙◌}
+use mathlib.Core.Path.{◌≡◌, sym, ◌∙◌}
 use mathlib.Core.Logic.{inl, inr, ⊎_elim}
 use mathlib.Core.Bool.{Bool, true, false, false≢true, not}
 use mathlib.Core.List.{List, []}
 use lib.ListN.{length, get_or}
 use lib.Dec.{eqb}
 use borrow.Author.Tests.{eq-eqb, eqb-true, not-true, not-false}
-use Rattle.numbers.specs.Shared.{no_slot as none, past_end}
+use Rattle.numbers.specs.Shared.{no_slot as none}
 use Rattle.deque_rules.specs.Links.{home_of, deq, Whole}
 use Rattle.deque_rules.specs.Layout.{Sizes}
 use Rattle.deque_rules.specs.Sound.{Walked, WalkedFree, SizesFree}
 use Rattle.numbers.proofs.Cases.{same?}
 use Rattle.deque_rules.proofs.Laws.{in-home, Upto, begin, more, no_walk, no_walk_free, walk_counts, too_few, is_whole}
-use Rattle.deque_rules.specs.Deque.{State, state, deque_count as deques, node_count as nodes, LentDeques, LentNodes, Lent, Sound}
-use Rattle.deque_rules.specs.alone.Sound.{DequesOk, NodesOk, IsLent, Judged, StandsBy, StandsOk}
+use Rattle.deque_rules.specs.Deque.{State, state, deque_count as deques, node_count as nodes, Lent, Sound}
+use Rattle.deque_rules.specs.alone.Sound.{IsLent, Judged, StandsBy, StandsOk}
 use Rattle.deque_rules.proofs.alone.Sounding.{shows_sound, sound_shows, shows_whole}
-
--- ---- the lengths
-pub few_deques : (h t l c : List ℕ) → (LentDeques h t l c → ⊥) → DequesOk h t l c false
-few_deques h t l c n = record { sound = λ e. absurd (false≢true e); complete = λ z. absurd (n z) }
-
-pub deques_by : (h t l c : List ℕ) → 1 ≤ length h → length h ≤ 256 → length t ≡ length h → length l ≡ length h → DequesOk h t l c (eqb (length c) (length h))
-deques_by h t l c i j k m =
-    record {
-      sound = λ e. record { some = i; few = j; tails_len = k; lens_len = m; cursors_len = eqb-true (length c) (length h) e };
-      complete = λ z. eq-eqb (length c) (length h) z.cursors_len;
-    }
-
-pub few_nodes : (n p o e : List ℕ) → (LentNodes n p o e → ⊥) → NodesOk n p o e false
-few_nodes n p o e k = record { sound = λ i. absurd (false≢true i); complete = λ z. absurd (k z) }
-
-pub nodes_by : (n p o e : List ℕ) → 1 ≤ length n → length n ≤ none → length p ≡ length n → length o ≡ length n → NodesOk n p o e (eqb (length e) (length n))
-nodes_by n p o e i j k m =
-    record {
-      sound = λ q. record { some = i; small = j; prev_len = k; home_len = m; elements_len = eqb-true (length e) (length n) q };
-      complete = λ z. eq-eqb (length e) (length n) z.elements_len;
-    }
-
-module _ (h t l c n p o e : List ℕ) where
-  pub not_deques : (r : Bool) → DequesOk h t l c r → not r ≡ true → IsLent (state h t l c n p o e) false
-  not_deques r z i = record { sound = λ q. absurd (false≢true q); complete = λ y. absurd (false≢true (sym (not-true r i) ∙ z.complete y.deques)) }
-
-  pub both_lent : (r q : Bool) → DequesOk h t l c r → not r ≡ false → NodesOk n p o e q → IsLent (state h t l c n p o e) q
-  both_lent r q z i y = record { sound = λ j. record { deques = z.sound (not-false r i); nodes = y.sound j }; complete = λ x. y.complete x.nodes }
-
--- ---- the cursor
-module _ (c : ℕ) (home : List ℕ) (d : ℕ) where
-  pub at_none : c ≡ none → StandsOk c home d true
-  at_none e = record { sound = λ _. inl e; complete = λ _. refl }
-
-  pub past : c ≡ past_end → StandsOk c home d true
-  past e = record { sound = λ _. inr (inl e); complete = λ _. refl }
-
-  pub off : (c ≡ none → ⊥) → (c ≡ past_end → ⊥) → length home ≤ c → StandsOk c home d false
-  off n m l =
-      record {
-        sound = λ e. absurd (false≢true e);
-        complete = λ w. absurd (⊎_elim n (λ u. ⊎_elim m (λ (k : (c < length home) × (get_or home c 0 ≡ d)). omega (arith, k.0, l)) u) w);
-      }
-
-  pub on_node : (c ≡ none → ⊥) → (c ≡ past_end → ⊥) → c < length home → StandsOk c home d (eqb (get_or home c 0) d)
-  on_node n m l =
-      record {
-        sound = λ e. inr (inr (l, eqb-true (get_or home c 0) d e));
-        complete = λ w.
-            ⊎_elim
-            (λ e. absurd (n e))
-            (λ u. ⊎_elim (λ e. absurd (m e)) (λ (k : (c < length home) × (get_or home c 0 ≡ d)). eq-eqb (get_or home c 0) d k.1) u)
-            w;
-      }
-
-pub ruleset cursors = (at_none, past, off, on_node)
 
 -- ---- the loop: the deques below d have been walked, their lengths are those recorded and their cursors stand
 pub record Seen (a : State) (d total : ℕ) : Type 0 where

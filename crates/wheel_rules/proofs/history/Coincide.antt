@@ -39,7 +39,7 @@ module _ {A : Type 0} (f : A → Answer) (t : Telling f) (c : Clock) where
   after (Err u) (Err v) e g = ap Err (refused_once u v e)
 
 module _ {A : Type 0} (f : A → Answer) (t : Telling f) where
-  alone : (r s : Result A Refusal) → says f r ≡ says f s → r ≡ s
+  pub alone : (r s : Result A Refusal) → says f r ≡ says f s → r ≡ s
   alone (Ok x) (Ok y) e = ap Ok (t.once x y e)
   alone (Ok x) (Err v) e = absurd (t.never x (number_of v) e)
   alone (Err u) (Ok y) e = absurd (t.never y (number_of u) (sym e))
@@ -51,7 +51,7 @@ timed c (Ok x) (Err v) e f = let z : ◌≡◌ {A = ℕ} 0 1 = cc in absurd (ome
 timed c (Err u) (Ok y) e f = let z : ◌≡◌ {A = ℕ} 0 1 = cc in absurd (omega arith)
 timed c (Err u) (Err v) e f = ap Err (refused_once u v e)
 
-handles : Telling handle_told
+pub handles : Telling handle_told
 handles = record {
   once = λ a b e i. record { slot = slots e i; serial = serials e i };
   never = λ a k e. let z : ◌≡◌ {A = ℕ} 0 1 = cc in omega arith;

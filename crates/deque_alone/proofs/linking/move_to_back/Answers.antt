@@ -1,13 +1,9 @@
--- `move_to_back` meets its promise.
-use Rattle.deque_rules.proofs.alone.Calling.{move_no, move_yes}
-use Rattle.deque_rules.proofs.alone.Refusing.{node_ready}
+-- `move_to_back` meets its contract.
+use Rattle.std.proofs.Common.{rules, ◌≡◌, Err}
+use Rattle.deque_rules.proofs.alone.Calling.{move_no}
 use Rattle.deque_alone.proofs.linking.move_to_back.Goals as goal
 
-pub returns-then-no-ne0 : goal.returns-then-no-ne0
-returns-then-no-ne0 c = search move_no
-
-pub shift-requires : goal.shift-requires
-shift-requires c = search node_ready
-
-pub returns : goal.returns
-returns c = search move_yes
+pub returns-in_err-refuse_move-clause-does : goal.returns-in_err-refuse_move-clause-does
+returns-in_err-refuse_move-clause-does c =
+    let e : c.from_residual.result ≡ Err c.in_err-refuse_move.field-0.0 = search rules in
+    rw e (move_no _ _ _ _ _ (rw c.as_read.ensures.links at c.in_err-refuse_move.ensures))

@@ -1,23 +1,23 @@
 -- `walk_free` meets its contract: the invariant of its loop is `GoingFree`, and each way out has a law of
 -- `WalkingFree`.
 use native.Mathlib.Omega.{arith}
-use Rattle.deque_rules.proofs.WalkingFree.{start, goes, exits}
+use borrow.Author.Rules.{rules}
+use Rattle.deque_rules.proofs.WalkingFree.{goes, exits}
+use Rattle.deque.proofs.linked.Linked.walk_free.Goals.{then-n-x-via-then-n-x, then-n-x-via-else-n-x+then-self-x-ne-NONE}
 use Rattle.deque.proofs.linked.Linked.walk_free.Goals as goal
 
-pub loop-x-init : goal.loop-x-init
-loop-x-init c = start _ _ _
-
-pub returns-then-k-n : goal.returns-then-k-n
-returns-then-k-n c = search exits
+pub returns-then-x-eq-NONE : goal.returns-then-x-eq-NONE
+returns-then-x-eq-NONE c = (search exits, omega arith)
 
 pub returns-then-n-x : goal.returns-then-n-x
-returns-then-n-x c = search exits
+returns-then-n-x c =
+    elim c.then-n-x.branch [
+      | then-n-x-via-then-n-x w ↦ search exits
+      | then-n-x-via-else-n-x+then-self-x-ne-NONE w ↦ search exits
+    ]
 
-pub returns-then-self-x-ne-NONE : goal.returns-then-self-x-ne-NONE
-returns-then-self-x-ne-NONE c = search exits
+pub loop-k-preserved : goal.loop-k-preserved
+loop-k-preserved c = search (goes, rules)
 
-pub loop-x-preserved : goal.loop-x-preserved
-loop-x-preserved c = search goes
-
-pub returns : goal.returns
-returns c = (search exits, omega arith)
+pub returns-else-self-x-ne-NONE : goal.returns-else-self-x-ne-NONE
+returns-else-self-x-ne-NONE c = search (exits, rules)
