@@ -1,4 +1,4 @@
--- inner: the records that lent slices hold, and that a call lends back the slices that it was lent.
+-- The records that lent slices hold, and that a call lends back the slices that it was lent.
 use Rattle.std.specs.Prelude.{◌≡◌}
 use Rattle.deque.specs.Slices.{links_of, links_now, SameSlices, Reads}
 use Rattle.wheel_rules.specs.Lent.{Nodes as Slots, Entries as Noted}

@@ -1,6 +1,6 @@
 // Where a deadline is placed at a reading: the bucket's number, for the wheel, and level x 64 + index, for the host. No
 // `requires`.
-// Each level is tried with its number written out, so that the compiler works out the numbers of levels.rt.
+// The levels are tried from the lowest; the last takes what fits none below it.
 ghost use Rattle.std.specs.Prelude.{◌≡◌, ◌-◌};
 ghost use Rattle.wheel_rules.specs.Promise.{Placed};
 ghost use Rattle.wheel_rules.specs.place.Levels.{index_at, place_at};
