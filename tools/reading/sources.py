@@ -224,6 +224,8 @@ class RtFile(File):
 
     def __init__(self, path):
         super().__init__(path)
+        # functions and methods; a method of one type may be called as one of another
+        self.functions = []
         self.read_uses()
         self.read_definitions()
 
@@ -257,6 +259,8 @@ class RtFile(File):
                 definition = Definition(*start.groups(), self, i + 1, self.lines[i:self.block_end(i)], above)
                 definition.parts = list(self.parts_of(definition))
                 self.add(definition)
+                if definition.kind == 'fn':
+                    self.functions.append(definition)
             if line.strip().startswith('//'):
                 above = above + [line]
             elif not line.strip().startswith('#['):

@@ -1,4 +1,3 @@
 -- What the contracts of `bench` cite.
 pub mod Ready
 pub mod Kept
-pub mod Turns

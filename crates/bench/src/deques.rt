@@ -8,30 +8,27 @@ mod runs;
 
 use crate::deques::looks::{check, walk};
 use crate::deques::runs::{moves, queue, unlinking};
-use crate::requests::{digested, unfit};
 
-// The workloads, in the order of their words, of which the checked lengths are the last.
-const QUEUE: usize = 0;
+#[derive(Clone, Copy)]
+pub enum Workload {
+    Queue,
+    Move,
+    Unlink,
+    Walk,
+    Length,
+}
 
-const MOVE: usize = 1;
-
-const UNLINK: usize = 2;
-
-const WALK: usize = 3;
-
-// Tells the digest of the workload on one deque over so many nodes, 2 to 4,096. Each workload is called in a place of
-// its own: where they are called in one place the compiler makes them a part of `main`, and their loops take longer.
-pub fn answer(told: &mut [u64; 6], workload: usize, nodes: u64, calls: u64, x: u64) {
+// The digest of the workload on one deque over so many nodes, 2 to 4,096; none where they are fewer or more.
+pub fn digest_of(workload: Workload, nodes: u64, calls: u64, x: u64) -> Option<u64> {
     if nodes < 2 || nodes > 4096 {
-        unfit(told);
-        return;
+        return None;
     }
     let n = nodes as usize;
-    match workload {
-        QUEUE => digested(told, queue(n, n / 2, calls, x)),
-        MOVE => digested(told, moves(n, calls, x)),
-        UNLINK => digested(told, unlinking(n, calls, x)),
-        WALK => digested(told, walk(n, calls, x)),
-        _ => digested(told, check(n, calls, x)),
-    }
+    Some(match workload {
+        Workload::Queue => queue(n, n / 2, calls, x),
+        Workload::Move => moves(n, calls, x),
+        Workload::Unlink => unlinking(n, calls, x),
+        Workload::Walk => walk(n, calls, x),
+        Workload::Length => check(n, calls, x),
+    })
 }

@@ -8,12 +8,11 @@ mod requests;
 mod sketches;
 mod wheels;
 
-use crate::requests::{answer, asked_by, say};
+use crate::requests::answer;
 use lines::{Answers, Lines};
 
 // Answers line by line to the end of the input.
 fn main(rt: HostRuntime) {
-    let mut told = [0u64; 6];
     let mut input = Lines::new();
     let mut answers = Answers::new();
     for _ in 0..u64::MAX {
@@ -21,8 +20,10 @@ fn main(rt: HostRuntime) {
         let Some(line) = input.line() else {
             break;
         };
-        answer(&mut told, asked_by(line));
-        say(&rt, &mut answers, &told, &input);
+        answer(&rt, &mut answers, line);
+        if input.is_all_taken() {
+            answers.flush(&rt);
+        }
     }
     answers.flush(&rt);
 }

@@ -1,60 +1,71 @@
 // The requests: `WORKLOAD SIZE CALLS SEED`, and their answers.
 use crate::generator::first_number;
 use crate::{deques, sketches, wheels};
-use lines::{Answers, Asked, BAD_LINE, Lines, NO_LINE};
+use lines::{Answers, Kind, Number, count, kind_of, number_at, part};
 
-// The place of the answer's word in its table.
-const DIGEST: u64 = 0;
-
-// The places of the first workload of the deque and of the wheel in the table of the words.
-const OF_DEQUES: usize = 3;
-
-const OF_WHEELS: usize = 8;
-
-// What the line asks for, by the words of the workloads.
-pub fn asked_by(line: &[u8]) -> Option<Asked> {
-    lines::requested(
-        line,
-        b"increase estimate index queue move unlink walk length cancel ticks jumps count",
-    )
+// A workload of the sketch, of the deque or of the wheel.
+#[derive(Clone, Copy)]
+enum Workload {
+    Sketch(sketches::Workload),
+    Deque(deques::Workload),
+    Wheel(wheels::Workload),
 }
 
-// Tells the answer: a workload and three numbers are asked, of which the first is its size.
-pub fn answer(told: &mut [u64; 6], asked: Option<Asked>) {
-    let Some(asked) = asked else {
-        lines::tell(told, NO_LINE, 0, 0, 0, 0);
-        return;
+// Puts the answer to the line after those that wait: the digest that the workload leaves, or that there is no such
+// workload, or none of that size. An empty line and a comment answer nothing.
+pub fn answer(rt: &impl Print, answers: &mut Answers, line: &[u8]) {
+    let digest = match kind_of(line) {
+        Kind::Silent => return,
+        Kind::Long => None,
+        Kind::Call => digest_asked(line),
     };
-    let Some(word) = asked.word else {
-        unfit(told);
-        return;
-    };
-    if asked.parts != 4 {
-        unfit(told);
-        return;
-    }
-    let [size, calls, seed] = asked.numbers;
-    let x = first_number(seed);
-    if word < OF_DEQUES {
-        sketches::answer(told, word, size, calls, x);
-    } else if word < OF_WHEELS {
-        deques::answer(told, word - OF_DEQUES, size, calls, x);
-    } else {
-        wheels::answer(told, word - OF_WHEELS, size, calls, x);
+    match digest {
+        Some(digest) => {
+            answers.append(rt, b"digest");
+            answers.append_field(rt, digest);
+            answers.append(rt, b"\n");
+        }
+        None => answers.append(rt, b"bad line\n"),
     }
 }
 
-// Tells the digest of a workload.
-pub fn digested(told: &mut [u64; 6], digest: u64) {
-    lines::tell(told, DIGEST, 1, digest, 0, 0);
+// The digest that the line asks for.
+fn digest_asked(line: &[u8]) -> Option<u64> {
+    if count(line) != 4 {
+        return None;
+    }
+    let workload = workload_of(part(line, 0))?;
+    let size = number(line, 1)?;
+    let calls = number(line, 2)?;
+    let x = first_number(number(line, 3)?);
+    match workload {
+        Workload::Sketch(which) => sketches::digest_of(which, size, calls, x),
+        Workload::Deque(which) => deques::digest_of(which, size, calls, x),
+        Workload::Wheel(which) => wheels::digest_of(which, size, calls, x),
+    }
 }
 
-// Tells that there is no such workload, or none of that size.
-pub fn unfit(told: &mut [u64; 6]) {
-    lines::tell(told, BAD_LINE, 0, 0, 0, 0);
+fn workload_of(word: &[u8]) -> Option<Workload> {
+    match word {
+        b"increase" => Some(Workload::Sketch(sketches::Workload::Increase)),
+        b"estimate" => Some(Workload::Sketch(sketches::Workload::Estimate)),
+        b"index" => Some(Workload::Sketch(sketches::Workload::Index)),
+        b"queue" => Some(Workload::Deque(deques::Workload::Queue)),
+        b"move" => Some(Workload::Deque(deques::Workload::Move)),
+        b"unlink" => Some(Workload::Deque(deques::Workload::Unlink)),
+        b"walk" => Some(Workload::Deque(deques::Workload::Walk)),
+        b"length" => Some(Workload::Deque(deques::Workload::Length)),
+        b"cancel" => Some(Workload::Wheel(wheels::Workload::Cancel)),
+        b"ticks" => Some(Workload::Wheel(wheels::Workload::Ticks)),
+        b"jumps" => Some(Workload::Wheel(wheels::Workload::Jumps)),
+        b"count" => Some(Workload::Wheel(wheels::Workload::Count)),
+        _ => None,
+    }
 }
 
-// Puts the line of what was told after the answers that wait.
-pub fn say(rt: &impl Print, answers: &mut Answers, told: &[u64; 6], input: &Lines) {
-    answers.say(rt, b"digest", told, input);
+fn number(line: &[u8], k: usize) -> Option<u64> {
+    match number_at(line, k) {
+        Number::Is(n) => Some(n),
+        _ => None,
+    }
 }

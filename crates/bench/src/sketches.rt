@@ -3,14 +3,12 @@ ghost use Rattle.std.specs.Prelude.{◌≤◌};
 
 use crate::generator::following;
 use crate::requests::{digested, unfit};
-use sketch_rules::{Ensured, Estimated, Increased, Sketch};
+use sketch_rules::Sketch;
 
-// The workloads, in the order of their words.
+// The workloads before the last, in the order of their words.
 const INCREASE: usize = 0;
 
 const ESTIMATE: usize = 1;
-
-const INDEX: usize = 2;
 
 // A sketch after a run of increases, and the generator's last number.
 #[derive(Clone, Copy)]
@@ -19,41 +17,37 @@ struct Made {
     x: u64,
 }
 
-// Tells the digest of the workload on a table of so many words, a power of two up to 65,536. Each workload is called in
-// a place of its own, as those of the deque are.
+// Tells the digest of the workload on a table of so many words, a power of two up to 65,536. The loops that are timed
+// stand in functions of their own, so that the program around them takes none of their registers.
 pub fn answer(told: &mut [u64; 6], workload: usize, words: u64, calls: u64, x: u64) {
-    if words > 65536 || !numbers::is_power(words) {
+    if words > 65536 || !words.is_power_of_two() {
         unfit(told);
         return;
     }
     let n = words as usize;
-    match workload {
-        INCREASE => digested(told, digest_of(INCREASE, n, calls, x)),
-        ESTIMATE => digested(told, digest_of(ESTIMATE, n, calls, x)),
-        _ => digested(told, digest_of(INDEX, n, calls, x)),
-    }
+    let digest = match workload {
+        INCREASE => on_table(n, |table| digest_of_increases(table, calls, x)),
+        ESTIMATE => on_table(n, |table| sum_of_estimates(table, calls, x)),
+        _ => sum_of_indexes(words, calls, x),
+    };
+    digested(told, digest);
 }
 
-fn digest_of(workload: usize, words: usize, calls: u64, x: u64) -> u64
-    requires { words ≤ 65536 }
+// What the work answers on a table of so many words, all of them 0.
+fn on_table<W: FnOnce(&mut [u64]) -> u64>(words: usize, work: W) -> u64
+    requires within { words ≤ 65536 }
+    requires called { W.IsAlwaysCallable work }
 {
     let mut table = [0u64; 65536];
-    match workload {
-        INCREASE => digest_of_increases(&mut table[..words], calls, x),
-        ESTIMATE => sum_of_estimates(&mut table[..words], calls, x),
-        _ => sum_of_indexes(words as u64, calls, x),
-    }
+    work(&mut table[..words])
 }
 
 // So many increases on a fresh sketch: the digest of the table and the record.
 fn digest_of_increases(table: &mut [u64], calls: u64, x: u64) -> u64 {
     let s = fresh(table);
-    let made = increases(table, s, calls, x);
-    let after = made.sketch;
+    let after = increases(table, s, calls, x).sketch;
     let words = lines::digest_all(lines::digest_start(), table);
-    let used = lines::digest_step(words, after.used as u64);
-    let sample = lines::digest_step(used, after.sample);
-    lines::digest_step(sample, after.size)
+    lines::digest_all(words, &[after.used as u64, after.sample, after.size])
 }
 
 // So many estimates on a sketch that has seen 8 increases for each word: their sum.
@@ -61,68 +55,56 @@ fn sum_of_estimates(table: &mut [u64], calls: u64, x: u64) -> u64 {
     let s = fresh(table);
     let seen = 8 * (table.len() as u64);
     let made = increases(table, s, seen, x);
-    let after = made.sketch;
-    estimates(table, after, calls, made.x)
+    estimates(table, made.sketch, calls, made.x)
 }
 
 // A sketch over the whole table, all of it 0.
 fn fresh(table: &mut [u64]) -> Sketch {
-    let words = table.len();
-    sketch::unchecked::clear(table, words);
-    match sketch::ensure_capacity(table, sketch::unused(), words as u64) {
-        Ensured::Done(s) => s,
-        Ensured::Refused(_) => sketch::unused(),
-    }
+    table.fill(0);
+    let words = table.len() as u64;
+    sketch::ensure_capacity(table, sketch::unused(), words).unwrap_or(sketch::unused())
 }
 
+#[inline(never)]
 fn increases(table: &mut [u64], sketch: Sketch, calls: u64, first: u64) -> Made {
     let mut s = sketch;
     let mut x = first;
-    let mut left = calls;
-    while left > 0 {
+    for _ in 0..calls {
         x = following(x);
         s = increased(table, s, x);
-        left -= 1;
     }
     Made { sketch: s, x }
 }
 
+// The record after an increase; the one before where it is refused. By a `match` in a function of its own: by
+// `unwrap_or`, or in the loop, the sample size is divided anew in each turn, and the loop is slower.
 fn increased(table: &mut [u64], s: Sketch, hash: u64) -> Sketch {
     match sketch::increase(table, s, hash) {
-        Increased::Done(after) => after,
-        Increased::Refused(_) => s,
+        Ok(after) => after,
+        Err(_) => s,
     }
 }
 
+#[inline(never)]
 fn estimates(table: &[u64], sketch: Sketch, calls: u64, first: u64) -> u64 {
     let mut sum: u64 = 0;
     let mut x = first;
-    let mut left = calls;
-    while left > 0 {
+    for _ in 0..calls {
         x = following(x);
-        sum = std::num::wrapping_add_u64(sum, estimated(table, sketch, x));
-        left -= 1;
+        sum = sum.wrapping_add(sketch::estimate(table, sketch, x).unwrap_or(0));
     }
     sum
 }
 
-fn estimated(table: &[u64], s: Sketch, hash: u64) -> u64 {
-    match sketch::estimate(table, s, hash) {
-        Estimated::Least(n) => n,
-        Estimated::Refused(_) => 0,
-    }
-}
-
 // So many word indexes, depth after depth, in a table of so many words: their sum.
+#[inline(never)]
 fn sum_of_indexes(words: u64, calls: u64, first: u64) -> u64 {
-    let mask = std::num::wrapping_sub_u64(words, 1);
+    let mask = words.wrapping_sub(1);
     let mut sum: u64 = 0;
     let mut x = first;
-    let mut i: u64 = 0;
-    while i < calls {
+    for i in 0..calls {
         x = following(x);
-        sum = std::num::wrapping_add_u64(sum, sketch::word_index(x, i % 4, mask));
-        i += 1;
+        sum = sum.wrapping_add(sketch::word_index(x, i % 4, mask));
     }
     sum
 }

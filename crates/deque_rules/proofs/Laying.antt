@@ -2,15 +2,14 @@
 use Prim.Native.Nat.{ℕ, zero, suc, ◌+◌, ◌-◌, ◌≤◌, ◌<◌}
 use native.Mathlib.Omega.{arith}
 use mathlib.Core.Path.{◌≡◌, refl, sym, ap, ◌∙◌}
-use mathlib.Core.Logic.{inl, ⊎_elim}
+use mathlib.Core.Logic.{inl}
 use mathlib.Core.List.{List, [], ◌∷◌}
-use lib.ListN.{length, get_or, set, length-set, length-replicate, get_or-replicate}
-use lib.Seq.{get_or-set_same, get_or-set_other, ext_get_or}
+use lib.ListN.{length, get_or, length-replicate, get_or-replicate}
+use lib.Seq.{ext_get_or}
 use Rattle.deque_rules.specs.Links.{Path, first, Links, links, Rep, home_of, deq, nexts, fresh}
 use Rattle.numbers.specs.Shared.{no_slot as none, up_from}
 use Rattle.deque_rules.specs.Lists.{all_free}
 use Rattle.deque_rules.specs.Layout.{Sizes, Empties, Strings, LaysOut}
-use Rattle.numbers.proofs.Cases.{same?}
 use Rattle.numbers.proofs.Members.{in-same}
 use Rattle.numbers.proofs.Counting.{up_range, range_up, length_up}
 
@@ -18,41 +17,11 @@ use Rattle.numbers.proofs.Counting.{up_range, range_up, length_up}
 first_same : (k k' i i' : ℕ) → k ≡ k' → i ≡ i' → first (up_from k i) ≡ first (up_from k' i')
 first_same k k' i i' p q = rw (p, q) refl
 
-first_up : (k i : ℕ) → 0 < k → first (up_from k i) ≡ i
-first_up zero i l = absurd (omega (arith, l))
-first_up (suc k) i l = refl
-
 pub record Strung (n₀ n : List ℕ) (s free : ℕ) : Type 0 where
   pub next_len : length n ≡ length n₀
   pub within : s ≤ length n₀
   pub free_is : free ≡ first (up_from (length n₀ - s) s)
   pub nexts_are : (x : ℕ) → s ≤ x → x < length n₀ → get_or n x 0 ≡ first (up_from (length n₀ - suc x) (suc x))
-
-pub string_starts : (n₀ : List ℕ) → Strung n₀ n₀ (length n₀) none
-string_starts n₀ =
-    record {
-      next_len = refl;
-      within = omega arith;
-      free_is = first_same 0 (length n₀ - length n₀) (length n₀) (length n₀) (omega arith) refl;
-      nexts_are = λ x h l. absurd (omega (arith, h, l));
-    }
-
-pub string_goes : (n₀ n : List ℕ) (s free : ℕ) → 0 < s → Strung n₀ n s free → Strung n₀ (set n (s - 1) free) (s - 1) (s - 1)
-string_goes n₀ n s free l k =
-    record {
-      next_len = simp length-set k.next_len;
-      within = omega (arith, k.within);
-      free_is = sym (first_up (length n₀ - (s - 1)) (s - 1) (omega (arith, k.within, l)));
-      nexts_are = λ x h j.
-          ⊎_elim
-          (λ (q : x ≡ s - 1).
-          ap (λ (y : ℕ). get_or (set n (s - 1) free) y 0) q
-          ∙ get_or-set_same n (s - 1) free 0 (omega (arith, k.next_len, k.within, l))
-          ∙ k.free_is
-          ∙ first_same (length n₀ - s) (length n₀ - suc x) s (suc x) (omega (arith, q, l)) (omega (arith, q, l)))
-          (λ (m : x ≡ s - 1 → ⊥). get_or-set_other n (s - 1) x free 0 m ∙ k.nexts_are x (omega (arith, h, m)) j)
-          (same? x (s - 1));
-    }
 
 pub length_nexts : (xs : List ℕ) → length (nexts xs) ≡ length xs
 length_nexts [] = refl

@@ -23,9 +23,6 @@ use Rattle.deque_rules.proofs.Cutting.{cut_rep, cut_asks}
 use Rattle.deque_rules.proofs.Linking.{link_rep}
 use Rattle.deque_rules.proofs.Turning.{s_in, after_first, q_small, tail_index, tail_bytes}
 
-pub move_asks : (a : Links) (d s : ℕ) → Movable a d s → Held a s
-move_asks a d s k = record { v = k.v; loose = k.loose; rep = k.rep; slot = k.slot; homed = k.homed }
-
 pub move_asks_2 : (a b : Links) (d s : ℕ) → Movable a d s → CutsOut a b s → Linkable b d s
 move_asks_2 a b d s k u = record { v = _; loose = k.loose; rep = u.does k.v k.loose k.rep; slot = k.slot; deque = k.deque }
 
@@ -87,10 +84,6 @@ module _ (h t n p o : List ℕ) (d s : ℕ) (k : Ahead (links h t n p o) d s) wh
 
   pub last_bytes : length n * 8 < 2 ^ 63 → Fits w64 (get_or t d 0 * 8)
   last_bytes g = tail_bytes h t n p o d s k.held g
-
-  -- so is s, once prev has been written
-  pub own_index : (i w : ℕ) → s < length (set p i w)
-  own_index i w = simp length-set (rw k.held.rep.prev_len k.held.slot)
 
   home_stays : set (set o s none) s d ≡ o
   home_stays = simp set-set (rw (sym k.held.homed) (set-get_or o s 0))

@@ -5,18 +5,14 @@ use mathlib.Core.Logic.{⊎_elim}
 use mathlib.Core.Bool.{Bool, true, false, false≢true, not}
 use lib.ListN.{length}
 use lib.Dec.{eqb}
-use borrow.Author.Tests.{eq-eqb, eqb-true, not-true, not-false}
+use borrow.Author.Tests.{eq-eqb, eqb-true, not-true}
 use Rattle.numbers.specs.Shared.{no_slot as none}
 use Rattle.deque_rules.specs.Links.{Links, Whole}
 use Rattle.deque_rules.specs.Sound.{Verdict, Sized, Walked, WalkedFree}
 use Rattle.numbers.proofs.Cases.{same?}
-use Rattle.deque_rules.proofs.Judging.{Upto, begin, whole_sizes, no_walk, no_walk_free, too_few, is_whole}
+use Rattle.deque_rules.proofs.Judging.{Upto, whole_sizes, no_walk, no_walk_free, too_few, is_whole}
 
 module _ (a : Links) where
-  -- the loop starts where they are
-  pub begins : (r : Bool) → Sized a r → not r ≡ false → Upto a 0 0
-  begins r z e = begin a (z.sound (not-false r e))
-
   module _ (free : ℕ) where
     nay : (Whole a free → ⊥) → Verdict a free false
     nay n = record { sound = λ e. absurd (false≢true e); complete = λ w. absurd (n w) }

@@ -21,9 +21,6 @@ pub record Going (a : Links) (d b x k : ℕ) : Type 0 where
   pub whole : (ys : List ℕ) → Runs a d b ys → (xs : List ℕ) × Runs a d none xs × (length xs ≡ k + length ys)
   pub ahead : (xs : List ℕ) → Runs a d none xs → (ys : List ℕ) × Runs a d b ys × (length xs ≡ k + length ys)
 
-pub start : (a : Links) (d : ℕ) → Going a d none (get_or a.heads d 0) 0
-start a d = record { here = refl; few = omega arith; whole = λ ys h. (ys, h, omega arith); ahead = λ xs h. (xs, h, omega arith) }
-
 module _ (a : Links) (d : ℕ) (z : Sizes a × (d < length a.heads)) where
   real : (b : ℕ) (xs : List ℕ) → Runs a d b xs → (y : ℕ) → In y xs → y ≡ none → ⊥
   real b xs h y m e = omega (arith, (h.1 y m).0, z.0.small, e)

@@ -16,9 +16,6 @@ pub record GoingFree (next home : List ℕ) (free x k : ℕ) : Type 0 where
   pub whole : (ys : List ℕ) → Spares next home x ys → (xs : List ℕ) × Spares next home free xs × (length xs ≡ k + length ys)
   pub ahead : (xs : List ℕ) → Spares next home free xs → (ys : List ℕ) × Spares next home x ys × (length xs ≡ k + length ys)
 
-pub start : (next home : List ℕ) (free : ℕ) → GoingFree next home free free 0
-start next home free = record { few = omega arith; whole = λ ys h. (ys, h, omega arith); ahead = λ xs h. (xs, h, omega arith) }
-
 module _ (next home : List ℕ) (free : ℕ) (z : SizesFree next home) where
   real : (b : ℕ) (xs : List ℕ) → Spares next home b xs → (y : ℕ) → In y xs → y ≡ none → ⊥
   real b xs h y m e = omega (arith, (h.2 y m).0, z.small, e)

@@ -2,7 +2,7 @@
 ghost use Rattle.face_rules.specs.Face.{Told, records_of};
 ghost use Rattle.rules.specs.Wheel.{start, pull, abandon};
 
-use crate::words::{tell_noted, tell_pulled};
+use crate::words::tell;
 use face::{abandon, pull, start};
 use face_rules::Node;
 use wheel_rules::calls::Clock;
@@ -24,7 +24,7 @@ pub fn wheel_start(
         (records_of heads.now tails.now nodes.now dated.now deadline.now stamp.now clock.new) answer.new result }
 {
     let told = start(nodes, clock, heads, tails, dated, deadline, stamp, q);
-    tell_noted(told, answer)
+    tell(told, answer)
 }
 
 // One event of the open advance, or End. Refuses (1, 4, 6).
@@ -43,7 +43,7 @@ pub fn wheel_pull(
         (records_of heads.new tails.new nodes.new dated.now deadline.now stamp.now clock.new) answer.new result }
 {
     let told = pull(nodes, clock, heads, tails, dated, deadline, stamp);
-    tell_pulled(told, answer)
+    tell(told, answer)
 }
 
 // Closes the open advance and restores the reading that it started from. Refuses (1, 4, 6).
@@ -62,5 +62,5 @@ pub fn wheel_abandon(
         (records_of heads.now tails.now nodes.now dated.now deadline.now stamp.now clock.new) answer.new result }
 {
     let told = abandon(nodes, clock, heads, tails, dated, deadline, stamp);
-    tell_noted(told, answer)
+    tell(told, answer)
 }

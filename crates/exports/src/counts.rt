@@ -2,7 +2,7 @@
 ghost use Rattle.face_rules.specs.Face.{Told, records_of};
 ghost use Rattle.rules.specs.Wheel.{armed_count, next_due};
 
-use crate::words::{tell_counted, tell_due};
+use crate::words::tell;
 use face::{armed_count, next_due};
 use face_rules::Node;
 use wheel_rules::calls::Clock;
@@ -23,7 +23,7 @@ pub fn wheel_armed_count(
         (records_of heads.now tails.now nodes.now dated.now deadline.now stamp.now clock) answer.new result }
 {
     let told = armed_count(nodes, clock, heads, tails, dated, deadline, stamp);
-    tell_counted(told, answer)
+    tell(told, answer)
 }
 
 // The least deadline of the armed timers, or none. Refuses (1, 4, 5).
@@ -42,5 +42,5 @@ pub fn wheel_next_due(
         (records_of heads.now tails.now nodes.now dated.now deadline.now stamp.now clock) answer.new result }
 {
     let told = next_due(nodes, clock, heads, tails, dated, deadline, stamp);
-    tell_due(told, answer)
+    tell(told, answer)
 }

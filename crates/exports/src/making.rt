@@ -3,7 +3,7 @@ ghost use Rattle.face_rules.specs.Face.{Told, records_of};
 ghost use Rattle.rules.specs.Wheel.{ok};
 ghost use Rattle.wheel_rules.specs.Promise.{enabling, Begins};
 
-use crate::words::tell_noted;
+use crate::words::tell;
 use face::enable;
 use face_rules::Node;
 use wheel_rules::calls::{Clock, Created};
@@ -32,5 +32,5 @@ pub fn wheel_enable(
         (records_of heads.new tails.new nodes.new dated.new deadline.new stamp.new clock.new) answer.new result }
 {
     let told = enable(nodes, clock, heads, tails, dated, deadline, stamp);
-    tell_noted(told, answer)
+    tell(told, answer)
 }

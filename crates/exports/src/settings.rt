@@ -4,7 +4,7 @@ ghost use Rattle.std.proofs.Math.Option.{none, some};
 ghost use Rattle.face_rules.specs.Face.{Told, records_of};
 ghost use Rattle.rules.specs.Wheel.{set_entry};
 
-use crate::words::tell_noted;
+use crate::words::tell;
 use face::set_entry;
 use face_rules::Node;
 use wheel_rules::calls::Clock;
@@ -29,7 +29,7 @@ pub fn wheel_set_entry(
         (records_of heads.now tails.now nodes.now dated.new deadline.new stamp.new clock) answer.new result }
 {
     let told = set_entry(
-        nodes, clock, heads, tails, dated, deadline, stamp, e, has, due, h,
+        nodes, clock, heads, tails, dated, deadline, stamp, e, has.then_some(due), h,
     );
-    tell_noted(told, answer)
+    tell(told, answer)
 }

@@ -2,7 +2,7 @@
 ghost use Rattle.face_rules.specs.Face.{Told, records_of};
 ghost use Rattle.rules.specs.Wheel.{schedule, reschedule, deschedule};
 
-use crate::words::{tell_noted, tell_rescheduled, tell_scheduled};
+use crate::words::tell;
 use face::{deschedule, reschedule, schedule};
 use face_rules::Node;
 use wheel_rules::calls::Clock;
@@ -25,7 +25,7 @@ pub fn wheel_schedule(
         (records_of heads.new tails.new nodes.new dated.now deadline.now stamp.now clock.new) answer.new result }
 {
     let told = schedule(nodes, clock, heads, tails, dated, deadline, stamp, e, h);
-    tell_scheduled(told, answer)
+    tell(told, answer)
 }
 
 // Moves the timer with the handle (slot, number), armed with the generation h, or removes it. Refuses (1, 4, 5, 12,
@@ -50,7 +50,7 @@ pub fn wheel_reschedule(
     let told = reschedule(
         nodes, clock, heads, tails, dated, deadline, stamp, slot, number, h,
     );
-    tell_rescheduled(told, answer)
+    tell(told, answer)
 }
 
 // Removes the timer with the handle (slot, number), armed with the generation h. Refuses (1, 4, 5, 12, 13).
@@ -74,5 +74,5 @@ pub fn wheel_deschedule(
     let told = deschedule(
         nodes, clock, heads, tails, dated, deadline, stamp, slot, number, h,
     );
-    tell_noted(told, answer)
+    tell(told, answer)
 }

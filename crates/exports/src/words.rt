@@ -1,80 +1,98 @@
 // Each answer of the wheel's calls over lent nodes, written to five lent numbers: the refusal's number, or 0; which
 // answer it is; and its values. The result is the first of them. No `requires`.
-ghost use Rattle.face_rules.specs.Face.{scheduled_says, rescheduled_says, pulled_says, words_of, Writes};
-ghost use Rattle.wheel_rules.specs.Promise.{noted_says, counted_says, due_says};
+ghost use Rattle.std.specs.Prelude.{◌≡◌};
+ghost use Rattle.face_rules.specs.Face.{words_of, Writes};
+ghost use Rattle.rules.specs.Wheel.{Answer, ok, number, due};
+ghost use Rattle.wheel_rules.specs.Promise.{says, handle_told, rescheduled_told, told, due_told};
 
-use face_rules::{Pulled, Rescheduled, Scheduled};
-use wheel_rules::calls::{Counted, Due, Noted};
+use numbers::refusals::Refusal;
+use wheel_rules::calls::{Event, Handle, Rescheduled};
 
-fn write(words: [u64; 5], answer: &mut [u64; 5]) -> u64
-    ensures { Writes words answer.new result }
-{
-    *answer = words;
-    words[0]
+// What a call that is not refused answers, as five numbers, the first of them 0.
+pub trait Worded {
+    // what the value says
+    ghost said: { Self → Answer };
+
+    fn words(self) -> [u64; 5]
+        ensures { result ≡ words_of (said self) };
 }
 
-pub fn tell_noted(r: Noted, answer: &mut [u64; 5]) -> u64
-    ensures { Writes (words_of (noted_says r)) answer.new result }
-{
-    match r {
-        Noted::Done => write([0, 0, 0, 0, 0], answer),
-        Noted::Refused(n) => write([n, 0, 0, 0, 0], answer),
+// Done.
+impl Worded for () {
+    ghost said = { λ u. ok };
+
+    fn words(self) -> [u64; 5] {
+        [0, 0, 0, 0, 0]
     }
 }
 
-pub fn tell_scheduled(r: Scheduled, answer: &mut [u64; 5]) -> u64
-    ensures { Writes (words_of (scheduled_says r)) answer.new result }
-{
-    match r {
-        Scheduled::Armed { slot, serial } => write([0, 1, slot as u64, serial, 0], answer),
-        Scheduled::Refused(n) => write([n, 0, 0, 0, 0], answer),
+impl Worded for Handle {
+    ghost said = { handle_told };
+
+    fn words(self) -> [u64; 5] {
+        [0, 1, self.slot as u64, self.serial, 0]
     }
 }
 
-pub fn tell_rescheduled(r: Rescheduled, answer: &mut [u64; 5]) -> u64
-    ensures { Writes (words_of (rescheduled_says r)) answer.new result }
-{
-    match r {
-        Rescheduled::Moved => write([0, 0, 0, 0, 0], answer),
-        Rescheduled::Removed => write([0, 2, 0, 0, 0], answer),
-        Rescheduled::Refused(n) => write([n, 0, 0, 0, 0], answer),
+impl Worded for Rescheduled {
+    ghost said = { rescheduled_told };
+
+    fn words(self) -> [u64; 5] {
+        match self {
+            Rescheduled::Moved => [0, 0, 0, 0, 0],
+            Rescheduled::Removed => [0, 2, 0, 0, 0],
+        }
     }
 }
 
-pub fn tell_pulled(r: Pulled, answer: &mut [u64; 5]) -> u64
-    ensures { Writes (words_of (pulled_says r)) answer.new result }
-{
-    match r {
-        Pulled::Expired {
-            entry,
-            serial,
-            deadline,
-        } => write([0, 4, entry as u64, serial, deadline], answer),
-        Pulled::Rescheduled {
-            entry,
-            serial,
-            place,
-        } => write([0, 5, entry as u64, serial, place], answer),
-        Pulled::End => write([0, 3, 0, 0, 0], answer),
-        Pulled::Refused(n) => write([n, 0, 0, 0, 0], answer),
+impl Worded for Event {
+    ghost said = { told };
+
+    fn words(self) -> [u64; 5] {
+        match self {
+            Event::End => [0, 3, 0, 0, 0],
+            Event::Expired {
+                entry,
+                serial,
+                deadline,
+            } => [0, 4, entry as u64, serial, deadline],
+            Event::Rescheduled {
+                entry,
+                serial,
+                place,
+            } => [0, 5, entry as u64, serial, place],
+        }
     }
 }
 
-pub fn tell_counted(r: Counted, answer: &mut [u64; 5]) -> u64
-    ensures { Writes (words_of (counted_says r)) answer.new result }
-{
-    match r {
-        Counted::Armed(count) => write([0, 6, count as u64, 0, 0], answer),
-        Counted::Refused(n) => write([n, 0, 0, 0, 0], answer),
+// A count.
+impl Worded for usize {
+    ghost said = { number };
+
+    fn words(self) -> [u64; 5] {
+        [0, 6, self as u64, 0, 0]
     }
 }
 
-pub fn tell_due(r: Due, answer: &mut [u64; 5]) -> u64
-    ensures { Writes (words_of (due_says r)) answer.new result }
-{
-    match r {
-        Due::At(deadline) => write([0, 7, deadline, 0, 0], answer),
-        Due::Never => write([0, 8, 0, 0, 0], answer),
-        Due::Refused(n) => write([n, 0, 0, 0, 0], answer),
+// The next deadline, or none.
+impl Worded for Option<u64> {
+    ghost said = { λ o. due (due_told o) };
+
+    fn words(self) -> [u64; 5] {
+        match self {
+            Some(deadline) => [0, 7, deadline, 0, 0],
+            None => [0, 8, 0, 0, 0],
+        }
     }
+}
+
+// Writes the answer, or the refusal's number and no value.
+pub fn tell<A: Worded>(r: Result<A, Refusal>, answer: &mut [u64; 5]) -> u64
+    ensures { Writes (words_of (says A.said r)) answer.new result }
+{
+    *answer = match r {
+        Ok(value) => value.words(),
+        Err(why) => [why.number(), 0, 0, 0, 0],
+    };
+    answer[0]
 }

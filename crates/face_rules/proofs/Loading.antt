@@ -3,20 +3,19 @@
 use Prim.Native.Nat.{ℕ, ◌≤◌, ◌<◌}
 use native.Mathlib.Omega.{arith}
 use mathlib.Core.Path.{◌≡◌, sym, subst, ◌∙◌}
-use mathlib.Core.Bool.{Bool}
 use mathlib.Core.List.{List, ◌++◌}
 use lib.ListN.{length, take, drop}
 use lib.Seq.{length-take-le, take_at}
 use Rattle.wheel_rules.specs.declared.calls.Clock.{Clock}
-use Rattle.wheel_rules.specs.Lent.{Records, lent}
+use Rattle.wheel_rules.specs.Lent.{Entries, Records, records}
 use Rattle.face_rules.specs.declared.Node.{Node}
-use Rattle.face_rules.specs.Face.{records_of as shown}
-use Rattle.face_rules.specs.nodes.Columns.{Columns, columns, columns_of, front, Holds, Loads, Stores}
-use Rattle.face_rules.specs.Works.{OfLoaded, OfStored}
+use Rattle.face_rules.specs.nodes.Columns.{Columns, columns, columns_of, front, Loads, Stores}
+use Rattle.face_rules.specs.Works.{lent_with as shown, slots, OfLoaded, OfStored}
+use Rattle.face_rules.proofs.nodes.Using.{Holds}
 
 -- the records that columns are, with heads and tails, the entries and the clock beside them
-abbrev pub held : List ℕ → List ℕ → Columns → List Bool → List ℕ → List ℕ → Clock → Records
-held h t k d l m c = lent h t k.next k.prev k.bucket k.entry k.generation k.serial d l m c
+abbrev pub held : List ℕ → List ℕ → Columns → Entries → Clock → Records
+held h t k E c = records (slots h t k) E c
 
 -- ---- columns k of which the first n were lent, and came back as j: what the columns are then
 abbrev pub over : ℕ → Columns → Columns → Columns
@@ -60,31 +59,30 @@ module _ (ns : List Node) (k : Columns) (n : ℕ) (fits : n ≤ 4096) (e : lengt
   stored : (ns' : List Node) → Stores ns k ns' → front n k ≡ columns_of ns'
   stored ns' o = sym (subst (λ (i : ℕ). columns_of ns' ≡ front i k) e (o.fits (omega arith)))
 
-module _ (P : Records → Records → Type 0) (k : Columns) (n : ℕ) (h t : List ℕ) (d : List Bool) (l m : List ℕ) (c : Clock) where
+module _ (P : Records → Records → Type 0) (k : Columns) (n : ℕ) (h t : List ℕ) (E : Entries) (c : Clock) where
   module _ (fits : n ≤ 4096) where
     -- no node is written
-    pub reads : {d' : List Bool} {l' m' : List ℕ} {b c' : Clock} → c' ≡ b
-        → P (held h t (front n k) d l m c) (held h t (front n k) d' l' m' b)
-        → OfLoaded k n (λ ns. P (shown h t ns d l m c) (shown h t ns d' l' m' c'))
-    reads {d'} {l'} {m'} {b} {c'} a p ns e o =
-        subst (λ (z : Columns). P (held h t z d l m c) (held h t z d' l' m' c')) (loaded ns k n fits e o)
-        (subst (λ (z : Clock). P (held h t (front n k) d l m c) (held h t (front n k) d' l' m' z)) (sym a) p)
+    pub reads : {E' : Entries} {b c' : Clock} → c' ≡ b → P (held h t (front n k) E c) (held h t (front n k) E' b)
+        → OfLoaded k n (λ ns. P (shown h t ns E c) (shown h t ns E' c'))
+    reads {E'} {b} {c'} a p ns e o =
+        subst (λ (z : Columns). P (held h t z E c) (held h t z E' c')) (loaded ns k n fits e o)
+        (subst (λ (z : Clock). P (held h t (front n k) E c) (held h t (front n k) E' z)) (sym a) p)
 
     -- nodes are written
-    pub writes : {k' j : Columns} {h' t' : List ℕ} {d' : List Bool} {l' m' : List ℕ} {b c' : Clock} → c' ≡ b → front n k' ≡ j
-        → P (held h t (front n k) d l m c) (held h' t' j d' l' m' b)
-        → OfStored k k' n (λ ns ns'. P (shown h t ns d l m c) (shown h' t' ns' d' l' m' c'))
-    writes {k'} {j} {h'} {t'} {d'} {l'} {m'} {b} {c'} a w p ns ns' e o s =
-        subst (λ (z : Columns). P (held h t z d l m c) (held h' t' (columns_of ns') d' l' m' c')) (loaded ns k n fits e o)
-        (subst (λ (z : Columns). P (held h t (front n k) d l m c) (held h' t' z d' l' m' c')) (sym w ∙ stored ns k' n fits e ns' s)
-        (subst (λ (z : Clock). P (held h t (front n k) d l m c) (held h' t' j d' l' m' z)) (sym a) p))
+    pub writes : {k' j : Columns} {h' t' : List ℕ} {E' : Entries} {b c' : Clock} → c' ≡ b → front n k' ≡ j
+        → P (held h t (front n k) E c) (held h' t' j E' b)
+        → OfStored k k' n (λ ns ns'. P (shown h t ns E c) (shown h' t' ns' E' c'))
+    writes {k'} {j} {h'} {t'} {E'} {b} {c'} a w p ns ns' e o s =
+        subst (λ (z : Columns). P (held h t z E c) (held h' t' (columns_of ns') E' c')) (loaded ns k n fits e o)
+        (subst (λ (z : Columns). P (held h t (front n k) E c) (held h' t' z E' c')) (sym w ∙ stored ns k' n fits e ns' s)
+        (subst (λ (z : Clock). P (held h t (front n k) E c) (held h' t' j E' z)) (sym a) p))
 
   -- more nodes than a wheel may have: every record stays
-  module _ (many : 4096 < n) (p : (ns : List Node) → 4096 < length ns → P (shown h t ns d l m c) (shown h t ns d l m c)) where
-    pub stays : OfLoaded k n (λ ns. P (shown h t ns d l m c) (shown h t ns d l m c))
+  module _ (many : 4096 < n) (p : (ns : List Node) → 4096 < length ns → P (shown h t ns E c) (shown h t ns E c)) where
+    pub stays : OfLoaded k n (λ ns. P (shown h t ns E c) (shown h t ns E c))
     stays ns e o = p ns (omega (arith, e))
 
-    pub stays_stored : {k' : Columns} → OfStored k k' n (λ ns ns'. P (shown h t ns d l m c) (shown h t ns' d l m c))
+    pub stays_stored : {k' : Columns} → OfStored k k' n (λ ns ns'. P (shown h t ns E c) (shown h t ns' E c))
     stays_stored ns ns' e o s =
         let f : 4096 < length ns = omega (arith, e) in
-        subst (λ (z : List Node). P (shown h t ns d l m c) (shown h t z d l m c)) (sym (s.stays f)) (p ns f)
+        subst (λ (z : List Node). P (shown h t ns E c) (shown h t z E c)) (sym (s.stays f)) (p ns f)

@@ -1,5 +1,4 @@
 -- The laws of lent nodes and their columns.
 pub mod Fills
-pub mod Written
 pub mod Using
 pub mod InPlace

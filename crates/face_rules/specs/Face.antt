@@ -1,18 +1,16 @@
 -- The wheel over one lent array of node structs, and as C functions: the records that lent nodes are, what the answers
 -- say, answers as five numbers, and the promise and the histories of the C functions.
-use Rattle.std.specs.Prelude.{ℕ, Bool, List, map, [], ◌∷◌, ◌≡◌, get_or}
+use Rattle.std.specs.Prelude.{ℕ, Bool, List, map, [], ◌∷◌, ◌≡◌, get_or, Result}
 use Rattle.std.proofs.Math.Option.{none, some}
-use Rattle.face_rules.specs.declared.Pulled.{Pulled}
-use Rattle.face_rules.specs.declared.Pulled.TheVariants.{Expired, Rescheduled as Placed, End, Refused as PulledRefused}
-use Rattle.face_rules.specs.declared.Rescheduled.{Rescheduled}
-use Rattle.face_rules.specs.declared.Rescheduled.TheVariants.{Moved, Removed, Refused as RescheduledRefused}
-use Rattle.face_rules.specs.declared.Scheduled.{Scheduled}
-use Rattle.face_rules.specs.declared.Scheduled.TheVariants.{Armed, Refused as ScheduledRefused}
 use Rattle.face_rules.specs.declared.Node.{Node}
+use Rattle.numbers.specs.declared.refusals.Refusal.{Refusal}
 use Rattle.rules.specs.Wheel.{Answer, refused, handle, ok, removed, end, expired, rescheduled, number, due, Call, create}
-use Rattle.wheel_rules.specs.Promise.{Promised}
+use Rattle.wheel_rules.specs.Promise.{Promised, says, handle_told, rescheduled_told, told}
 use Rattle.wheel_rules.specs.Lent.{Records, lent}
 use Rattle.wheel_rules.specs.declared.calls.Clock.{Clock}
+use Rattle.wheel_rules.specs.declared.calls.Event.{Event}
+use Rattle.wheel_rules.specs.declared.calls.Handle.{Handle}
+use Rattle.wheel_rules.specs.declared.calls.Rescheduled.{Rescheduled}
 
 -- ======== lent nodes
 
@@ -43,20 +41,14 @@ records_of h t ns d l m c = lent h t (next_slots ns) (prev_slots ns) (bucket_num
 -- ======== answers
 
 -- "A refusal carries its number and no value"
-abbrev pub scheduled_says : Scheduled → Answer
-scheduled_says (Armed slot serial) = handle slot serial
-scheduled_says (ScheduledRefused n) = refused n
+abbrev pub scheduled_says : Result Handle Refusal → Answer
+scheduled_says = says handle_told
 
-abbrev pub rescheduled_says : Rescheduled → Answer
-rescheduled_says Moved = ok
-rescheduled_says Removed = removed
-rescheduled_says (RescheduledRefused n) = refused n
+abbrev pub rescheduled_says : Result Rescheduled Refusal → Answer
+rescheduled_says = says rescheduled_told
 
-abbrev pub pulled_says : Pulled → Answer
-pulled_says (Expired entry serial deadline) = expired entry serial deadline
-pulled_says (Placed entry serial place) = rescheduled entry serial place
-pulled_says End = end
-pulled_says (PulledRefused n) = refused n
+abbrev pub pulled_says : Result Event Refusal → Answer
+pulled_says = says told
 
 -- ======== answers in numbers
 

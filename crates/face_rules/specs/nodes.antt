@@ -1,4 +1,3 @@
 -- Lent nodes and the six columns that they are read into.
 pub mod Columns
 pub mod Laid
-pub mod Blocks

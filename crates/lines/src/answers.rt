@@ -5,7 +5,7 @@ ghost use Rattle.lines.specs.Answers.{Appended, AppendedNumber, AppendedField, p
 
 use crate::parts::first;
 
-// The bytes that wait are the first of the buffer.
+// The bytes that wait are the first of the buffer. (A fixed array: a rule of the project, no heap.)
 #[derive(Drop)]
 pub struct Answers {
     pub out: [u8; 65536],

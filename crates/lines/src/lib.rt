@@ -2,10 +2,10 @@
 // buffer.
 //
 // Every function is proved and none of the public ones has a `requires`. What a line means is said in specs/, on lists
-// of bytes. A program is a loop: `Lines` goes to the next line, `requested` says what it asks for (or `kind_of`, `count`,
-// `is_part` and `number_at` take it apart), `tell` notes what is answered, and `Answers` puts its line after those that
-// wait, and writes them out before more is read; `flush` ends it. What reads takes a handle to the input, what may write
-// one to the output: `main` passes on its runtime.
+// of bytes. A program is a loop: `Lines` goes to the next line, `requested` says what it asks for (or `kind_of`,
+// `count`, `is_part` and `number_at` take it apart), `tell` notes what is answered, and `Answers` puts its line after
+// those that wait, and writes them out before more is read; `flush` ends it. What reads takes a handle to the input,
+// what may write one to the output: `main` passes on its runtime.
 #![tactic(auto)]
 
 mod answers;

@@ -8,7 +8,8 @@ use crate::parts::part;
 
 const DASH: &[u8] = b"-";
 
-// What a part says: a number up to 2^64 - 1, none, or something else.
+// What a part says: a number up to 2^64 - 1, none, or something else. (A Result of an Option is no plainer: it nests
+// what are three cases with names here.)
 #[derive(Clone, Copy)]
 pub enum Number {
     Is(u64),
@@ -36,8 +37,8 @@ pub fn read_number(text: &[u8]) -> Number
     digits(text).map_or(Number::Other, Number::Is)
 }
 
-// The number that the bytes stand for as decimal digits. (std's parse is no plainer here: it takes text alone, and reads
-// a sign too.)
+// The number that the bytes stand for as decimal digits. (std's parse is no plainer: it takes text alone, and reads a
+// sign too.)
 fn digits(text: &[u8]) -> Option<u64>
     ensures { said result ≡ read_on 0 text.now }
 {

@@ -1,2 +1,2 @@
--- What the loops over lent nodes are made of: a field read, a block of them.
+-- What the loops over lent nodes are made of: a field of the nodes, read into a column.
 pub mod Reading

@@ -1,40 +1,46 @@
 -- A field of lent nodes, read into its column.
---     reads_more     one node more is read
---     reads_on       a block, and then the block after it
---     block_within   the block ends within the nodes that go
-use Rattle.std.proofs.Common.{◌≡◌, ◌∙◌, sym, ap, ℕ, ◌+◌, ◌≤◌, ◌<◌, List, map, length, get_or, arith, add-one}
-use lib.ListN.{set, length-map, get_or-map}
+--     reads_more     one node more of a block
+--     reads_on       a block, after the nodes that are read
+use borrow.Rule.Slice.PartMut.{put_mid}
+use Rattle.std.proofs.Common.{◌≡◌, ◌∙◌, refl, sym, ap, ℕ, zero, suc, ◌+◌, ◌-◌, ◌≤◌, ◌<◌, List, [], ◌∷◌, ◌++◌, map, length, get_or, take, drop, arith}
+use Rattle.std.proofs.Common.{add-one, append_assoc, length-append, length-take-le, length-drop, take-add, take_at}
+use Rattle.std.proofs.lemmas.List.{drop-drop, drop_at, length-map, map-append}
+use lib.ListN.{set}
+use native.Mathlib.Nat.{le_of_suc-le-suc, not-suc-le-zero}
 use Rattle.face_rules.specs.declared.Node.{Node}
-use Rattle.face_rules.specs.nodes.Blocks.{written, end_of}
-use Rattle.face_rules.specs.nodes.Columns.{used_of}
-use Rattle.face_rules.proofs.nodes.Written.{written_more}
-use Rattle.face_rules.proofs.nodes.Using.{blank, read_to, read_to_on, used_le, used_fits_lem, ends_past, ends_within}
 
-pub reads_more : (g : Node → ℕ) (ns : List Node) (xs ys : List ℕ) (from i : ℕ)
-    → from ≤ i → i < length ns → i < length xs → ys ≡ written (map g ns) from i xs
-    → set ys i (g (get_or ns i blank)) ≡ written (map g ns) from (i + 1) xs
-reads_more g ns xs ys from i a b c e =
-    ap (λ (l : List ℕ). set l i (g (get_or ns i blank))) e
-    ∙ ap (λ (v : ℕ). set (written (map g ns) from i xs) i v) (sym (get_or-map g ns i blank))
-    ∙ written_more (map g ns) xs from i (g blank) a (omega (arith, length-map ns g)) c
-    ∙ ap (λ (k : ℕ). written (map g ns) from k xs) (sym (add-one i))
+module _ {A B : Type 0} (f : A → B) (d : A) where
+  more : (xs : List A) (ys : List B) (i : ℕ) → i < length xs → i < length ys
+      → set (map f (take i xs) ++ drop i ys) i (f (get_or xs i d)) ≡ map f (take (suc i) xs) ++ drop (suc i) ys
+  more [] ys i a b = absurd (not-suc-le-zero a)
+  more (x ∷ xs) [] i a b = absurd (not-suc-le-zero b)
+  more (x ∷ xs) (y ∷ ys) zero a b = refl
+  more (x ∷ xs) (y ∷ ys) (suc i) a b = ap (λ l. f x ∷ l) (more xs ys i (le_of_suc-le-suc a) (le_of_suc-le-suc b))
 
-module _ (ns : List Node) (i to n : ℕ) (all : n ≡ used_of (length ns)) (end : to ≡ end_of i n) (more : i < n) where
-  block_past : i < to
-  block_past = omega (arith, ends_past i n more)
+  pub reads_more : (xs : List A) (ys zs : List B) (i : ℕ) → i < length xs → length ys ≡ length xs → zs ≡ map f (take i xs) ++ drop i ys
+      → set zs i (f (get_or xs i d)) ≡ map f (take (i + 1) xs) ++ drop (i + 1) ys
+  reads_more xs ys zs i a same e =
+      ap (λ l. set l i (f (get_or xs i d))) e ∙ more xs ys i a (omega (arith, same))
+      ∙ ap (λ k. map f (take k xs) ++ drop k ys) (sym (add-one i))
 
-  pub block_within : to ≤ n
-  block_within = omega (arith, ends_within i n)
+-- the nodes after the first `from` begin with a block
+module _ (ns block rest : List Node) (from : ℕ) (within : from ≤ length ns) (next : drop from ns ≡ block ++ rest) where
+  abbrev to : ℕ
+  to = from + length block
 
-  of_lent : to ≤ length ns
-  of_lent = omega (arith, block_within, used_le (length ns))
+  whole : take to ns ≡ take from ns ++ block
+  whole = take-add from (length block) ns ∙ ap (λ l. take from ns ++ l) (ap (take (length block)) next ∙ take_at block rest _ refl)
 
-  few : to ≤ 4096
-  few = omega (arith, block_within, used_fits_lem (length ns))
+  pub reads_on : (g : Node → ℕ) (xs ys : List ℕ) → to ≤ length xs → take from xs ≡ map g (take from ns) → ys ≡ map g block
+      → take to (put_mid from (to - from) xs ys) ≡ map g (take to ns)
+  reads_on g xs ys room before here =
+      let long : length (take from xs ++ ys) ≡ to =
+      omega (arith, length-append (take from xs) ys, length-take-le from xs (omega (arith, room)), ap length here, length-map block g) in
+      ap (take to) (sym (append_assoc (take from xs) ys _)) ∙ take_at (take from xs ++ ys) _ to long ∙ (λ i. before i ++ here i)
+      ∙ sym (map-append g (take from ns) block) ∙ ap (map g) (sym whole)
 
-  pub reads_on : (g : Node → ℕ) (xs ys zs : List ℕ)
-      → 4096 ≤ length xs → ys ≡ read_to g ns xs i → zs ≡ written (map g ns) i to ys → zs ≡ read_to g ns xs to
-  reads_on g xs ys zs long e f =
-      f
-      ∙ ap (λ (l : List ℕ). written (map g ns) i to l) e
-      ∙ read_to_on g ns xs i to (omega (arith, block_past)) of_lent (omega (arith, few))
+  pub left_is : rest ≡ drop to ns
+  left_is = sym (sym (drop-drop (length block) from ns) ∙ ap (drop (length block)) next ∙ drop_at block rest _ refl)
+
+  pub to_within : to ≤ length ns
+  to_within = omega (arith, ap length next, length-append block rest, length-drop from ns)

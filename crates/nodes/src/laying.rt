@@ -1,19 +1,13 @@
 // The lent nodes as enabling lays them out, written in place: nothing is read of them. For proved code only, unchecked:
 // more of them than a wheel may have are written too.
 ghost use Rattle.std.specs.Prelude.{◌≡◌, ◌<◌};
-ghost use Rattle.face_rules.specs.nodes.Laid.{turns_of, laid_node, Laid};
+ghost use Rattle.face_rules.specs.nodes.Laid.{laid_node, Laid};
 ghost use Rattle.rules.specs.Places.{wheel01, buckets};
 
 use deque::NONE;
 use face_rules::Node;
-use wheel_refusals::BUCKETS;
 
-// How many of n nodes are written: all of them or none.
-fn turns(n: usize, on: bool) -> usize
-    ensures { result ≡ turns_of on n }
-{
-    if on { n } else { 0 }
-}
+use wheel_refusals::BUCKETS;
 
 // The slot i of n: a sentinel, alone in the bucket of its number; or free, before the one above it.
 fn laid_node(i: usize, n: usize) -> Node
@@ -40,10 +34,11 @@ fn laid_node(i: usize, n: usize) -> Node
 pub fn lay(nodes: &mut [Node], on: bool)
     ensures { Laid nodes.old on nodes.new }
 {
-    let n = turns(nodes.len(), on);
-    let mut i = 0;
-    while i < n {
-        nodes[i] = laid_node(i, n);
-        i += 1;
+    if !on {
+        return;
+    }
+    let n = nodes.len();
+    for (i, node) in nodes.iter_mut().enumerate() {
+        *node = laid_node(i, n);
     }
 }

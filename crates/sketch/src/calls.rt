@@ -1,10 +1,12 @@
 // The sketch's public calls: refusals in order, then the unchecked work.
 ghost use Rattle.std.specs.Prelude.{◌≡◌, ◌<◌, ◌≤◌};
-ghost use Rattle.sketch_rules.specs.Sketch.{sample_for, unused_sketch, Ensures, Estimates, Increases};
+ghost use Rattle.numbers.specs.Refusals.{refusal_in};
+ghost use Rattle.sketch_rules.specs.Sketch.{standing, sample_for, unused_sketch, Ensures, Estimates, Increases};
 
 use crate::sound::is_sound;
 use crate::unchecked;
-use sketch_rules::{Ensured, Estimated, Increased, Sketch};
+use numbers::refusals::Refusal;
+use sketch_rules::Sketch;
 
 // The record of a sketch that is not used yet: it takes its table with the first capacity that is ensured.
 pub fn unused() -> Sketch
@@ -14,6 +16,18 @@ pub fn unused() -> Sketch
         used: 0,
         sample: 0,
         size: 0,
+    }
+}
+
+// The refusal that each call tests first: the record is not sound.
+#[tactic(auto, unfolding(sketch_rules::specs::Sketch::standing))]
+fn standing(table: &[u64], sketch: Sketch) -> Result<(), Refusal>
+    ensures { refusal_in result ≡ standing table.now sketch }
+{
+    if is_sound(table.len(), sketch) {
+        Ok(())
+    } else {
+        Err(Refusal::NotSound)
     }
 }
 
@@ -27,57 +41,53 @@ fn sample_for(capacity: u64) -> u64
 
 // Makes the table long enough for a capacity, if it is not already: the longer table's words are all 0 then, and the
 // size count stays. Refused: 4, 15 (capacity above 65,536), 14 (the lent table is too short to grow).
-pub fn ensure_capacity(table: &mut [u64], sketch: Sketch, capacity: u64) -> Ensured
+#[tactic(auto, unfolding(sketch_rules::specs::Sketch::standing, sketch_rules::specs::Sketch::ensure_refusal, sketch_rules::specs::Sketch::ensured_table, sketch_rules::specs::Sketch::ensured_sketch))]
+pub fn ensure_capacity(table: &mut [u64], sketch: Sketch, capacity: u64) -> Result<Sketch, Refusal>
     ensures { Ensures table.old sketch capacity result table.new }
 {
-    if !is_sound(table.len(), sketch) {
-        return Ensured::Refused(4);
-    }
+    standing(table, sketch)?;
     if capacity > 65536 {
-        return Ensured::Refused(15);
+        return Err(Refusal::CapacityTooLarge);
     }
     let words = numbers::power_for(capacity) as usize;
     if words <= sketch.used {
-        return Ensured::Done(sketch);
+        return Ok(sketch);
     }
     if table.len() < words {
-        return Ensured::Refused(14);
+        return Err(Refusal::TableTooShort);
     }
-    let sample = sample_for(capacity);
     unchecked::clear(table, words);
-    Ensured::Done(Sketch {
+    Ok(Sketch {
         used: words,
-        sample,
+        sample: sample_for(capacity),
         size: sketch.size,
     })
 }
 
 // The least of a hash's four counters; 0 where the sketch is unused. Refused: 4.
-pub fn estimate(table: &[u64], sketch: Sketch, hash: u64) -> Estimated
+#[tactic(auto, unfolding(sketch_rules::specs::Sketch::estimate_of))]
+pub fn estimate(table: &[u64], sketch: Sketch, hash: u64) -> Result<u64, Refusal>
     ensures { Estimates table.now sketch hash result }
 {
-    if !is_sound(table.len(), sketch) {
-        return Estimated::Refused(4);
+    standing(table, sketch)?;
+    if sketch.used == 0 {
+        return Ok(0);
     }
-    let used = sketch.used;
-    if used == 0 {
-        return Estimated::Least(0);
-    }
-    Estimated::Least(unchecked::least_count(table, used, hash))
+    Ok(unchecked::least_count(table, sketch.used, hash))
 }
 
 // Raises the four counters of a hash that are below 15, and ages the table where the size count comes to the sample
 // size; does nothing where the sketch is unused. Refused: 4.
-pub fn increase(table: &mut [u64], sketch: Sketch, hash: u64) -> Increased
+#[tactic(auto, unfolding(sketch_rules::specs::Sketch::standing, sketch_rules::specs::Sketch::increased_table, sketch_rules::specs::Sketch::increased_sketch))]
+pub fn increase(table: &mut [u64], sketch: Sketch, hash: u64) -> Result<Sketch, Refusal>
     ensures { Increases table.old sketch hash result table.new }
 {
+    // Not `standing(table, sketch)?`: an increase is slower with it.
     if !is_sound(table.len(), sketch) {
-        return Increased::Refused(4);
+        return Err(Refusal::NotSound);
     }
     if sketch.used == 0 {
-        return Increased::Done(sketch);
+        return Ok(sketch);
     }
-    let counted = unchecked::raise_hash(table, sketch, hash);
-    let after = counted.sketch;
-    Increased::Done(after)
+    Ok(unchecked::raise_hash(table, sketch, hash).sketch)
 }

@@ -33,7 +33,7 @@ pub fn halve(w: u64) -> u64
 pub fn count_odd(w: u64) -> u32
     ensures { result ≡ odds w }
 {
-    u64::count_ones(w & 0x1111_1111_1111_1111)
+    (w & 0x1111_1111_1111_1111).count_ones()
 }
 
 // Halves each counter of the first `used` words of a table, and counts those that were odd.
@@ -43,13 +43,10 @@ pub fn age(table: &mut [u64], used: usize) -> u32
     ensures value { result ≡ odds_to used table.old }
     ensures table_after { table.new ≡ halved_to used table.old }
 {
-    let mut odd: u32 = 0;
-    let mut i = 0;
-    while i < used {
-        let w = table[i];
-        odd += count_odd(w);
-        table[i] = halve(w);
-        i += 1;
+    let mut odd = 0;
+    for w in &mut table[..used] {
+        odd += count_odd(*w);
+        *w = halve(*w);
     }
     odd
 }

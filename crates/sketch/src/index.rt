@@ -3,20 +3,15 @@
 ghost use Rattle.std.specs.Prelude.{◌≡◌, ◌<◌, true};
 ghost use Rattle.numbers.specs.Shared.{is_power_to};
 ghost use Rattle.sketch_rules.specs.Index.{Places};
-ghost use Rattle.sketch_rules.specs.Sketch.{seed, word_index};
+ghost use Rattle.sketch_rules.specs.Sketch.{word_index};
 
-// The seed of a depth.
-fn seed_of(depth: u64) -> u64
-    requires { depth < 4 }
-    ensures { result ≡ seed depth }
-{
-    match depth {
-        0 => 0xc3a5_c85c_97cb_3127,
-        1 => 0xb492_b66f_be98_f273,
-        2 => 0x9ae1_6a3b_2f90_404f,
-        _ => 0xcbf2_9ce4_8422_2325,
-    }
-}
+// The seed of each depth.
+const SEEDS: [u64; 4] = [
+    0xc3a5_c85c_97cb_3127,
+    0xb492_b66f_be98_f273,
+    0x9ae1_6a3b_2f90_404f,
+    0xcbf2_9ce4_8422_2325,
+];
 
 // The word of a hash at a depth, in a table of so many words.
 pub fn word_at(hash: u64, depth: u64, words: u64) -> u64
@@ -24,23 +19,17 @@ pub fn word_at(hash: u64, depth: u64, words: u64) -> u64
     requires words_value { is_power_to 16 words ≡ true }
     ensures { Places hash depth words result }
 {
-    let s = seed_of(depth);
-    let x = numbers::wrapping_mul(std::num::wrapping_add_u64(hash, s), s);
-    std::num::wrapping_add_u64(x, x >> 32) & (words - 1)
+    let seed = SEEDS[depth as usize];
+    let x = hash.wrapping_add(seed).wrapping_mul(seed);
+    x.wrapping_add(x >> 32) & (words - 1)
 }
 
 // For the host: the word of a hash at a depth, in a table of `mask` + 1 words; 65,536 where the depth is above 3 or
-// `mask` + 1 is not a power of two up to 65,536.
+// `mask` + 1 is not a power of two up to 65,536. A number and no Option: the C interface has this answer.
 pub fn word_index(hash: u64, depth: u64, mask: u64) -> u64
     ensures { result ≡ word_index hash depth mask }
 {
-    if depth > 3 {
-        return 65536;
-    }
-    if mask > 65535 {
-        return 65536;
-    }
-    if numbers::is_power(mask + 1) {
+    if depth < 4 && mask < 65536 && numbers::is_power(mask + 1) {
         word_at(hash, depth, mask + 1)
     } else {
         65536

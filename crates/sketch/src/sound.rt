@@ -5,12 +5,11 @@ ghost use Rattle.sketch_rules.specs.Sketch.{sound};
 use sketch_rules::Sketch;
 
 // Whether the record is sound. A power of two L is what a capacity c gives just where L / 2 < c and c <= L.
+// Tests one by one: as one condition of `&&` they are slower, since a loop of increases then makes them in each turn.
 pub fn is_sound(lent: usize, sketch: Sketch) -> bool
     ensures { result ≡ sound lent sketch }
 {
-    let used = sketch.used;
-    let sample = sketch.sample;
-    let size = sketch.size;
+    let Sketch { used, sample, size } = sketch;
     if used == 0 {
         return sample == 0 && size == 0;
     }

@@ -1,18 +1,14 @@
-// The sketch's work on a sound record, unchecked: for proved code only.
-ghost use Rattle.std.specs.Prelude.{◌≡◌, ◌<◌, ◌≤◌, min, ◌++◌, length, drop, replicate};
+// The sketch's work on a sound record, unchecked: for proved code only. The table and the length in use stay two
+// parameters with a `requires` on both: a type that holds the fact would ask more of who calls these public functions.
+ghost use Rattle.std.specs.Prelude.{◌≡◌, ◌<◌, ◌≤◌, ◌++◌, length, drop, replicate};
 ghost use Rattle.sketch_rules.specs.Aging.{Ready, Settles, Raises};
 ghost use Rattle.sketch_rules.specs.Hashes.{InUse, Counts};
 ghost use Rattle.sketch_rules.specs.Sketch.{least, raised_at, rises_at, grown_size, aged_size};
 
+use crate::counters::{age, counter_at, raise};
 use crate::index::word_at;
 pub use sketch_rules::Counted;
 use sketch_rules::Sketch;
-
-fn smaller(a: u64, b: u64) -> u64
-    ensures { result ≡ min a b }
-{
-    if a < b { a } else { b }
-}
 
 // The least of a hash's four counters.
 pub fn least_count(table: &[u64], used: usize, hash: u64) -> u64
@@ -20,16 +16,13 @@ pub fn least_count(table: &[u64], used: usize, hash: u64) -> u64
     ensures { result ≡ least hash used table.now }
 {
     let words = used as u64;
-    let start = 4 * (hash % 4);
-    let mut best: u64 = 15;
-    let mut i: u64 = 0;
-    while i < 4 {
-        let at = word_at(hash, i, words) as usize;
-        let w = table[at];
-        best = smaller(best, crate::counters::counter_at(w, start + i));
-        i += 1;
+    let first = 4 * (hash % 4);
+    let mut least: u64 = 15;
+    for depth in 0..4 {
+        let at = word_at(hash, depth, words) as usize;
+        least = least.min(counter_at(table[at], first + depth));
     }
-    best
+    least
 }
 
 // Raises counter k of the word at a place, where it is below 15; 1 if it was.
@@ -40,13 +33,12 @@ fn raise_at(table: &mut [u64], at: usize, k: u64) -> u64
     ensures table_after { table.new ≡ raised_at table.old at k }
 {
     let w = table[at];
-    let v = crate::counters::raise(w, k);
-    if v != w {
-        table[at] = v;
-        1
-    } else {
-        0
+    let v = raise(w, k);
+    if v == w {
+        return 0;
     }
+    table[at] = v;
+    1
 }
 
 // Raises the four counters of a hash that are below 15; how many were.
@@ -55,15 +47,13 @@ pub fn count(table: &mut [u64], used: usize, hash: u64) -> u64
     ensures { Counts hash used table.old result table.new }
 {
     let words = used as u64;
-    let start = 4 * (hash % 4);
-    let mut up: u64 = 0;
-    let mut i: u64 = 0;
-    while i < 4 {
-        let at = word_at(hash, i, words) as usize;
-        up += raise_at(table, at, start + i);
-        i += 1;
+    let first = 4 * (hash % 4);
+    let mut rose = 0;
+    for depth in 0..4 {
+        let at = word_at(hash, depth, words) as usize;
+        rose += raise_at(table, at, first + depth);
     }
-    up
+    rose
 }
 
 // Zeroes the first words of a table.
@@ -71,11 +61,7 @@ pub fn clear(table: &mut [u64], words: usize)
     requires { words ≤ length table.old }
     ensures { table.new ≡ replicate words 0 ++ drop words table.old }
 {
-    let mut i = 0;
-    while i < words {
-        table[i] = 0;
-        i += 1;
-    }
+    table[..words].fill(0);
 }
 
 // The size count after so many counters rose.
@@ -94,9 +80,7 @@ fn grown_size(sketch: Sketch, rose: u64) -> u64
 fn aged_size(size: u64, odd: u64) -> u64
     ensures { result ≡ aged_size size odd }
 {
-    let half = size / 2;
-    let less = odd / 4;
-    if less <= half { half - less } else { 0 }
+    (size / 2).saturating_sub(odd / 4)
 }
 
 // Ages the table if the size count has come to the sample size.
@@ -104,25 +88,19 @@ fn settle(table: &mut [u64], sketch: Sketch, size: u64, rose: u64) -> Counted
     requires { InUse sketch.used table.old }
     ensures { Settles sketch size rose table.old result table.new }
 {
-    let used = sketch.used;
-    let sample = sketch.sample;
-    if size < sample {
+    if size < sketch.sample {
         return Counted {
             rose,
             aged: false,
-            sketch: Sketch { used, sample, size },
+            sketch: Sketch { size, ..sketch },
         };
     }
-    let odd = crate::counters::age(table, used);
-    let left = aged_size(size, odd as u64);
+    let odd = age(table, sketch.used);
+    let size = aged_size(size, u64::from(odd));
     Counted {
         rose,
         aged: true,
-        sketch: Sketch {
-            used,
-            sample,
-            size: left,
-        },
+        sketch: Sketch { size, ..sketch },
     }
 }
 
@@ -131,8 +109,7 @@ pub fn raise_hash(table: &mut [u64], sketch: Sketch, hash: u64) -> Counted
     requires { Ready table.old sketch }
     ensures { Raises table.old sketch hash result table.new }
 {
-    let used = sketch.used;
-    let rose = count(table, used, hash);
+    let rose = count(table, sketch.used, hash);
     let size = grown_size(sketch, rose);
     settle(table, sketch, size, rose)
 }

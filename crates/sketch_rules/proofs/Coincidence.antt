@@ -6,13 +6,10 @@ use native.Mathlib.Omega.{arith}
 use lib.ListN.{length, get_or}
 use Rattle.numbers.specs.Shared.{Reply as Answer}
 use Rattle.sketch_rules.specs.declared.Sketch.{Sketch}
-use Rattle.sketch_rules.specs.declared.Ensured.{Ensured}
-use Rattle.sketch_rules.specs.declared.Ensured.TheVariants as ensured
-use Rattle.sketch_rules.specs.declared.Estimated.{Estimated}
-use Rattle.sketch_rules.specs.declared.Estimated.TheVariants as estimated
-use Rattle.sketch_rules.specs.declared.Increased.{Increased}
-use Rattle.sketch_rules.specs.declared.Increased.TheVariants as increased
-use Rattle.sketch_rules.specs.Sketch.{word_index, fields, unused_sketch, ensured_says, estimated_says, increased_says, Ensures, Estimates, Increases}
+use Rattle.std.specs.Prelude.{Result, Ok, Err}
+use Rattle.numbers.specs.declared.refusals.Refusal.{Refusal}
+use Rattle.numbers.proofs.Numbered.{number_once}
+use Rattle.sketch_rules.specs.Sketch.{word_index, fields, unused_sketch, sketch_says, estimated_says, Ensures, Estimates, Increases}
 
 -- ---- an answer's number and values leave one answer
 
@@ -33,39 +30,33 @@ same_sketch s u e =
 pub no_values : (x : ℕ) (xs : List ℕ) → (x ∷ xs) ≡ [] → ⊥
 no_values x xs e = omega (arith, ap length e)
 
-ensured_only : (r u : Ensured) → ensured_says r ≡ ensured_says u → r ≡ u
-ensured_only (ensured.Done s) (ensured.Done t) e = ap ensured.Done (same_sketch s t (values_of e))
-ensured_only (ensured.Done s) (ensured.Refused n) e = absurd (no_values _ _ (values_of e))
-ensured_only (ensured.Refused n) (ensured.Done s) e = absurd (no_values _ _ (sym (values_of e)))
-ensured_only (ensured.Refused n) (ensured.Refused m) e = ap (λ (x : Answer). ensured.Refused x.number) e
+sketch_only : (r u : Result Sketch Refusal) → sketch_says r ≡ sketch_says u → r ≡ u
+sketch_only (Ok s) (Ok t) e = ap Ok (same_sketch s t (values_of e))
+sketch_only (Ok s) (Err n) e = absurd (no_values _ _ (values_of e))
+sketch_only (Err n) (Ok s) e = absurd (no_values _ _ (sym (values_of e)))
+sketch_only (Err n) (Err m) e = ap Err (number_once n m (ap (λ (x : Answer). x.number) e))
 
-estimated_only : (r u : Estimated) → estimated_says r ≡ estimated_says u → r ≡ u
-estimated_only (estimated.Least k) (estimated.Least j) e = ap (λ (x : Answer). estimated.Least (get_or x.values 0 0)) e
-estimated_only (estimated.Least k) (estimated.Refused n) e = absurd (no_values _ _ (values_of e))
-estimated_only (estimated.Refused n) (estimated.Least k) e = absurd (no_values _ _ (sym (values_of e)))
-estimated_only (estimated.Refused n) (estimated.Refused m) e = ap (λ (x : Answer). estimated.Refused x.number) e
-
-increased_only : (r u : Increased) → increased_says r ≡ increased_says u → r ≡ u
-increased_only (increased.Done s) (increased.Done t) e = ap increased.Done (same_sketch s t (values_of e))
-increased_only (increased.Done s) (increased.Refused n) e = absurd (no_values _ _ (values_of e))
-increased_only (increased.Refused n) (increased.Done s) e = absurd (no_values _ _ (sym (values_of e)))
-increased_only (increased.Refused n) (increased.Refused m) e = ap (λ (x : Answer). increased.Refused x.number) e
+estimated_only : (r u : Result ℕ Refusal) → estimated_says r ≡ estimated_says u → r ≡ u
+estimated_only (Ok k) (Ok j) e = ap (λ (x : Answer). Ok (get_or x.values 0 0)) e
+estimated_only (Ok k) (Err n) e = absurd (no_values _ _ (values_of e))
+estimated_only (Err n) (Ok k) e = absurd (no_values _ _ (sym (values_of e)))
+estimated_only (Err n) (Err m) e = ap Err (number_once n m (ap (λ (x : Answer). x.number) e))
 
 -- ---- the calls
 
 pub unused_coincides : (r u : Sketch) → r ≡ unused_sketch → u ≡ unused_sketch → r ≡ u
 unused_coincides r u p q = p ∙ sym q
 
-pub ensure_coincides : (t : List ℕ) (s : Sketch) (capacity : ℕ) (r u : Ensured) (a b : List ℕ)
+pub ensure_coincides : (t : List ℕ) (s : Sketch) (capacity : ℕ) (r u : Result Sketch Refusal) (a b : List ℕ)
     → Ensures t s capacity r a → Ensures t s capacity u b → (r ≡ u) × (a ≡ b)
-ensure_coincides t s capacity r u a b p q = (ensured_only r u (p.says ∙ sym q.says), p.table ∙ sym q.table)
+ensure_coincides t s capacity r u a b p q = (sketch_only r u (p.says ∙ sym q.says), p.table ∙ sym q.table)
 
-pub estimate_coincides : (t : List ℕ) (s : Sketch) (hash : ℕ) (r u : Estimated) → Estimates t s hash r → Estimates t s hash u → r ≡ u
+pub estimate_coincides : (t : List ℕ) (s : Sketch) (hash : ℕ) (r u : Result ℕ Refusal) → Estimates t s hash r → Estimates t s hash u → r ≡ u
 estimate_coincides t s hash r u p q = estimated_only r u (p.says ∙ sym q.says)
 
-pub increase_coincides : (t : List ℕ) (s : Sketch) (hash : ℕ) (r u : Increased) (a b : List ℕ)
+pub increase_coincides : (t : List ℕ) (s : Sketch) (hash : ℕ) (r u : Result Sketch Refusal) (a b : List ℕ)
     → Increases t s hash r a → Increases t s hash u b → (r ≡ u) × (a ≡ b)
-increase_coincides t s hash r u a b p q = (increased_only r u (p.says ∙ sym q.says), p.table ∙ sym q.table)
+increase_coincides t s hash r u a b p q = (sketch_only r u (p.says ∙ sym q.says), p.table ∙ sym q.table)
 
 -- the host's function
 pub word_index_coincides : (hash depth mask r u : ℕ) → r ≡ word_index hash depth mask → u ≡ word_index hash depth mask → r ≡ u

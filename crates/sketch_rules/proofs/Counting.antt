@@ -1,45 +1,28 @@
 -- One depth after the other: what a turn of the loops over the four depths does.
 use mathlib.Core.Path.{◌≡◌, refl, sym, ap, ap₂, ◌∙◌}
-use mathlib.Core.Bool.{Bool, true, false, cond}
+use mathlib.Core.Bool.{cond}
 use mathlib.Core.List.{List}
 use Prim.Native.Nat.{ℕ, zero, suc, ◌+◌, ◌≤◌, ◌<◌, zero-le, min}
-use native.Mathlib.Nat.{le_refl}
 use native.Mathlib.Numerals.{add-one}
 use native.Mathlib.Omega.{arith}
 use lib.Dec.{ltb}
-use lib.ListN.{length, get_or, set, length-set}
-use lib.Seq.{set-get_or}
-use borrow.Author.Tests.{ltb-true, ltb-false}
+use lib.ListN.{length, get_or, length-set}
 use Rattle.sketch_rules.specs.Sketch.{counter, raised, word_at, counter_of, count_at, least, raised_at, rises_at, counted, rose}
 use Rattle.sketch_rules.proofs.Words.{counter_below}
-use Rattle.sketch_rules.proofs.Rises.{raised_new, raised_same, one_up}
+use Rattle.sketch_rules.proofs.Rises.{raised_same}
 
 -- ---- raising: the word changes just where the counter rises
 
 pub word_changed : (w k v : ℕ) → v ≡ raised w k → (v ≡ w → ⊥) → ◌≡◌ {A = ℕ} 1 (cond (ltb (counter w k) 15) 1 0)
-word_changed w k v e n = go (ltb (counter w k) 15) refl
-  where
-    go : (b : Bool) → ltb (counter w k) 15 ≡ b → ◌≡◌ {A = ℕ} 1 (cond b 1 0)
-    go true h = refl
-    go false h = absurd (n (e ∙ raised_same w k (ltb-false (counter w k) 15 h)))
-
-pub word_same : (w k v : ℕ) → v ≡ raised w k → v ≡ w → ◌≡◌ {A = ℕ} 0 (cond (ltb (counter w k) 15) 1 0)
-word_same w k v e q = go (ltb (counter w k) 15) refl
-  where
-    go : (b : Bool) → ltb (counter w k) 15 ≡ b → ◌≡◌ {A = ℕ} 0 (cond b 1 0)
-    go true h = absurd (omega (arith, e, q, raised_new w k (ltb-true (counter w k) 15 h), one_up k))
-    go false h = refl
-
--- and then the table is as it was
-pub table_same : (t : List ℕ) (at k v : ℕ) → v ≡ raised (get_or t at 0) k → v ≡ get_or t at 0 → t ≡ raised_at t at k
-table_same t at k v e q = sym (ap (set t at) (sym e ∙ q) ∙ set-get_or t at 0)
+word_changed w k v e n = grind (arith, raised_same)
 
 pub rises_le : (t : List ℕ) (at k : ℕ) → rises_at t at k ≤ 1
-rises_le t at k = go (ltb (counter (get_or t at 0) k) 15)
-  where
-    go : (b : Bool) → cond b 1 0 ≤ 1
-    go true = le_refl 1
-    go false = zero-le
+rises_le t at k = grind arith
+
+pub rose_le : (hash n i : ℕ) (t : List ℕ) → rose hash n i t ≤ i
+unfolding rose
+rose_le hash n zero t = zero-le
+rose_le hash n (suc i) t = omega (arith, rose_le hash n i t, rises_le (counted hash n i t) (word_at hash i n) (counter_of hash i))
 
 pub counted_length : (hash n i : ℕ) (t : List ℕ) → length (counted hash n i t) ≡ length t
 unfolding counted

@@ -7,11 +7,11 @@ use Prim.Native.Nat.{ℕ, ◌+◌, ◌*◌, ◌≤◌, ◌<◌}
 use native.Mathlib.Omega.{arith}
 use lib.Dec.{eqb, ltb, leb}
 use lib.ListN.{length, replicate, drop, length-append, length-replicate, length-drop}
-use borrow.Author.Tests.{eqb-true, eqb-false, eq-eqb, ltb-true, ltb-false, leb-false, le-leb, lt-ltb}
+use borrow.Author.Tests.{eqb-true, eqb-false, eq-eqb, ltb-true, ltb-false, le-leb, lt-ltb}
 use Rattle.numbers.specs.Shared.{is_power_to, power_for}
 use Rattle.numbers.proofs.Powers.{power_means, power_gap, power_for_power, power_from, power_least, power_most, power_for_half}
 use Rattle.numbers.proofs.Replies.{and_both, and_right}
-use Rattle.sketch_rules.specs.Sketch.{halved_to, odds_to, sound, words_for, sample_for, gives, rose, grown_size, is_full, aged_size, settled_table}
+use Rattle.sketch_rules.specs.Sketch.{odds_to, sound, words_for, sample_for, gives, rose, grown_size, is_full, aged_size, settled_table}
 use Rattle.sketch_rules.specs.Sketch.{settled_sketch, raised_table, raised_size, increased_table, increased_sketch, unused_sketch, must_grow, ensure_refusal}
 use Rattle.sketch_rules.specs.Sketch.{ensured_table, ensured_sketch, SketchCall as Call, ensure_capacity, estimate_hash, increase_hash, Holding as Held}
 use Rattle.sketch_rules.specs.Sketch.{refusal_of, sketch_done as done, sketch_after as step, run}
@@ -31,26 +31,14 @@ unused_sound_lem lent = sym (blank_size lent unused_sketch refl refl)
 -- ---- increase
 
 settled_length : (s : Sketch) (size : ℕ) (t : List ℕ) → length (settled_table s size t) ≡ length t
-settled_length s size t = go (is_full s size)
-  where
-    go : (b : Bool) → length (cond b (halved_to s.used t) t) ≡ length t
-    go true = halved_length s.used t
-    go false = refl
+settled_length s size t = grind (arith, halved_length)
 
 -- the size count grows by at most 1, and an aging brings it below the sample size again
 settled_size : (s : Sketch) (size odd : ℕ) → size ≤ s.sample → 0 < s.sample → cond (is_full s size) (aged_size size odd) size < s.sample
-settled_size s size odd l h = go (is_full s size) refl
-  where
-    go : (b : Bool) → is_full s size ≡ b → cond b (aged_size size odd) size < s.sample
-    go true e = omega arith
-    go false e = leb-false s.sample size e
+settled_size s size odd l h = grind arith
 
 grown_le : (s : Sketch) (risen : ℕ) → s.size < s.sample → grown_size s risen ≤ s.sample
-grown_le s risen l = go (ltb 0 risen)
-  where
-    go : (b : Bool) → cond b (s.size + 1) s.size ≤ s.sample
-    go true = omega arith
-    go false = omega arith
+grown_le s risen l = grind arith
 
 increased_used : (t : List ℕ) (s : Sketch) (hash : ℕ) → Used (length t) s
     → sound (length (settled_table s (raised_size t s hash) (raised_table t s hash))) (settled_sketch s (raised_size t s hash) (raised_table t s hash)) ≡ true
@@ -86,7 +74,7 @@ increase_keeps t s hash h = go (eqb s.used 0) refl
 -- ---- ensure capacity
 
 grown_length : (n : ℕ) (t : List ℕ) → n ≤ length t → length (replicate n 0 ++ drop n t) ≡ length t
-grown_length n t l = length-append (replicate n 0) (drop n t) ∙ omega (arith, length-replicate {A = ℕ} n 0, length-drop n t)
+grown_length n t l = omega (arith, length-append {A = ℕ}, length-replicate {A = ℕ}, length-drop {A = ℕ})
 
 words_of_one : words_for 1 ≡ words_for 0
 unfolding power_for

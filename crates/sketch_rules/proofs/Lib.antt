@@ -6,7 +6,6 @@ pub mod Passes
 pub mod Places
 pub mod Counting
 pub mod Soundness
-pub mod Settling
 pub mod Promises
 pub mod Coincidence
 pub mod Kept

@@ -1,11 +1,11 @@
 -- A pass over the first words of a table that halves each and counts the odd counters.
 use mathlib.Core.Path.{◌≡◌, refl, sym, ap, ap₂, ◌∙◌}
-use mathlib.Core.List.{List, [], ◌∷◌}
+use mathlib.Core.List.{List, [], ◌∷◌, ◌++◌}
 use Prim.Native.Nat.{ℕ, zero, suc, ◌+◌, ◌*◌, ◌%◌, ◌≤◌, ◌<◌, zero-le}
 use native.Mathlib.Nat.{not-suc-le-zero, le_of_suc-le-suc, mod-lt, zero-lt-suc, le_refl}
 use native.Mathlib.Omega.{arith}
 use native.Mathlib.Numerals.{add-one}
-use lib.ListN.{length, get_or, set}
+use lib.ListN.{length, get_or, set, take, drop}
 use Rattle.sketch_rules.specs.Sketch.{counter, sum_to as total, odds, halved, halved_to, odds_to}
 
 pub halved_length : (n : ℕ) (t : List ℕ) → length (halved_to n t) ≡ length t
@@ -58,6 +58,19 @@ unfolding odds_to
 odds_to_le zero t = zero-le
 odds_to_le (suc n) [] = zero-le
 odds_to_le (suc n) (w ∷ t) = omega (arith, odds_le w, odds_to_le n t)
+
+-- a pass over the first words is one over the whole of them alone
+pub halved_part : (n : ℕ) (t : List ℕ) → halved_to n (take n t) ++ drop n t ≡ halved_to n t
+unfolding halved_to
+halved_part zero t = refl
+halved_part (suc n) [] = refl
+halved_part (suc n) (w ∷ t) = ap (λ (r : List ℕ). halved w ∷ r) (halved_part n t)
+
+pub odds_part : (n : ℕ) (t : List ℕ) → odds_to n (take n t) ≡ odds_to n t
+unfolding odds_to
+odds_part zero t = refl
+odds_part (suc n) [] = refl
+odds_part (suc n) (w ∷ t) = ap (λ (r : ℕ). odds w + r) (odds_part n t)
 
 -- one turn of the pass: word i is read, halved and counted
 module _ (t₀ t : List ℕ) (i : ℕ) (h : i < length t₀) (e : t ≡ halved_to i t₀) where

@@ -1,106 +1,41 @@
--- The public promises, from the refusals and the unchecked work.
-use mathlib.Core.Path.{◌≡◌, sym, ap, ap₂, ◌∙◌}
-use mathlib.Core.Bool.{Bool, true, false, cond, not}
-use mathlib.Core.List.{List, [], ◌∷◌, ◌++◌}
+-- The rows of refusals, and what a sketch that no row stops is ready for.
+use mathlib.Core.Path.{◌≡◌}
+use mathlib.Core.Bool.{true}
+use mathlib.Core.List.{List}
 use Prim.Native.Nat.{ℕ, ◌≤◌, ◌<◌}
-use lib.Dec.{eqb}
-use lib.ListN.{length, replicate, drop}
-use borrow.Author.Tests.{eq-eqb, ne_eqb, lt-ltb, le-ltb}
-use Rattle.numbers.specs.Shared.{replied as answered, refused_by as refused, reply, unless_refused}
+use native.Mathlib.Omega.{arith}
+use lib.ListN.{length}
+use borrow.Author.Tests.{lt-ltb, le-ltb}
 use Rattle.sketch_rules.specs.declared.Sketch.{Sketch}
-use Rattle.sketch_rules.specs.declared.Ensured.TheVariants as ensured
-use Rattle.sketch_rules.specs.declared.Estimated.TheVariants as estimated
-use Rattle.sketch_rules.specs.declared.Increased.TheVariants as increased
-use Rattle.sketch_rules.specs.declared.Counted.{Counted}
-use Rattle.sketch_rules.specs.Sketch.{sound, words_for, sample_for, least, settled_table, settled_sketch, raised_table, raised_size, increased_table}
-use Rattle.sketch_rules.specs.Sketch.{increased_sketch, fields, ensure_refusal, ensured_table, ensured_sketch, Ensures, standing, estimate_of, Estimates}
-use Rattle.sketch_rules.specs.Sketch.{Increases}
+use Rattle.sketch_rules.specs.Sketch.{sound, words_for}
+use Rattle.sketch_rules.specs.Sketch.{ensure_refusal, standing}
 use Rattle.sketch_rules.specs.Hashes.{InUse}
-use Rattle.sketch_rules.specs.Aging.{Ready, Raises}
+use Rattle.sketch_rules.specs.Aging.{Ready}
 use Rattle.sketch_rules.proofs.Soundness.{sound_in_use}
 
--- ---- estimate and increase: the refusal
-
-pub not_standing : (t : List ℕ) (s : Sketch) → sound (length t) s ≡ false → standing t s ≡ 4
-unfolding standing
-not_standing t s e = ap (λ (b : Bool). cond (not b) 4 0) e
+-- ---- the first row, of all three calls
 
 pub stands : (t : List ℕ) (s : Sketch) → sound (length t) s ≡ true → standing t s ≡ 0
 unfolding standing
-stands t s e = ap (λ (b : Bool). cond (not b) 4 0) e
+stands t s e = simp e
+
+pub is_sound_if : (t : List ℕ) (s : Sketch) → 0 ≡ standing t s → sound (length t) s ≡ true
+unfolding standing
+is_sound_if t s e = grind arith
 
 -- ---- a sound sketch in use is ready for the unchecked work
 
-pub in_use : (t : List ℕ) (s : Sketch) → sound (length t) s ≡ true → (s.used ≡ 0 → ⊥) → InUse s.used t
+pub in_use : (t : List ℕ) (s : Sketch) → 0 ≡ standing t s → (s.used ≡ 0 → ⊥) → InUse s.used t
 in_use t s e n =
-    let u = sound_in_use (length t) s e n in
+    let u = sound_in_use (length t) s (is_sound_if t s e) n in
     record { power = u.power; some = u.some; most = u.most; inside = u.inside }
 
-pub ready : (t : List ℕ) (s : Sketch) → sound (length t) s ≡ true → (s.used ≡ 0 → ⊥) → Ready t s
-ready t s e n = record { table = in_use t s e n; size = (sound_in_use (length t) s e n).size }
-
--- ---- estimate
-
-pub estimate_refused : (t : List ℕ) (s : Sketch) (hash : ℕ) → sound (length t) s ≡ false → Estimates t s hash (estimated.Refused 4)
-estimate_refused t s hash e = record { says = ap (λ (n : ℕ). reply n (estimate_of t s hash ∷ [])) (sym (not_standing t s e)) }
-
-estimate_given : (t : List ℕ) (s : Sketch) (hash k : ℕ) → sound (length t) s ≡ true → k ≡ estimate_of t s hash → Estimates t s hash (estimated.Least k)
-estimate_given t s hash k e f = record { says = ap₂ (λ (n m : ℕ). reply n (m ∷ [])) (sym (stands t s e)) f }
-
-pub estimate_unused : (t : List ℕ) (s : Sketch) (hash : ℕ) → sound (length t) s ≡ true → s.used ≡ 0 → Estimates t s hash (estimated.Least 0)
-unfolding estimate_of
-estimate_unused t s hash e z =
-    estimate_given t s hash 0 e (ap (λ (b : Bool). cond b 0 (least hash s.used t)) (sym (eq-eqb s.used 0 z)))
-
-pub estimate_least : (t : List ℕ) (s : Sketch) (hash k : ℕ) → sound (length t) s ≡ true → (s.used ≡ 0 → ⊥) → k ≡ least hash s.used t
-    → Estimates t s hash (estimated.Least k)
-unfolding estimate_of
-estimate_least t s hash k e n f =
-    estimate_given t s hash k e (f ∙ ap (λ (b : Bool). cond b 0 (least hash s.used t)) (sym (ne_eqb s.used 0 n)))
-
--- ---- increase
-
-pub increase_refused : (t : List ℕ) (s : Sketch) (hash : ℕ) → sound (length t) s ≡ false → Increases t s hash (increased.Refused 4) t
-increase_refused t s hash e =
-    let z = sym (not_standing t s e) in
-    record {
-      says = ap (λ (n : ℕ). reply n (fields (increased_sketch t s hash))) z;
-      table = ap (λ (n : ℕ). unless_refused n t (increased_table t s hash)) z;
-    }
-
-increase_given : (t : List ℕ) (s : Sketch) (hash : ℕ) (next : Sketch) (after : List ℕ) → sound (length t) s ≡ true
-    → next ≡ increased_sketch t s hash → after ≡ increased_table t s hash → Increases t s hash (increased.Done next) after
-increase_given t s hash next after e f g =
-    let z = sym (stands t s e) in
-    record {
-      says = ap (λ (u : Sketch). answered (fields u)) f ∙ ap (λ (n : ℕ). reply n (fields (increased_sketch t s hash))) z;
-      table = g ∙ ap (λ (n : ℕ). unless_refused n t (increased_table t s hash)) z;
-    }
-
-pub increase_unused : (t : List ℕ) (s : Sketch) (hash : ℕ) → sound (length t) s ≡ true → s.used ≡ 0 → Increases t s hash (increased.Done s) t
-unfolding increased_sketch increased_table
-increase_unused t s hash e z =
-    let u = sym (eq-eqb s.used 0 z) in
-    increase_given t s hash s t e
-    (ap (λ (b : Bool). cond b s (settled_sketch s (raised_size t s hash) (raised_table t s hash))) u)
-    (ap (λ (b : Bool). cond b t (settled_table s (raised_size t s hash) (raised_table t s hash))) u)
-
-pub increase_done : (t : List ℕ) (s : Sketch) (hash : ℕ) (r : Counted) (after : List ℕ) → sound (length t) s ≡ true → (s.used ≡ 0 → ⊥)
-    → Raises t s hash r after → Increases t s hash (increased.Done r.sketch) after
-unfolding increased_sketch increased_table
-increase_done t s hash r after e n f =
-    let u = sym (ne_eqb s.used 0 n) in
-    increase_given t s hash r.sketch after e
-    (f.settles.sketch ∙ ap (λ (b : Bool). cond b s (settled_sketch s (raised_size t s hash) (raised_table t s hash))) u)
-    (f.settles.table ∙ ap (λ (b : Bool). cond b t (settled_table s (raised_size t s hash) (raised_table t s hash))) u)
+pub ready : (t : List ℕ) (s : Sketch) → 0 ≡ standing t s → (s.used ≡ 0 → ⊥) → Ready t s
+ready t s e n = record { table = in_use t s e n; size = (sound_in_use (length t) s (is_sound_if t s e) n).size }
 
 -- ---- ensure capacity: the rows of its refusal
 
 module _ (t : List ℕ) (s : Sketch) (capacity : ℕ) where
-  pub ensure_not_sound : sound (length t) s ≡ false → ensure_refusal t s capacity ≡ 4
-  unfolding ensure_refusal
-  ensure_not_sound e = simp e
-
   pub ensure_too_large : sound (length t) s ≡ true → 65536 < capacity → ensure_refusal t s capacity ≡ 15
   unfolding ensure_refusal
   ensure_too_large e l = simp (e, lt-ltb 65536 capacity l)
@@ -118,40 +53,3 @@ module _ (t : List ℕ) (s : Sketch) (capacity : ℕ) where
       → ensure_refusal t s capacity ≡ 0
   unfolding ensure_refusal
   ensure_grows e l g h = simp (e, le-ltb 65536 capacity l, lt-ltb s.used (words_for capacity) g, le-ltb (length t) (words_for capacity) h)
-
--- ---- ensure capacity
-
-pub ensure_refused : (t : List ℕ) (s : Sketch) (capacity n : ℕ) → ensure_refusal t s capacity ≡ n → eqb n 0 ≡ false
-    → Ensures t s capacity (ensured.Refused n) t
-ensure_refused t s capacity n e f = record {
-  says = ap (λ (b : Bool). cond b (answered (fields (ensured_sketch s capacity))) (refused n)) (sym f) ∙ ap
-      (λ (m : ℕ). reply m (fields (ensured_sketch s capacity))) (sym e);
-  table = ap (λ (b : Bool). cond b (ensured_table t s capacity) t) (sym f) ∙ ap (λ (m : ℕ). unless_refused m t (ensured_table t s capacity)) (sym e);
-}
-
-ensure_given : (t : List ℕ) (s : Sketch) (capacity : ℕ) (next : Sketch) (after : List ℕ) → ensure_refusal t s capacity ≡ 0
-    → next ≡ ensured_sketch s capacity → after ≡ ensured_table t s capacity → Ensures t s capacity (ensured.Done next) after
-ensure_given t s capacity next after e f g = record {
-  says = ap (λ (u : Sketch). answered (fields u)) f ∙ ap (λ (m : ℕ). reply m (fields (ensured_sketch s capacity))) (sym e);
-  table = g ∙ ap (λ (m : ℕ). unless_refused m t (ensured_table t s capacity)) (sym e);
-}
-
-pub ensure_same : (t : List ℕ) (s : Sketch) (capacity : ℕ) → ensure_refusal t s capacity ≡ 0 → words_for capacity ≤ s.used
-    → Ensures t s capacity (ensured.Done s) t
-unfolding ensured_sketch ensured_table
-ensure_same t s capacity e l =
-    let u = sym (le-ltb s.used (words_for capacity) l) in
-    ensure_given t s capacity s t e
-    (ap (λ (b : Bool). cond b (record { used = words_for capacity; sample = sample_for capacity; size = s.size }) s) u)
-    (ap (λ (b : Bool). cond b (replicate (words_for capacity) 0 ++ drop (words_for capacity) t) t) u)
-
-pub ensure_grown : (t : List ℕ) (s : Sketch) (capacity words sample : ℕ) (after : List ℕ) → ensure_refusal t s capacity ≡ 0
-    → s.used < words_for capacity → words ≡ words_for capacity → sample ≡ sample_for capacity → after ≡ replicate words 0 ++ drop words t
-    → Ensures t s capacity (ensured.Done (record { used = words; sample = sample; size = s.size })) after
-unfolding ensured_sketch ensured_table
-ensure_grown t s capacity words sample after e l p q f =
-    let u = sym (lt-ltb s.used (words_for capacity) l) in
-    ensure_given t s capacity (record { used = words; sample = sample; size = s.size }) after e
-    (ap₂ (λ (w m : ℕ). record { used = w; sample = m; size = s.size }) p q
-    ∙ ap (λ (b : Bool). cond b (record { used = words_for capacity; sample = sample_for capacity; size = s.size }) s) u)
-    (f ∙ ap (λ (w : ℕ). replicate w 0 ++ drop w t) p ∙ ap (λ (b : Bool). cond b (replicate (words_for capacity) 0 ++ drop (words_for capacity) t) t) u)

@@ -3,12 +3,9 @@
 use Rattle.std.specs.Prelude.{ℕ, ◌/◌, ◌%◌, ◌^◌, zero, suc, ◌+◌, ◌*◌, min, ◌-◌, cond, ◌&&◌, Bool, ◌||◌, not, List, []}
 use Rattle.std.specs.Prelude.{◌∷◌, ◌++◌, ◌≡◌, ltb, leb, eqb, get_or, set, length, replicate, drop}
 use Rattle.numbers.specs.Shared.{is_power_to, power_for, Reply, replied, refused_by, row, refusal, reply, unless_refused}
-use Rattle.sketch_rules.specs.declared.Ensured.{Ensured}
-use Rattle.sketch_rules.specs.declared.Ensured.TheVariants as ensured
-use Rattle.sketch_rules.specs.declared.Estimated.{Estimated}
-use Rattle.sketch_rules.specs.declared.Estimated.TheVariants as estimated
-use Rattle.sketch_rules.specs.declared.Increased.{Increased}
-use Rattle.sketch_rules.specs.declared.Increased.TheVariants as increased
+use Rattle.std.specs.Prelude.{Result, Ok, Err}
+use Rattle.numbers.specs.Refusals.{number_of}
+use Rattle.numbers.specs.declared.refusals.Refusal.{Refusal}
 use Rattle.sketch_rules.specs.declared.Sketch.{Sketch}
 
 -- ======== a word as sixteen counters of four bits
@@ -188,17 +185,20 @@ sound lent s = used_fits lent s && cond (eqb s.used 0) (unused_sound s) (used_so
 abbrev pub fields : Sketch → List ℕ
 fields s = s.used ∷ s.sample ∷ s.size ∷ []
 
-abbrev pub ensured_says : Ensured → Reply
-ensured_says (ensured.Done s) = replied (fields s)
-ensured_says (ensured.Refused n) = refused_by n
+-- what a call says that answers a record
+abbrev pub sketch_says : Result Sketch Refusal → Reply
+sketch_says (Ok s) = replied (fields s)
+sketch_says (Err why) = refused_by (number_of why)
 
-abbrev pub estimated_says : Estimated → Reply
-estimated_says (estimated.Least k) = replied (k ∷ [])
-estimated_says (estimated.Refused n) = refused_by n
+abbrev pub ensured_says : Result Sketch Refusal → Reply
+ensured_says = sketch_says
 
-abbrev pub increased_says : Increased → Reply
-increased_says (increased.Done s) = replied (fields s)
-increased_says (increased.Refused n) = refused_by n
+abbrev pub estimated_says : Result ℕ Refusal → Reply
+estimated_says (Ok k) = replied (k ∷ [])
+estimated_says (Err why) = refused_by (number_of why)
+
+abbrev pub increased_says : Result Sketch Refusal → Reply
+increased_says = sketch_says
 
 abbrev pub unused_sketch : Sketch
 unused_sketch = record { used = 0; sample = 0; size = 0 }
@@ -220,7 +220,7 @@ ensured_table t s capacity = cond (must_grow s capacity) (replicate (words_for c
 unfoldable pub ensured_sketch : Sketch → ℕ → Sketch
 ensured_sketch s capacity = cond (must_grow s capacity) (record { used = words_for capacity; sample = sample_for capacity; size = s.size }) s
 
-pub record Ensures (t : List ℕ) (s : Sketch) (capacity : ℕ) (r : Ensured) (after : List ℕ) : Type 0 where
+pub record Ensures (t : List ℕ) (s : Sketch) (capacity : ℕ) (r : Result Sketch Refusal) (after : List ℕ) : Type 0 where
   pub says : ensured_says r ≡ reply (ensure_refusal t s capacity) (fields (ensured_sketch s capacity))
   pub table : after ≡ unless_refused (ensure_refusal t s capacity) t (ensured_table t s capacity)
 
@@ -231,10 +231,10 @@ standing t s = refusal (row (not (sound (length t) s)) 4 ∷ [])
 unfoldable pub estimate_of : List ℕ → Sketch → ℕ → ℕ
 estimate_of t s hash = cond (eqb s.used 0) 0 (least hash s.used t)
 
-pub record Estimates (t : List ℕ) (s : Sketch) (hash : ℕ) (r : Estimated) : Type 0 where
+pub record Estimates (t : List ℕ) (s : Sketch) (hash : ℕ) (r : Result ℕ Refusal) : Type 0 where
   pub says : estimated_says r ≡ reply (standing t s) (estimate_of t s hash ∷ [])
 
-pub record Increases (t : List ℕ) (s : Sketch) (hash : ℕ) (r : Increased) (after : List ℕ) : Type 0 where
+pub record Increases (t : List ℕ) (s : Sketch) (hash : ℕ) (r : Result Sketch Refusal) (after : List ℕ) : Type 0 where
   pub says : increased_says r ≡ reply (standing t s) (fields (increased_sketch t s hash))
   pub table : after ≡ unless_refused (standing t s) t (increased_table t s hash)
 

@@ -1,72 +1,34 @@
-// What a call answers, as it is told: a word's place in the table and up to three numbers. A call that may change the
-// record writes it.
+// What a call answers, and the line that says it.
 use lines::{Answers, Lines};
-use sketch_rules::{Ensured, Estimated, Increased, Sketch};
+use sketch::{Refusal, Sketch};
 
-// The words of the table below, in its order.
-pub const OK: u64 = 0;
+#[derive(Clone, Copy, Debug, PartialEq, Eq)]
+pub enum Answer {
+    Done,
+    Index(u64),
+    Record(Sketch),
+    Digest(u64),
+    Estimate(u64),
+    Word(u64),
+    BadLine,
+    NoLine,
+}
 
-const REFUSED: u64 = 1;
-
-pub const INDEX: u64 = 2;
-
-pub const RECORD: u64 = 3;
-
-pub const DIGEST: u64 = 4;
-
-const ESTIMATE: u64 = 5;
-
-pub const WORD: u64 = 6;
-
-// Puts the line of what was told after the answers that wait.
-pub fn say(rt: &impl Print, answers: &mut Answers, told: &[u64; 6], input: &Lines) {
+// Puts the answer's line after the answers that wait. A line is told by the place of its word in the table and its
+// numbers.
+pub fn say(rt: &impl Print, answers: &mut Answers, answer: Result<Answer, Refusal>, input: &Lines) {
+    let mut told = [0; 6];
+    match answer {
+        Ok(Answer::Done) => lines::tell(&mut told, 0, 0, 0, 0, 0),
+        Err(why) => lines::tell(&mut told, 1, 1, why.number(), 0, 0),
+        Ok(Answer::Index(n)) => lines::tell(&mut told, 2, 1, n, 0, 0),
+        Ok(Answer::Record(s)) => lines::tell(&mut told, 3, 3, s.used as u64, s.sample, s.size),
+        Ok(Answer::Digest(n)) => lines::tell(&mut told, 4, 1, n, 0, 0),
+        Ok(Answer::Estimate(n)) => lines::tell(&mut told, 5, 1, n, 0, 0),
+        Ok(Answer::Word(n)) => lines::tell(&mut told, 6, 1, n, 0, 0),
+        Ok(Answer::BadLine) => lines::tell(&mut told, lines::BAD_LINE, 0, 0, 0, 0),
+        Ok(Answer::NoLine) => lines::tell(&mut told, lines::NO_LINE, 0, 0, 0, 0),
+    }
     let words = b"ok refused index record digest estimate word";
-    answers.say(rt, words, told, input);
-}
-
-// Tells a word and one number, if it has one.
-pub fn answer(told: &mut [u64; 6], word: u64, numbers: u64, n: u64) -> &mut [u64; 6] {
-    lines::tell(told, word, numbers, n, 0, 0);
-    told
-}
-
-// Writes the record, and tells `ok`.
-pub fn recorded<'a>(
-    record: &mut [u64; 3],
-    told: &'a mut [u64; 6],
-    used: u64,
-    sample: u64,
-    size: u64,
-) -> &'a mut [u64; 6] {
-    *record = [used, sample, size];
-    answer(told, OK, 0, 0)
-}
-
-fn done<'a>(record: &mut [u64; 3], told: &'a mut [u64; 6], after: Sketch) -> &'a mut [u64; 6] {
-    recorded(record, told, after.used as u64, after.sample, after.size)
-}
-
-pub fn increased<'a>(
-    record: &mut [u64; 3],
-    told: &'a mut [u64; 6],
-    r: Increased,
-) -> &'a mut [u64; 6] {
-    match r {
-        Increased::Done(after) => done(record, told, after),
-        Increased::Refused(n) => answer(told, REFUSED, 1, n),
-    }
-}
-
-pub fn ensured<'a>(record: &mut [u64; 3], told: &'a mut [u64; 6], r: Ensured) -> &'a mut [u64; 6] {
-    match r {
-        Ensured::Done(after) => done(record, told, after),
-        Ensured::Refused(n) => answer(told, REFUSED, 1, n),
-    }
-}
-
-pub fn estimated(told: &mut [u64; 6], r: Estimated) -> &mut [u64; 6] {
-    match r {
-        Estimated::Least(n) => answer(told, ESTIMATE, 1, n),
-        Estimated::Refused(n) => answer(told, REFUSED, 1, n),
-    }
+    answers.say(rt, words, &told, input);
 }

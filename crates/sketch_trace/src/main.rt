@@ -6,32 +6,29 @@ mod calls;
 mod requests;
 
 use crate::answers::say;
-use crate::calls::{perform, unused};
-use crate::requests::{State, after, planned};
+use crate::calls::perform;
+use crate::requests::{Request, requested};
 use lines::{Answers, Lines};
 
-// Answers line by line to the end of the input. The words are lent to a call and are its to the end of it: it hands
-// back what it told.
+// Answers line by line to the end of the input. The words that were lent last are lent to each call.
 fn main(rt: HostRuntime) {
     let mut table = [0u64; 65536];
-    let mut record = unused();
-    let mut told = [0u64; 6];
+    let mut record = sketch::unused();
+    let mut lent = None;
     let mut input = Lines::new();
     let mut answers = Answers::new();
-    let mut state = State {
-        lent: false,
-        words: 0,
-    };
     for _ in 0..u64::MAX {
         input.advance(&rt);
         let Some(line) = input.line() else {
             break;
         };
-        let plan = planned(state, line);
-        let n = plan.words;
-        perform(&mut table[..n], &mut record, &mut told, plan);
-        say(&rt, &mut answers, &told, &input);
-        state = after(state, plan);
+        let request = requested(line, lent.is_some());
+        if let Request::Lend(words) = request {
+            lent = Some(words);
+        }
+        let words = lent.unwrap_or(0).min(65536);
+        let answer = perform(&mut table[..words], &mut record, request);
+        say(&rt, &mut answers, answer, &input);
     }
     answers.flush(&rt);
 }

@@ -1,122 +1,68 @@
-// A line as a request: the call that it names, its numbers, and how many words are lent to it.
-ghost use Rattle.std.specs.Prelude.{◌≤◌};
-
+// A line as a request: the call that it names, with its numbers.
 use lines::Asked;
-
-// The calls, in the order of their names in the table below; then a line that is none, and one that asks nothing.
-pub const LEND: usize = 0;
-
-pub const INDEX: usize = 1;
-
-pub const RECORD: usize = 2;
-
-pub const DIGEST: usize = 3;
-
-pub const INCREASE: usize = 4;
-
-pub const ESTIMATE: usize = 5;
-
-pub const ENSURE: usize = 6;
-
-pub const WORD: usize = 7;
-
-pub const POKE_WORD: usize = 8;
-
-pub const POKE_RECORD: usize = 9;
-
-pub const BAD: usize = 10;
-
-pub const SILENT: usize = 11;
 
 const MOST_WORDS: u64 = 65536;
 
-// Whether words were lent, and how many.
-#[derive(Clone, Copy)]
-pub struct State {
-    pub lent: bool,
-    pub words: usize,
+// The calls; a line that is none; and one that asks nothing.
+#[derive(Clone, Copy, Debug, PartialEq, Eq)]
+pub enum Request {
+    Lend(usize),
+    Index { hash: u64, depth: u64, mask: u64 },
+    Record,
+    Digest,
+    Increase(u64),
+    Estimate(u64),
+    Ensure(u64),
+    Word(usize),
+    PokeWord { at: usize, word: u64 },
+    PokeRecord { used: usize, sample: u64, size: u64 },
+    Bad,
+    Silent,
 }
 
-// A call with its numbers, and how many words are lent to it.
-#[derive(Clone, Copy)]
-pub struct Plan {
-    pub call: usize,
-    pub words: usize,
-    pub a: u64,
-    pub b: u64,
-    pub c: u64,
-}
-
-// What the line asks for, on no more words than there are.
-pub fn planned(s: State, line: &[u8]) -> Plan
-    ensures { result.words ≤ 65536 }
-{
+// What the line asks for. Before the first lend only `lend` and `index` are calls.
+pub fn requested(line: &[u8], is_lent: bool) -> Request {
     let names = b"lend index record digest increase estimate ensure word poke-word poke-record";
-    let asked = lines::requested(line, names);
-    let call = call_of(s, asked);
-    let [a, b, c] = numbers_of(asked);
-    Plan {
-        call,
-        words: lent_to(s, call, a),
-        a,
-        b,
-        c,
-    }
-}
-
-// The line's numbers; 0 where it has none.
-fn numbers_of(asked: Option<Asked>) -> [u64; 3] {
-    match asked {
-        Some(asked) => asked.numbers,
-        None => [0; 3],
-    }
-}
-
-// The call that a line is, if it has as many numbers as the call. Before the first lend only `lend` and `index` are
-// calls, and no more words can be lent than there are.
-fn call_of(s: State, asked: Option<Asked>) -> usize {
-    let Some(asked) = asked else {
-        return SILENT;
+    let Some(asked) = lines::requested(line, names) else {
+        return Request::Silent;
     };
-    let Some(word) = asked.word else {
-        return BAD;
+    let call = call_of(asked);
+    if is_lent || matches!(call, Request::Lend(_) | Request::Index { .. }) {
+        call
+    } else {
+        Request::Bad
+    }
+}
+
+// The call that a line is, by the place of its word in the table, if it has as many numbers as the call. No more words
+// can be lent than there are.
+fn call_of(asked: Asked) -> Request {
+    let Some(name) = asked.word else {
+        return Request::Bad;
     };
-    if asked.parts != parts_of(word) {
-        return BAD;
-    }
-    if word == LEND && asked.numbers[0] > MOST_WORDS {
-        return BAD;
-    }
-    if !s.lent && word > INDEX {
-        return BAD;
-    }
-    word
-}
-
-// How many parts a line has that begins with the word.
-fn parts_of(word: usize) -> usize {
-    match word {
-        INDEX => 4,
-        RECORD => 1,
-        DIGEST => 1,
-        POKE_WORD => 3,
-        POKE_RECORD => 4,
-        _ => 2,
-    }
-}
-
-// How many words are lent to the call: those of the first number to `lend`, else those that were lent.
-fn lent_to(s: State, call: usize, a: u64) -> usize
-    ensures { result ≤ 65536 }
-{
-    let words = if call == LEND { a as usize } else { s.words };
-    lines::within(words, 65536)
-}
-
-// The state that the call leaves.
-pub fn after(s: State, plan: Plan) -> State {
-    State {
-        lent: s.lent || plan.call == LEND,
-        words: plan.words,
+    let [a, b, c] = asked.numbers;
+    match (name, asked.parts) {
+        (0, 2) if a <= MOST_WORDS => Request::Lend(a as usize),
+        (1, 4) => Request::Index {
+            hash: a,
+            depth: b,
+            mask: c,
+        },
+        (2, 1) => Request::Record,
+        (3, 1) => Request::Digest,
+        (4, 2) => Request::Increase(a),
+        (5, 2) => Request::Estimate(a),
+        (6, 2) => Request::Ensure(a),
+        (7, 2) => Request::Word(a as usize),
+        (8, 3) => Request::PokeWord {
+            at: a as usize,
+            word: b,
+        },
+        (9, 4) => Request::PokeRecord {
+            used: a as usize,
+            sample: b,
+            size: c,
+        },
+        _ => Request::Bad,
     }
 }

@@ -4,9 +4,8 @@ ghost use Rattle.story.specs.Held.{held};
 ghost use Rattle.story.specs.Story.{Reached, begun, Watched, cancelled, abandoned, too_early, stepped_back, handed_out};
 
 use crate::answers::{is_count, is_end, is_expired, is_handle, is_moved, is_noted, is_refused};
-use crate::calls::{abandon, armed_count, deschedule, pull, schedule, set, start};
 use crate::held::Held;
-use crate::making::{create, enable};
+use face::Refusal;
 
 // 2^30 nanoseconds.
 const TICK: u64 = 1073741824;
@@ -18,129 +17,74 @@ const DUE: u64 = TICK + 5;
 pub fn begin() -> Held
     ensures { Reached begun (held result) }
 {
-    let s = create(7);
-    let t = enable(s);
-    let answer = t.answer;
-    check::expect(is_noted(answer));
-    t.after
+    let mut s = Held::create(7);
+    check::expect(is_noted(s.enable()));
+    s
 }
 
 // The timer is armed: the first free slot, the first serial. From here on demand 3 holds of it.
-pub fn arm(s: Held) -> Held
-    requires { Reached begun (held s) }
-    ensures { Watched (held result) }
+pub fn arm(s: &mut Held)
+    requires { Reached begun (held s.old) }
+    ensures { Watched (held s.new) }
 {
-    let noting = set(s, 0, DUE, 1);
-    let noted = noting.answer;
-    check::expect(is_noted(noted));
-    let s = noting.after;
-    let arming = schedule(s, 0, 1);
-    let handle = arming.answer;
-    check::expect(is_handle(handle, 165, 7));
-    arming.after
+    check::expect(is_noted(s.set(0, DUE, 1)));
+    check::expect(is_handle(s.schedule(0, 1), 165, 7));
 }
 
 // Another timer is armed and cancelled; to cancel it once more is refused, since its handle is stale.
-pub fn cancel_another(s: Held) -> Held
-    requires { Watched (held s) }
-    ensures { Reached cancelled (held result) }
+pub fn cancel_another(s: &mut Held)
+    requires { Watched (held s.old) }
+    ensures { Reached cancelled (held s.new) }
 {
-    let noting = set(s, 1, 64 * TICK, 3);
-    let noted = noting.answer;
-    check::expect(is_noted(noted));
-    let s = noting.after;
-    let arming = schedule(s, 1, 3);
-    let handle = arming.answer;
-    check::expect(is_handle(handle, 166, 8));
-    let s = arming.after;
-    let timing = deschedule(s, 166, 8, 3);
-    let done = timing.answer;
-    check::expect(is_noted(done));
-    let s = timing.after;
-    let again = deschedule(s, 166, 8, 3);
-    let stale = again.answer;
-    check::expect(is_refused(stale, 12));
-    again.after
+    check::expect(is_noted(s.set(1, 64 * TICK, 3)));
+    check::expect(is_handle(s.schedule(1, 3), 166, 8));
+    check::expect(is_noted(s.deschedule(166, 8, 3)));
+    check::expect(is_refused(s.deschedule(166, 8, 3), Refusal::StaleHandle));
 }
 
 // An advance far beyond the deadline is abandoned before anything is read of it: the reading is 0 again.
-pub fn abandon_one(s: Held) -> Held
-    requires { Reached cancelled (held s) }
-    ensures { Reached abandoned (held result) }
+pub fn abandon_one(s: &mut Held)
+    requires { Reached cancelled (held s.old) }
+    ensures { Reached abandoned (held s.new) }
 {
-    let opening = start(s, 2 * TICK);
-    let opened = opening.answer;
-    check::expect(is_noted(opened));
-    let s = opening.after;
-    let leaving = abandon(s);
-    let left = leaving.answer;
-    check::expect(is_noted(left));
-    let s = leaving.after;
-    let clock = s.clock;
-    check::expect(clock.reading == 0);
-    s
+    check::expect(is_noted(s.start(2 * TICK)));
+    check::expect(is_noted(s.abandon()));
+    check::expect(s.clock.reading == 0);
 }
 
 // An advance to just before the deadline, in its tick, is read to its end: the timer is placed anew and not handed out.
-pub fn come_too_early(s: Held) -> Held
-    requires { Reached abandoned (held s) }
-    ensures { Reached too_early (held result) }
+pub fn come_too_early(s: &mut Held)
+    requires { Reached abandoned (held s.old) }
+    ensures { Reached too_early (held s.new) }
 {
-    let opening = start(s, DUE - 1);
-    let opened = opening.answer;
-    check::expect(is_noted(opened));
-    let s = opening.after;
-    let pulling = pull(s);
-    let event = pulling.answer;
-    check::expect(is_moved(event, 0, 7, 1));
-    let s = pulling.after;
-    let ending = pull(s);
-    let last = ending.answer;
-    check::expect(is_end(last));
-    ending.after
+    check::expect(is_noted(s.start(DUE - 1)));
+    check::expect(is_moved(s.pull(), 0, 7, 1));
+    check::expect(is_end(s.pull()));
 }
 
 // The clock is stepped back to 5: nothing is handed out.
-pub fn step_back(s: Held) -> Held
-    requires { Reached too_early (held s) }
-    ensures { Reached stepped_back (held result) }
+pub fn step_back(s: &mut Held)
+    requires { Reached too_early (held s.old) }
+    ensures { Reached stepped_back (held s.new) }
 {
-    let opening = start(s, 5);
-    let opened = opening.answer;
-    check::expect(is_noted(opened));
-    let s = opening.after;
-    let ending = pull(s);
-    let last = ending.answer;
-    check::expect(is_end(last));
-    let s = ending.after;
-    let clock = s.clock;
-    check::expect(clock.reading == 5);
-    s
+    check::expect(is_noted(s.start(5)));
+    check::expect(is_end(s.pull()));
+    check::expect(s.clock.reading == 5);
 }
 
 // An advance into a later tick than the deadline's hands the timer out, once.
-pub fn hand_out(s: Held) -> Held
-    requires { Reached stepped_back (held s) }
-    ensures { Reached handed_out (held result) }
+pub fn hand_out(s: &mut Held)
+    requires { Reached stepped_back (held s.old) }
+    ensures { Reached handed_out (held s.new) }
 {
-    let opening = start(s, 2 * TICK);
-    let opened = opening.answer;
-    check::expect(is_noted(opened));
-    let s = opening.after;
-    let pulling = pull(s);
-    let event = pulling.answer;
-    check::expect(is_expired(event, 0, 7, DUE));
-    let s = pulling.after;
-    let ending = pull(s);
-    let last = ending.answer;
-    check::expect(is_end(last));
-    ending.after
+    check::expect(is_noted(s.start(2 * TICK)));
+    check::expect(is_expired(s.pull(), 0, 7, DUE));
+    check::expect(is_end(s.pull()));
 }
 
 // No timer is armed any more.
-pub fn count_none(s: Held)
-    requires { Reached handed_out (held s) }
+pub fn count_none(s: &Held)
+    requires { Reached handed_out (held s.now) }
 {
-    let count = armed_count(s);
-    check::expect(is_count(count, 0));
+    check::expect(is_count(s.armed_count(), 0));
 }

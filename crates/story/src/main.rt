@@ -4,23 +4,20 @@
 #![tactic(auto)]
 
 mod answers; // whether an answer is the one that is expected
-mod calls; // the calls on an enabled wheel
 mod chapters;
-mod held; // the records
-mod lends; // the face's calls on nodes and a clock held by value
-mod making; // create, enable
+mod held; // the records, and the wheel's calls on them
 
 use crate::chapters::{
     abandon_one, arm, begin, cancel_another, come_too_early, count_none, hand_out, step_back,
 };
 
 fn main() {
-    let begun = begin();
-    let armed = arm(begun);
-    let cancelled = cancel_another(armed);
-    let abandoned = abandon_one(cancelled);
-    let early = come_too_early(abandoned);
-    let back = step_back(early);
-    let handed = hand_out(back);
-    count_none(handed);
+    let mut s = begin();
+    arm(&mut s);
+    cancel_another(&mut s);
+    abandon_one(&mut s);
+    come_too_early(&mut s);
+    step_back(&mut s);
+    hand_out(&mut s);
+    count_none(&s);
 }

@@ -1,45 +1,26 @@
 // Enable: refusals in order, then the work. No `requires`. A refused call leaves every record as found.
+ghost use Rattle.wheel_rules.specs.Lent.{records};
 ghost use Rattle.wheel_rules.specs.Promise.{timed_clock, timed_says, enabling, Promised};
-ghost use Rattle.wheel_rules.specs.Lent.{lent};
+ghost use Rattle.wheel_timers.specs.Slices.{nodes_now, entries_now, SameNodes, SameEntries};
 
+use numbers::refusals::Refusal;
 use wheel_refusals::enable_refusal;
-use wheel_rules::calls::{Clock, Timed};
+use wheel_rules::calls::Clock;
 use wheel_timers::layout::lay_out;
+use wheel_timers::lent::{EntriesMut, NodesMut};
 
 // Enables the wheel over the lent records: sentinels placed, other slots free in ascending order, no advance, each
-// entry without a deadline and of generation 0,
-// whatever the records held. Refuses (2, 3).
+// entry without a deadline and of generation 0, whatever the records held. Refuses (2, 3).
 pub fn enable(
-    heads: &mut [usize],
-    tails: &mut [usize],
-    next: &mut [usize],
-    prev: &mut [usize],
-    bucket: &mut [usize],
-    entry: &mut [usize],
-    generation: &mut [u32],
-    serial: &mut [u64],
-    dated: &mut [bool],
-    deadline: &mut [u64],
-    stamp: &mut [u32],
+    nodes: &mut NodesMut<'_>,
+    entries: &mut EntriesMut<'_>,
     clock: Clock,
-) -> Timed
-    ensures { Promised
-        (enabling (lent heads.old tails.old next.old prev.old bucket.old entry.old generation.old serial.old dated.old
-        deadline.old stamp.old clock))
-        (lent heads.old tails.old next.old prev.old bucket.old entry.old generation.old serial.old dated.old
-        deadline.old stamp.old clock)
-        (lent heads.new tails.new next.new prev.new bucket.new entry.new generation.new serial.new dated.new
-        deadline.new stamp.new (timed_clock clock result))
-        (timed_says result) }
+) -> Result<Clock, Refusal>
+    ensures does { Promised (enabling (records (nodes_now nodes.old) (entries_now entries.old) clock))
+        (records (nodes_now nodes.old) (entries_now entries.old) clock)
+        (records (nodes_now nodes.new) (entries_now entries.new) (timed_clock clock result)) (timed_says result) }
+    ensures same { SameNodes nodes.old nodes.new × SameEntries entries.old entries.new }
 {
-    let no = enable_refusal(
-        heads, tails, next, prev, bucket, entry, generation, serial, dated, deadline, stamp, clock,
-    );
-    if no != 0 {
-        return Timed::Refused(no);
-    }
-    let after = lay_out(
-        heads, tails, next, prev, bucket, entry, generation, serial, dated, deadline, stamp, clock,
-    );
-    Timed::Done(after)
+    enable_refusal(nodes.as_read(), entries.as_read(), clock)?;
+    Ok(lay_out(nodes, entries, clock))
 }

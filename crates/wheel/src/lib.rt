@@ -1,7 +1,7 @@
-// The alarm wheel over lent records, in parallel slices: heads and tails of the buckets; next, prev, bucket, entry,
-// generation and serial of the slots; dated, deadline and stamp (the generation) of the entries. The clock goes in by
-// value and comes back in the answer where a call changes it; after a refusal the caller's own still holds. Every call
-// answers for every input: what is refused is refused by number, and then every lent record is as found. No `requires`.
+// The alarm wheel over lent records, in parallel slices: of the slots with the heads and tails of the buckets (`Nodes`,
+// `NodesMut`), and of the entries (`Entries`, `EntriesMut`). The clock goes in by value and comes back in the answer
+// where a call changes it; after a refusal the caller's own still holds. Every call answers for every input: what is
+// refused is `Err`, and then every lent record is as found. No `requires`.
 #![tactic(auto)]
 
 pub mod advancing; // start, abandon
@@ -21,6 +21,6 @@ pub use crate::handles::{deschedule, reschedule};
 pub use crate::making::create;
 pub use crate::pulling::pull;
 pub use crate::settings::set_entry;
-pub use wheel_rules::calls::{
-    Clock, Counted, Created, Due, Noted, Pulled, Rescheduled, Scheduled, Timed,
-};
+pub use numbers::refusals::Refusal;
+pub use wheel_rules::calls::{After, Clock, Created, Event, Handle, Rescheduled};
+pub use wheel_timers::lent::{Entries, EntriesMut, Nodes, NodesMut};

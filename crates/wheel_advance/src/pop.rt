@@ -1,76 +1,54 @@
-// For proved code only, unchecked: what a pull answers, and the turn of a pull that pops one node.
+// For proved code only, unchecked: the turn of a pull that pops one node.
 ghost use Rattle.rules.specs.Places.{wheel01};
-ghost use Rattle.wheel_rules.specs.Lent.{nodes};
 ghost use Rattle.wheel_rules.specs.popping.Pop.{PopReady, Pops};
+ghost use Rattle.wheel_timers.specs.Slices.{nodes_now, SameNodes};
 
-use wheel_rules::calls::Clock;
-pub use wheel_rules::popping::{Pulled, Turn};
+use wheel_rules::calls::{Clock, Event};
+use wheel_rules::popping::Turn;
+use wheel_timers::lent::{Entries, NodesMut};
 use wheel_timers::place::find;
-use wheel_timers::timers::{disarm, rearm};
 
 // Pops the node x: freed without an event where its entry has no deadline, freed with one where that is due, else
 // placed anew.
-pub fn pop(
-    heads: &mut [usize],
-    tails: &mut [usize],
-    next: &mut [usize],
-    prev: &mut [usize],
-    bucket: &mut [usize],
-    entry: &mut [usize],
-    generation: &mut [u32],
-    serial: &mut [u64],
-    dated: &[bool],
-    deadline: &[u64],
-    clock: Clock,
-    x: usize,
-) -> Turn
+pub fn pop(nodes: &mut NodesMut<'_>, entries: &Entries<'_>, clock: Clock, x: usize) -> Turn
     requires { PopReady
-        wheel01
-        (nodes heads.old tails.old next.old prev.old bucket.old entry.old generation.old serial.old)
-        dated.now deadline.now clock x }
-    ensures { Pops
-        wheel01
-        (nodes heads.old tails.old next.old prev.old bucket.old entry.old generation.old serial.old) dated.now
-        deadline.now
-        clock x
-        (nodes heads.new tails.new next.new prev.new bucket.new entry.new generation.new serial.new) result }
+        wheel01 (nodes_now nodes.old) entries.now.dated.now entries.now.deadline.now clock x }
+    ensures does { Pops
+        wheel01 (nodes_now nodes.old) entries.now.dated.now entries.now.deadline.now clock x
+        (nodes_now nodes.new) result }
+    ensures same { SameNodes nodes.old nodes.new }
 {
-    let e = entry[x];
-    let n = serial[x];
-    if !dated[e] {
-        let freed = disarm(
-            heads, tails, next, prev, bucket, entry, generation, serial, clock, x,
-        );
+    let e = nodes.entry[x];
+    let n = nodes.serial[x];
+    if !entries.dated[e] {
+        let freed = nodes.disarm(clock, x);
         return Turn {
-            going: true,
             clock: freed,
-            event: Pulled::End,
+            event: None,
         };
     }
-    let d = deadline[e];
+    let d = entries.deadline[e];
     if d <= clock.reading {
-        let freed = disarm(
-            heads, tails, next, prev, bucket, entry, generation, serial, clock, x,
-        );
+        let freed = nodes.disarm(clock, x);
+        let expired = Event::Expired {
+            entry: e,
+            serial: n,
+            deadline: d,
+        };
         return Turn {
-            going: false,
             clock: freed,
-            event: Pulled::Expired {
-                entry: e,
-                serial: n,
-                deadline: d,
-            },
+            event: Some(expired),
         };
     }
     let to = find(clock.reading, d);
-    rearm(heads, tails, next, prev, bucket, clock.reading, x, d);
+    nodes.rearm(clock.reading, x, d);
+    let moved = Event::Rescheduled {
+        entry: e,
+        serial: n,
+        place: to.number,
+    };
     Turn {
-        going: false,
         clock,
-        event: Pulled::Rescheduled {
-            entry: e,
-            serial: n,
-            place: to.number,
-        },
+        event: Some(moved),
     }
 }

@@ -10,33 +10,23 @@ use wheel_timers::place::visits::visited;
 
 // The position after the step-th bucket of the level: the next bucket of the level, or the first of the next level, if
 // that visits any.
-pub fn next_position(p: u64, q: u64, level: usize, step: usize) -> Position
+pub fn next_position(p: u64, q: u64, level: usize, step: usize) -> Option<Position>
     ensures { result ≡ onward wheel01 p q level step }
 {
     if step < visited(level, p, q) {
-        return Position {
-            more: true,
+        return Some(Position {
             level,
             step: step + 1,
-        };
+        });
     }
     if level_count(level) == 1 {
-        return Position {
-            more: false,
-            level: 0,
-            step: 0,
-        };
+        return None;
     }
     if 0 < visited(level + 1, p, q) {
-        return Position {
-            more: true,
+        return Some(Position {
             level: level + 1,
             step: 1,
-        };
+        });
     }
-    Position {
-        more: false,
-        level: 0,
-        step: 0,
-    }
+    None
 }

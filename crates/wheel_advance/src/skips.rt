@@ -6,47 +6,48 @@ ghost use Rattle.wheel_rules.specs.pull.Skips.{Lent, TellsAlone, PassReady, Idle
 ghost use Rattle.wheel_rules.specs.records.Clocks.{standing};
 
 use crate::turns::waiting;
+use deque::linked::Linked;
 use deque::read::{following, front};
 use wheel_rules::calls::Clock;
 use wheel_timers::place::visits::{bucket_at, visited};
 
 // Whether the bucket b holds its sentinel alone: that is both first and last.
-fn alone(heads: &[usize], next: &[usize], b: usize) -> bool
-    requires { Lent heads.now next.now b }
-    ensures { TellsAlone heads.now next.now b result }
+fn alone(linked: Linked<'_>, b: usize) -> bool
+    requires { Lent linked.heads.now linked.next.now b }
+    ensures { TellsAlone linked.entry.heads.now linked.entry.next.now b result }
 {
-    if front(heads, b) != b {
+    if front(linked.heads, b) != b {
         return false;
     }
-    next.len() <= following(next, b)
+    linked.next.len() <= following(linked.next, b)
 }
 
 // The step once every next bucket of the level that holds its sentinel alone has been entered.
-fn step_past(heads: &[usize], next: &[usize], clock: Clock) -> usize
-    requires { IdleReady wheel01 heads.now next.now clock }
-    ensures { Passes wheel01 heads.now next.now clock (standing clock.level result clock) }
+fn step_past(linked: Linked<'_>, clock: Clock) -> usize
+    requires { IdleReady wheel01 linked.heads.now linked.next.now clock }
+    ensures { Passes
+        wheel01 linked.entry.heads.now linked.entry.next.now clock (standing clock.level result clock) }
 {
     let count = visited(clock.level, clock.previous, clock.reading);
-    let mut step = clock.step;
-    while step < count {
+    for step in clock.step..count {
         let b = bucket_at(clock.level, clock.previous, step);
-        if !alone(heads, next, b) {
+        if !alone(linked, b) {
             return step;
         }
-        step += 1;
     }
-    step
+    count.max(clock.step)
 }
 
 // As long as no node waits and the next bucket of the level holds its sentinel alone, the advance goes on to it.
-pub fn pass_over(heads: &[usize], next: &[usize], clock: Clock) -> Clock
-    requires { PassReady wheel01 heads.now next.now }
-    ensures { Passes wheel01 heads.now next.now clock result }
+pub fn pass_over(linked: Linked<'_>, clock: Clock) -> Clock
+    requires { PassReady wheel01 linked.heads.now linked.next.now }
+    ensures { Passes wheel01 linked.entry.heads.now linked.entry.next.now clock result }
 {
-    if waiting(heads, clock) < next.len() {
+    if waiting(linked.heads, clock) < linked.next.len() {
         return clock;
     }
-    let mut after = clock;
-    after.step = step_past(heads, next, clock);
-    after
+    Clock {
+        step: step_past(linked, clock),
+        ..clock
+    }
 }

@@ -1,24 +1,28 @@
-// Which refusal applies: the lowest number of 01 whose row holds, or 0. Each stage adds its rows to those of the stage
-// before. They read the records (enable the lengths and the clock alone; `around_refusal` is given these as numbers)
-// and change nothing.
+// Which refusal applies: that of the lowest number of 01 whose row holds. Each stage adds its rows to those of the
+// stage before. They read the records (enable the lengths and the clock alone; `around_refusal` is given these as
+// numbers) and change nothing.
 // No `requires`.
 #![tactic(auto)]
 
-ghost use Rattle.wheel_rules.specs.Lent.{lent};
+ghost use Rattle.numbers.specs.Refusals.{refusal_in};
+ghost use Rattle.wheel_rules.specs.Lent.{records};
 ghost use Rattle.wheel_rules.specs.refusals.Refuse.{IsLast, RefusesEnable, RefusesAround, RefusesCount, RefusesClosed, RefusesOpen, RefusesSet, RefusesSchedule};
 ghost use Rattle.wheel_rules.specs.refusals.Refuse.{RefusesHandle};
+ghost use Rattle.wheel_timers.specs.Slices.{nodes_of, entries_of};
 
 pub mod sound;
 
 use crate::sound::is_sound;
 use crate::sound::lengths::{ends_lent, entries_lent, nodes_lent, ranged};
 use deque::NONE;
-use wheel_rules::calls::Clock;
+use numbers::refusals::Refusal;
+use wheel_rules::calls::{Clock, Handle};
+use wheel_timers::lent::{Entries, Nodes};
 
 // The buckets of the wheel.
 pub const BUCKETS: usize = 165;
 // The serial that is never given: there is none after it.
-const LAST: u64 = 18446744073709551615;
+const LAST: u64 = u64::MAX;
 
 // Whether this serial is that one.
 fn is_last(serial: u64) -> bool
@@ -28,217 +32,109 @@ fn is_last(serial: u64) -> bool
 }
 
 // Armed count: 1, 4.
-pub fn standing_refusal(
-    heads: &[usize],
-    tails: &[usize],
-    next: &[usize],
-    prev: &[usize],
-    bucket: &[usize],
-    entry: &[usize],
-    generation: &[u32],
-    serial: &[u64],
-    dated: &[bool],
-    deadline: &[u64],
-    stamp: &[u32],
-    clock: Clock,
-) -> u64
-    ensures { RefusesCount
-        (lent heads.now tails.now next.now prev.now bucket.now entry.now generation.now serial.now dated.now
-        deadline.now stamp.now clock) result }
+pub fn standing_refusal(nodes: Nodes<'_>, entries: Entries<'_>, clock: Clock) -> Result<(), Refusal>
+    ensures { RefusesCount (records (nodes_of nodes.entry) (entries_of entries.entry) clock) (refusal_in result) }
 {
     if !clock.enabled {
-        return 1;
+        return Err(Refusal::NotEnabled);
     }
-    if !is_sound(
-        heads, tails, next, prev, bucket, entry, generation, serial, dated, deadline, stamp, clock,
-        BUCKETS,
-    ) {
-        return 4;
+    if !is_sound(nodes, entries, clock, BUCKETS) {
+        return Err(Refusal::NotSound);
     }
-    0
+    Ok(())
 }
 
 // Start, next due: 1, 4, 5.
-pub fn closed_refusal(
-    heads: &[usize],
-    tails: &[usize],
-    next: &[usize],
-    prev: &[usize],
-    bucket: &[usize],
-    entry: &[usize],
-    generation: &[u32],
-    serial: &[u64],
-    dated: &[bool],
-    deadline: &[u64],
-    stamp: &[u32],
-    clock: Clock,
-) -> u64
-    ensures { RefusesClosed
-        (lent heads.now tails.now next.now prev.now bucket.now entry.now generation.now serial.now dated.now
-        deadline.now stamp.now clock) result }
+pub fn closed_refusal(nodes: Nodes<'_>, entries: Entries<'_>, clock: Clock) -> Result<(), Refusal>
+    ensures { RefusesClosed (records (nodes_of nodes.entry) (entries_of entries.entry) clock) (refusal_in result) }
 {
-    let no = standing_refusal(
-        heads, tails, next, prev, bucket, entry, generation, serial, dated, deadline, stamp, clock,
-    );
-    if no != 0 {
-        return no;
-    }
+    standing_refusal(nodes, entries, clock)?;
     if clock.open {
-        return 5;
+        return Err(Refusal::AdvanceOpen);
     }
-    0
+    Ok(())
 }
 
 // Pull, abandon: 1, 4, 6.
-pub fn open_refusal(
-    heads: &[usize],
-    tails: &[usize],
-    next: &[usize],
-    prev: &[usize],
-    bucket: &[usize],
-    entry: &[usize],
-    generation: &[u32],
-    serial: &[u64],
-    dated: &[bool],
-    deadline: &[u64],
-    stamp: &[u32],
-    clock: Clock,
-) -> u64
-    ensures { RefusesOpen
-        (lent heads.now tails.now next.now prev.now bucket.now entry.now generation.now serial.now dated.now
-        deadline.now stamp.now clock) result }
+pub fn open_refusal(nodes: Nodes<'_>, entries: Entries<'_>, clock: Clock) -> Result<(), Refusal>
+    ensures { RefusesOpen (records (nodes_of nodes.entry) (entries_of entries.entry) clock) (refusal_in result) }
 {
-    let no = standing_refusal(
-        heads, tails, next, prev, bucket, entry, generation, serial, dated, deadline, stamp, clock,
-    );
-    if no != 0 {
-        return no;
-    }
+    standing_refusal(nodes, entries, clock)?;
     if !clock.open {
-        return 6;
+        return Err(Refusal::NoAdvanceOpen);
     }
-    0
+    Ok(())
 }
 
 // Set entry: 1, 4, 5, 7.
 pub fn entry_refusal(
-    heads: &[usize],
-    tails: &[usize],
-    next: &[usize],
-    prev: &[usize],
-    bucket: &[usize],
-    entry: &[usize],
-    generation: &[u32],
-    serial: &[u64],
-    dated: &[bool],
-    deadline: &[u64],
-    stamp: &[u32],
+    nodes: Nodes<'_>,
+    entries: Entries<'_>,
     clock: Clock,
     e: usize,
-) -> u64
-    ensures { RefusesSet
-        (lent heads.now tails.now next.now prev.now bucket.now entry.now generation.now serial.now dated.now
-        deadline.now stamp.now clock) e result }
+) -> Result<(), Refusal>
+    ensures { RefusesSet (records (nodes_of nodes.entry) (entries_of entries.entry) clock) e (refusal_in result) }
 {
-    let no = closed_refusal(
-        heads, tails, next, prev, bucket, entry, generation, serial, dated, deadline, stamp, clock,
-    );
-    if no != 0 {
-        return no;
-    }
+    closed_refusal(nodes, entries, clock)?;
     if clock.entries <= e {
-        return 7;
+        return Err(Refusal::NoSuchEntry);
     }
-    0
+    Ok(())
 }
 
 // Schedule: 1, 4, 5, 7, 8, 9, 10, 11.
 pub fn schedule_refusal(
-    heads: &[usize],
-    tails: &[usize],
-    next: &[usize],
-    prev: &[usize],
-    bucket: &[usize],
-    entry: &[usize],
-    generation: &[u32],
-    serial: &[u64],
-    dated: &[bool],
-    deadline: &[u64],
-    stamp: &[u32],
+    nodes: Nodes<'_>,
+    entries: Entries<'_>,
     clock: Clock,
     e: usize,
     h: u32,
-) -> u64
-    ensures { RefusesSchedule
-        (lent heads.now tails.now next.now prev.now bucket.now entry.now generation.now serial.now dated.now
-        deadline.now stamp.now clock) e h result }
+) -> Result<(), Refusal>
+    ensures { RefusesSchedule (records (nodes_of nodes.entry) (entries_of entries.entry) clock) e h (refusal_in result) }
 {
-    let no = entry_refusal(
-        heads, tails, next, prev, bucket, entry, generation, serial, dated, deadline, stamp, clock,
-        e,
-    );
-    if no != 0 {
-        return no;
+    entry_refusal(nodes, entries, clock, e)?;
+    if entries.generation[e] != h {
+        return Err(Refusal::AnotherGeneration);
     }
-    if stamp[e] != h {
-        return 8;
-    }
-    if !dated[e] {
-        return 9;
+    if !entries.dated[e] {
+        return Err(Refusal::NoDeadline);
     }
     if clock.free == NONE {
-        return 10;
+        return Err(Refusal::NoFreeSlot);
     }
     if is_last(clock.serial) {
-        return 11;
+        return Err(Refusal::LastSerial);
     }
-    0
+    Ok(())
 }
 
 // Reschedule, deschedule: 1, 4, 5, 12, 13.
 pub fn handle_refusal(
-    heads: &[usize],
-    tails: &[usize],
-    next: &[usize],
-    prev: &[usize],
-    bucket: &[usize],
-    entry: &[usize],
-    generation: &[u32],
-    serial: &[u64],
-    dated: &[bool],
-    deadline: &[u64],
-    stamp: &[u32],
+    nodes: Nodes<'_>,
+    entries: Entries<'_>,
     clock: Clock,
-    slot: usize,
-    number: u64,
+    handle: Handle,
     h: u32,
-) -> u64
+) -> Result<(), Refusal>
     ensures { RefusesHandle
-        (lent heads.now tails.now next.now prev.now bucket.now entry.now generation.now serial.now dated.now
-        deadline.now stamp.now clock) slot number h result }
+        (records (nodes_of nodes.entry) (entries_of entries.entry) clock)
+        handle.slot handle.serial h (refusal_in result) }
 {
-    let no = closed_refusal(
-        heads, tails, next, prev, bucket, entry, generation, serial, dated, deadline, stamp, clock,
-    );
-    if no != 0 {
-        return no;
+    closed_refusal(nodes, entries, clock)?;
+    let links = nodes.linked;
+    let slot = handle.slot;
+    // absent, a sentinel, free, or of another serial
+    if links.next.len() <= slot
+        || slot < links.heads.len()
+        || links.heads.len() <= links.home[slot]
+        || nodes.serial[slot] != handle.serial
+    {
+        return Err(Refusal::StaleHandle);
     }
-    if next.len() <= slot {
-        return 12;
+    if nodes.generation[slot] != h {
+        return Err(Refusal::NotTheArmedGeneration);
     }
-    if slot < heads.len() {
-        return 12;
-    }
-    if heads.len() <= bucket[slot] {
-        return 12;
-    }
-    if serial[slot] != number {
-        return 12;
-    }
-    if generation[slot] != h {
-        return 13;
-    }
-    0
+    Ok(())
 }
 
 // Enable, by numbers alone: 2, 3. It leaves out whether the slices of the node records are of one length.
@@ -250,65 +146,36 @@ pub fn around_refusal(
     dated: usize,
     deadline: usize,
     stamp: usize,
-) -> u64
-    ensures { RefusesAround enabled heads tails nodes dated deadline stamp result }
+) -> Result<(), Refusal>
+    ensures { RefusesAround enabled heads tails nodes dated deadline stamp (refusal_in result) }
 {
     if enabled {
-        return 2;
+        return Err(Refusal::AlreadyEnabled);
     }
-    if !ranged(BUCKETS, nodes, dated) {
-        return 3;
+    let fits = ranged(BUCKETS, nodes, dated)
+        && ends_lent(BUCKETS, heads, tails)
+        && entries_lent(dated, dated, deadline, stamp);
+    if !fits {
+        return Err(Refusal::LengthsOutOfRange);
     }
-    if !ends_lent(BUCKETS, heads, tails) {
-        return 3;
-    }
-    if !entries_lent(dated, dated, deadline, stamp) {
-        return 3;
-    }
-    0
+    Ok(())
 }
 
 // Enable: 2, 3.
-pub fn enable_refusal(
-    heads: &[usize],
-    tails: &[usize],
-    next: &[usize],
-    prev: &[usize],
-    bucket: &[usize],
-    entry: &[usize],
-    generation: &[u32],
-    serial: &[u64],
-    dated: &[bool],
-    deadline: &[u64],
-    stamp: &[u32],
-    clock: Clock,
-) -> u64
-    ensures { RefusesEnable
-        (lent heads.now tails.now next.now prev.now bucket.now entry.now generation.now serial.now dated.now
-        deadline.now stamp.now clock) result }
+pub fn enable_refusal(nodes: Nodes<'_>, entries: Entries<'_>, clock: Clock) -> Result<(), Refusal>
+    ensures { RefusesEnable (records (nodes_of nodes.entry) (entries_of entries.entry) clock) (refusal_in result) }
 {
-    let no = around_refusal(
+    around_refusal(
         clock.enabled,
-        heads.len(),
-        tails.len(),
-        next.len(),
-        dated.len(),
-        deadline.len(),
-        stamp.len(),
-    );
-    if no != 0 {
-        return no;
+        nodes.linked.heads.len(),
+        nodes.linked.tails.len(),
+        nodes.linked.next.len(),
+        entries.dated.len(),
+        entries.deadline.len(),
+        entries.generation.len(),
+    )?;
+    if !nodes_lent(nodes, nodes.linked.next.len()) {
+        return Err(Refusal::LengthsOutOfRange);
     }
-    if !nodes_lent(
-        next.len(),
-        next.len(),
-        prev.len(),
-        bucket.len(),
-        entry.len(),
-        generation.len(),
-        serial.len(),
-    ) {
-        return 3;
-    }
-    0
+    Ok(())
 }

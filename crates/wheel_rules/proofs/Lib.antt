@@ -4,3 +4,6 @@ pub mod turns
 pub mod sound
 pub mod refusals
 pub mod history
+pub mod pull
+pub mod records
+pub mod timers

@@ -1,86 +1,80 @@
 -- The promise of every public call: `Promised c R R' a` says of the call c, of the lent records R before it and R'
 -- after it, and of its answer a, all that is promised. The calls over parallel slices, over lent nodes and in C cite
 -- it.
-use Rattle.std.specs.Prelude.{ℕ, ◌<◌, true, false, Bool, ◌&&◌, not, List, [], ◌∷◌, ◌≡◌, eqb, get_or, length, replicate, set}
-use Rattle.std.proofs.Math.Option.{none, some, Option}
+use Rattle.std.specs.Prelude.{ℕ, ◌<◌, true, false, Bool, ◌&&◌, not, List, [], ◌∷◌, ◌≡◌, eqb, get_or, length, replicate, set, Option, Some, None, Result, Ok, Err}
+use Rattle.std.proofs.Math.Option.{none, some, Option as Maybe}
 use Rattle.deque_rules.specs.Links.{home_of}
+use Rattle.numbers.specs.Refusals.{number_of}
 use Rattle.numbers.specs.Shared.{no_slot}
+use Rattle.numbers.specs.declared.refusals.Refusal.{Refusal}
 use Rattle.rules.specs.Calls.{act, is_none, refusal_if, step_if}
 use Rattle.rules.specs.Places.{wheel01, buckets, place_of}
 use Rattle.rules.specs.Wheel.{Answer, refused, ok, handle, removed, end, expired, rescheduled, number, due, Call, enable, create, set_entry, schedule}
 use Rattle.rules.specs.Wheel.{reschedule, deschedule, start, pull, abandon, armed_count, next_due}
 use Rattle.wheel_rules.specs.Lent.{Nodes, nodes, Records, records, Entries, entries, Decides, SoundRecords, Shows, wheel_of}
-use Rattle.wheel_rules.specs.declared.calls.Counted.{Counted}
-use Rattle.wheel_rules.specs.declared.calls.Counted.TheVariants.{Armed as Count, Refused as CountedRefused}
-use Rattle.wheel_rules.specs.declared.calls.Due.{Due}
-use Rattle.wheel_rules.specs.declared.calls.Due.TheVariants.{At, Never, Refused as DueRefused}
-use Rattle.wheel_rules.specs.declared.calls.Noted.{Noted}
-use Rattle.wheel_rules.specs.declared.calls.Noted.TheVariants.{Done as Set, Refused as NotedRefused}
-use Rattle.wheel_rules.specs.declared.calls.Pulled.{Pulled}
-use Rattle.wheel_rules.specs.declared.calls.Pulled.TheVariants.{Expired, Rescheduled as PlacedAnew, End, Refused as PulledRefused}
+use Rattle.wheel_rules.specs.declared.calls.After.{After}
+use Rattle.wheel_rules.specs.declared.calls.Event.{Event}
+use Rattle.wheel_rules.specs.declared.calls.Event.TheVariants.{Expired, Rescheduled as PlacedAnew, End}
+use Rattle.wheel_rules.specs.declared.calls.Handle.{Handle}
 use Rattle.wheel_rules.specs.declared.calls.Rescheduled.{Rescheduled}
-use Rattle.wheel_rules.specs.declared.calls.Rescheduled.TheVariants.{Moved, Removed, Refused as RescheduledRefused}
-use Rattle.wheel_rules.specs.declared.calls.Scheduled.{Scheduled}
-use Rattle.wheel_rules.specs.declared.calls.Scheduled.TheVariants.{Armed, Refused as ScheduledRefused}
-use Rattle.wheel_rules.specs.declared.calls.Timed.{Timed}
-use Rattle.wheel_rules.specs.declared.calls.Timed.TheVariants.{Done, Refused as TimedRefused}
+use Rattle.wheel_rules.specs.declared.calls.Rescheduled.TheVariants.{Moved, Removed}
 use Rattle.wheel_rules.specs.declared.calls.Clock.{Clock}
 
--- ======== what the answers of the calls over parallel slices say
+-- ======== what the answers of the calls say
 
 -- ---- number and values
--- "A refusal carries its number and no value"
-abbrev pub timed_says : Timed → Answer
-timed_says (Done c) = ok
-timed_says (TimedRefused n) = refused n
+-- "A refusal carries its number and no value"; else what is said of the value
+abbrev pub says : {A : Type 0} → (A → Answer) → Result A Refusal → Answer
+says f (Ok a) = f a
+says f (Err why) = refused (number_of why)
 
-abbrev pub noted_says : Noted → Answer
-noted_says Set = ok
-noted_says (NotedRefused n) = refused n
+-- enable, deschedule, start, abandon: the clock is no value of the answer
+abbrev pub timed_says : Result Clock Refusal → Answer
+timed_says = says (λ c. ok)
 
-abbrev pub scheduled_says : Scheduled → Answer
-scheduled_says (Armed slot serial c) = handle slot serial
-scheduled_says (ScheduledRefused n) = refused n
+abbrev pub noted_says : Result (Unit {0}) Refusal → Answer
+noted_says = says (λ u. ok)
 
-abbrev pub rescheduled_says : Rescheduled → Answer
-rescheduled_says Moved = ok
-rescheduled_says (Removed c) = removed
-rescheduled_says (RescheduledRefused n) = refused n
+abbrev pub handle_told : Handle → Answer
+handle_told r = handle r.slot r.serial
 
-abbrev pub pulled_says : Pulled → Answer
-pulled_says (Expired entry serial deadline c) = expired entry serial deadline
-pulled_says (PlacedAnew entry serial place c) = rescheduled entry serial place
-pulled_says (End c) = end
-pulled_says (PulledRefused n) = refused n
+abbrev pub scheduled_says : Result (After Handle) Refusal → Answer
+scheduled_says = says (λ r. handle_told r.answer)
 
-abbrev pub counted_says : Counted → Answer
-counted_says (Count k) = number k
-counted_says (CountedRefused n) = refused n
+abbrev pub rescheduled_told : Rescheduled → Answer
+rescheduled_told Moved = ok
+rescheduled_told Removed = removed
 
-abbrev pub due_says : Due → Answer
-due_says (At d) = due (some d)
-due_says Never = due none
-due_says (DueRefused n) = refused n
+abbrev pub rescheduled_says : Result (After Rescheduled) Refusal → Answer
+rescheduled_says = says (λ r. rescheduled_told r.answer)
+
+-- "End"; "Expired(entry, serial, deadline)"; "Rescheduled(entry, serial, new place)"
+abbrev pub told : Event → Answer
+told (Expired e n d) = expired e n d
+told (PlacedAnew e n b) = rescheduled e n b
+told End = end
+
+abbrev pub pulled_says : Result (After Event) Refusal → Answer
+pulled_says = says (λ r. told r.answer)
+
+abbrev pub counted_says : Result ℕ Refusal → Answer
+counted_says = says number
+
+abbrev pub due_told : Option ℕ → Maybe ℕ
+due_told (Some d) = some d
+due_told None = none
+
+abbrev pub due_says : Result (Option ℕ) Refusal → Answer
+due_says = says (λ o. due (due_told o))
 
 -- ---- the clock afterwards: the one that the answer hands back, and the caller's own, c, where it hands none
-abbrev pub timed_clock : Clock → Timed → Clock
-timed_clock c (Done k) = k
-timed_clock c (TimedRefused n) = c
+abbrev pub timed_clock : Clock → Result Clock Refusal → Clock
+timed_clock c (Ok k) = k
+timed_clock c (Err why) = c
 
-abbrev pub scheduled_clock : Clock → Scheduled → Clock
-scheduled_clock c (Armed slot serial k) = k
-scheduled_clock c (ScheduledRefused n) = c
-
-abbrev pub rescheduled_clock : Clock → Rescheduled → Clock
-rescheduled_clock c Moved = c
-rescheduled_clock c (Removed k) = k
-rescheduled_clock c (RescheduledRefused n) = c
-
-abbrev pub pulled_clock : Clock → Pulled → Clock
-pulled_clock c (Expired entry serial deadline k) = k
-pulled_clock c (PlacedAnew entry serial place k) = k
-pulled_clock c (End k) = k
-pulled_clock c (PulledRefused n) = c
+abbrev pub clock_after : {A : Type 0} → Clock → Result (After A) Refusal → Clock
+clock_after c (Ok r) = r.clock
+clock_after c (Err why) = c
 
 -- ======== what a wheel does not show
 
@@ -212,12 +206,12 @@ pub record Cleared (R R' : Records) : Type 0 where
   pub step : R'.clock.step ≡ 0
   pub entries : R'.entries ≡ bare_entries (length R.entries.dated)
 
-abbrev pub or_zero : Option ℕ → ℕ
+abbrev pub or_zero : Maybe ℕ → ℕ
 or_zero none = 0
 or_zero (some d) = d
 
 -- "Set entry: deadline or none, and generation, as given"; without a deadline 0 is written for it
-abbrev pub entries_with : ℕ → Option ℕ → ℕ → Entries → Entries
+abbrev pub entries_with : ℕ → Maybe ℕ → ℕ → Entries → Entries
 entries_with e o h E =
     entries (set E.dated e (not (is_none o))) (set E.deadline e (or_zero o)) (set E.generation e h)
 

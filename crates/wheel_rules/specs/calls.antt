@@ -1,4 +1,3 @@
 -- The public calls: what each answers and writes, and its promise.
-pub mod Answers
 pub mod Work
 pub mod Calls

@@ -1,4 +1,3 @@
 -- "Sound means", clause by clause, and the exact test.
-pub mod Clauses
 pub mod Filing
 pub mod Sound

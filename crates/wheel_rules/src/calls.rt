@@ -1,4 +1,5 @@
-// The clock record, and what the wheel's public calls answer.
+// The clock record, and what the wheel's public calls answer. A call that is refused answers `Err` of the refusal
+// (numbers::refusals), and the caller's own clock still holds.
 
 // The clock record. While an advance is open, reading is q and previous is p; `step` counts the buckets entered on
 // `level` so far, and level 0 with step 0 stands before the first bucket.
@@ -29,69 +30,39 @@ pub struct Created {
     pub tails: [usize; 165],
 }
 
-// Enable, deschedule, start, abandon: the clock from now on.
+// An answer, and the clock from now on.
 #[derive(Clone, Copy)]
-pub enum Timed {
-    Done(Clock),
-    Refused(u64),
+pub struct After<A> {
+    pub clock: Clock,
+    pub answer: A,
 }
 
-// Set entry.
-#[derive(Clone, Copy)]
-pub enum Noted {
-    Done,
-    Refused(u64),
+// Schedule: the handle of the timer armed.
+#[derive(Clone, Copy, Debug, PartialEq, Eq)]
+pub struct Handle {
+    pub slot: usize,
+    pub serial: u64,
 }
 
-// Schedule: the handle, and the clock from now on.
-#[derive(Clone, Copy)]
-pub enum Scheduled {
-    Armed {
-        slot: usize,
-        serial: u64,
-        clock: Clock,
-    },
-    Refused(u64),
-}
-
-// Reschedule: moved; or removed, since the entry has no deadline, and the clock from now on.
-#[derive(Clone, Copy)]
+// Reschedule: moved; or removed, since the entry has no deadline.
+#[derive(Clone, Copy, Debug, PartialEq, Eq)]
 pub enum Rescheduled {
     Moved,
-    Removed(Clock),
-    Refused(u64),
+    Removed,
 }
 
-// Pull: an event or End, and the clock from now on.
-#[derive(Clone, Copy)]
-pub enum Pulled {
+// Pull: an event or End.
+#[derive(Clone, Copy, Debug, PartialEq, Eq)]
+pub enum Event {
     Expired {
         entry: usize,
         serial: u64,
         deadline: u64,
-        clock: Clock,
     },
     Rescheduled {
         entry: usize,
         serial: u64,
         place: u64,
-        clock: Clock,
     },
-    End(Clock),
-    Refused(u64),
-}
-
-// Armed count.
-#[derive(Clone, Copy)]
-pub enum Counted {
-    Armed(usize),
-    Refused(u64),
-}
-
-// Next due: the smallest deadline, or none.
-#[derive(Clone, Copy)]
-pub enum Due {
-    At(u64),
-    Never,
-    Refused(u64),
+    End,
 }

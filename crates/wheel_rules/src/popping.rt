@@ -1,34 +1,16 @@
-// What a pull answers, what a turn of it comes to, and where an advance goes from a bucket.
-use crate::calls::Clock;
+// What a turn of a pull comes to, and where an advance goes from a bucket.
+use crate::calls::{Clock, Event};
 
-// What a pull answers.
-#[derive(Clone, Copy)]
-pub enum Pulled {
-    Expired {
-        entry: usize,
-        serial: u64,
-        deadline: u64,
-    },
-    Rescheduled {
-        entry: usize,
-        serial: u64,
-        place: u64,
-    },
-    End,
-}
-
-// The clock after a turn, and whether the pull goes on; where it does not, its answer.
+// The clock after a turn, and the pull's answer, or none where the pull goes on.
 #[derive(Clone, Copy)]
 pub struct Turn {
-    pub going: bool,
     pub clock: Clock,
-    pub event: Pulled,
+    pub event: Option<Event>,
 }
 
-// Where the advance goes: to the bucket that is the step-th of the level; or nowhere any more.
+// In the bucket that is the step-th of the level.
 #[derive(Clone, Copy)]
 pub struct Position {
-    pub more: bool,
     pub level: usize,
     pub step: usize,
 }

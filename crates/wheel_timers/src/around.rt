@@ -1,9 +1,10 @@
 // For proved code only, unchecked: all but the node records, as enabling lays the records out, whatever they held.
 ghost use Rattle.std.specs.Prelude.{◌≡◌, length};
-ghost use Rattle.wheel_rules.specs.Lent.{entries};
 ghost use Rattle.wheel_rules.specs.layout.Around.{SeatsEnds, AroundReady, LaysAround};
+ghost use Rattle.wheel_timers.specs.Slices.{entries_now, SameEntries};
 
-use crate::layout::{clear_entries, enabled};
+use crate::layout::enabled;
+use crate::lent::EntriesMut;
 use wheel_rules::calls::Clock;
 
 // Makes each bucket's own number its head and its tail.
@@ -11,11 +12,9 @@ fn seat_ends(heads: &mut [usize], tails: &mut [usize])
     requires { length tails.old ≡ length heads.old }
     ensures { SeatsEnds heads.old heads.new tails.new }
 {
-    let mut b: usize = 0;
-    while b < heads.len() {
+    for b in 0..heads.len() {
         heads[b] = b;
         tails[b] = b;
-        b += 1;
     }
 }
 
@@ -23,21 +22,18 @@ fn seat_ends(heads: &mut [usize], tails: &mut [usize])
 pub fn lay_out_around(
     heads: &mut [usize],
     tails: &mut [usize],
-    dated: &mut [bool],
-    deadline: &mut [u64],
-    age: &mut [u32],
+    entries: &mut EntriesMut<'_>,
     nodes: usize,
     clock: Clock,
 ) -> Clock
-    requires { AroundReady heads.old tails.old (entries dated.old deadline.old age.old) }
-    ensures { LaysAround
-        heads.old tails.old
-        (entries dated.old deadline.old age.old) nodes clock heads.new
-        tails.new
-        (entries dated.new deadline.new age.new) result }
+    requires { AroundReady heads.old tails.old (entries_now entries.old) }
+    ensures does { LaysAround
+        heads.old tails.old (entries_now entries.old) nodes clock heads.new tails.new
+        (entries_now entries.new) result }
+    ensures same { SameEntries entries.old entries.new }
 {
-    let after = enabled(clock, heads.len(), nodes, dated.len());
+    let after = enabled(clock, heads.len(), nodes, entries.dated.len());
     seat_ends(heads, tails);
-    clear_entries(dated, deadline, age);
+    entries.clear();
     after
 }

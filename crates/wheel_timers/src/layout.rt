@@ -1,63 +1,24 @@
 // For proved code only, unchecked: the records as enabling lays them out, whatever they held.
 ghost use Rattle.std.specs.Prelude.{◌≡◌, length};
-ghost use Rattle.deque_rules.specs.Links.{links};
+ghost use Rattle.deque.specs.Slices.{links_now, SameSlices};
 ghost use Rattle.rules.specs.Places.{wheel01};
-ghost use Rattle.wheel_rules.specs.Lent.{nodes, entries};
-ghost use Rattle.wheel_rules.specs.layout.Layout.{enabled_with, SeatReady, Seats, Clears, ClearsEntries, LayReady, Lays};
+ghost use Rattle.wheel_rules.specs.layout.Layout.{enabled_with, SeatReady, Seats, ClearsEntries, LayReady, Lays};
+ghost use Rattle.wheel_timers.specs.Slices.{nodes_now, entries_now, SameNodes, SameEntries};
 
+use crate::lent::{EntriesMut, NodesMut};
 use crate::moments::end;
-use deque::change::push;
+use deque::linked::LinkedMut;
 use wheel_rules::calls::Clock;
 
 // Links each sentinel alone in its bucket; the slots after the sentinels are free, in ascending order.
-fn seat(
-    heads: &mut [usize],
-    tails: &mut [usize],
-    next: &mut [usize],
-    prev: &mut [usize],
-    bucket: &mut [usize],
-)
-    requires { SeatReady (links heads.old tails.old next.old prev.old bucket.old) }
-    ensures { Seats (links heads.old tails.old next.old prev.old bucket.old)
-        (links heads.new tails.new next.new prev.new bucket.new) }
+fn seat(linked: &mut LinkedMut<'_>)
+    requires { SeatReady (links_now linked.old) }
+    ensures does { Seats (links_now linked.old) (links_now linked.new) }
+    ensures same { SameSlices linked.old linked.new }
 {
-    let mut free = deque::layout::lay_out(heads, tails, next, prev, bucket);
-    let mut b: usize = 0;
-    while b < heads.len() {
-        free = push(heads, tails, next, prev, bucket, free, b);
-        b += 1;
-    }
-}
-
-// Makes every payload 0.
-fn clear(entry: &mut [usize], generation: &mut [u32], serial: &mut [u64])
-    requires { (length generation.old ≡ length entry.old) × (length serial.old ≡ length entry.old) }
-    ensures { Clears
-        entry.old generation.old serial.old entry.new
-        generation.new serial.new }
-{
-    let mut x: usize = 0;
-    while x < entry.len() {
-        entry[x] = 0;
-        generation[x] = 0;
-        serial[x] = 0;
-        x += 1;
-    }
-}
-
-// Makes every entry one without a deadline, of generation 0.
-pub fn clear_entries(dated: &mut [bool], deadline: &mut [u64], generation: &mut [u32])
-    requires { (length deadline.old ≡ length dated.old) × (length generation.old ≡ length dated.old) }
-    ensures { ClearsEntries
-        dated.old deadline.old generation.old dated.new
-        deadline.new generation.new }
-{
-    let mut e: usize = 0;
-    while e < dated.len() {
-        dated[e] = false;
-        deadline[e] = 0;
-        generation[e] = 0;
-        e += 1;
+    let mut free = linked.lay_out();
+    for b in 0..linked.heads.len() {
+        free = linked.push(free, b);
     }
 }
 
@@ -65,43 +26,50 @@ pub fn clear_entries(dated: &mut [bool], deadline: &mut [u64], generation: &mut 
 pub fn enabled(clock: Clock, total: usize, nodes: usize, entries: usize) -> Clock
     ensures { result ≡ enabled_with total nodes entries clock }
 {
-    let mut after = end(clock);
-    after.enabled = true;
-    after.free = total;
-    after.nodes = nodes;
-    after.entries = entries;
-    after
+    Clock {
+        enabled: true,
+        free: total,
+        nodes,
+        entries,
+        ..end(clock)
+    }
+}
+
+impl EntriesMut<'_> {
+    // Makes every entry one without a deadline, of generation 0.
+    pub fn clear(&mut self)
+        requires { (length self.old.deadline.now ≡ length self.old.dated.now) ×
+            (length self.old.generation.now ≡ length self.old.dated.now) }
+        ensures does { ClearsEntries
+            self.old.dated.now self.old.deadline.now self.old.generation.now self.new.dated.now
+            self.new.deadline.now self.new.generation.now }
+        ensures same { SameEntries self.old self.new }
+    {
+        self.dated.fill(false);
+        self.deadline.fill(0);
+        self.generation.fill(0);
+    }
 }
 
 // Sentinels placed, other slots free, no advance, each entry without a deadline.
-pub fn lay_out(
-    heads: &mut [usize],
-    tails: &mut [usize],
-    next: &mut [usize],
-    prev: &mut [usize],
-    bucket: &mut [usize],
-    entry: &mut [usize],
-    generation: &mut [u32],
-    serial: &mut [u64],
-    dated: &mut [bool],
-    deadline: &mut [u64],
-    age: &mut [u32],
-    clock: Clock,
-) -> Clock
-    requires { LayReady
-        wheel01
-        (nodes heads.old tails.old next.old prev.old bucket.old entry.old generation.old serial.old)
-        (entries dated.old deadline.old age.old) }
-    ensures { Lays
-        wheel01
-        (nodes heads.old tails.old next.old prev.old bucket.old entry.old generation.old serial.old)
-        (entries dated.old deadline.old age.old) clock
-        (nodes heads.new tails.new next.new prev.new bucket.new entry.new generation.new serial.new)
-        (entries dated.new deadline.new age.new) result }
+pub fn lay_out(nodes: &mut NodesMut<'_>, entries: &mut EntriesMut<'_>, clock: Clock) -> Clock
+    requires { LayReady wheel01 (nodes_now nodes.old) (entries_now entries.old) }
+    ensures does { Lays
+        wheel01 (nodes_now nodes.old) (entries_now entries.old) clock (nodes_now nodes.new)
+        (entries_now entries.new) result }
+    ensures same_nodes { SameNodes nodes.old nodes.new }
+    ensures same_entries { SameEntries entries.old entries.new }
 {
-    let after = enabled(clock, heads.len(), next.len(), dated.len());
-    seat(heads, tails, next, prev, bucket);
-    clear(entry, generation, serial);
-    clear_entries(dated, deadline, age);
+    let after = enabled(
+        clock,
+        nodes.linked.heads.len(),
+        nodes.linked.next.len(),
+        entries.dated.len(),
+    );
+    seat(&mut nodes.linked);
+    nodes.entry.fill(0);
+    nodes.generation.fill(0);
+    nodes.serial.fill(0);
+    entries.clear();
     after
 }

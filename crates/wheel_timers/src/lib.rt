@@ -7,6 +7,7 @@
 pub mod around; // enabling: all but the node records
 pub mod counts; // armed count, next due
 pub mod layout; // enabling: all the records
+pub mod lent; // the lent slices as two values, slots and entries
 pub mod moments; // start, end, abandon
 pub mod payload; // entry, generation and serial of a slot
 pub mod place; // where a deadline is placed, and the host's placement function

@@ -8,32 +8,35 @@ use wheel_rules::calls::Clock;
 pub fn start(clock: Clock, q: u64) -> Clock
     ensures { Starts wheel01 clock result q }
 {
-    let mut after = clock;
-    after.previous = clock.reading;
-    after.reading = q;
-    after.open = true;
-    after.level = 0;
-    after.step = 0;
-    after
+    Clock {
+        reading: q,
+        open: true,
+        previous: clock.reading,
+        level: 0,
+        step: 0,
+        ..clock
+    }
 }
 
 // Closes the advance and keeps its reading.
 pub fn end(clock: Clock) -> Clock
     ensures { EndsAdvance wheel01 clock result }
 {
-    let mut after = clock;
-    after.open = false;
-    after.previous = 0;
-    after.level = 0;
-    after.step = 0;
-    after
+    Clock {
+        open: false,
+        previous: 0,
+        level: 0,
+        step: 0,
+        ..clock
+    }
 }
 
 // Closes the advance and restores the reading that it started from.
 pub fn abandon(clock: Clock) -> Clock
     ensures { Abandons wheel01 clock result }
 {
-    let mut after = end(clock);
-    after.reading = clock.previous;
-    after
+    Clock {
+        reading: clock.previous,
+        ..end(clock)
+    }
 }

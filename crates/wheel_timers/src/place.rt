@@ -1,6 +1,6 @@
 // Where a deadline is placed at a reading: the bucket's number, for the wheel, and level x 64 + index, for the host. No
 // `requires`.
-// Each level is tried with its number written out, so that the compiler works out the numbers of levels.rt.
+// The levels are tried from the lowest; the last takes what fits none below it.
 ghost use Rattle.std.specs.Prelude.{◌≡◌, ◌-◌};
 ghost use Rattle.wheel_rules.specs.Promise.{Placed};
 ghost use Rattle.wheel_rules.specs.place.Levels.{index_at, place_at};
@@ -9,18 +9,14 @@ ghost use Rattle.wheel_rules.specs.place.Promises.{Found, InBucket};
 pub mod levels;
 pub mod visits;
 
-use crate::place::levels::{known, level_count, level_first, level_shift, level_span};
+use crate::place::levels::{LAST, known, level_count, level_first, level_shift, level_span};
 pub use wheel_rules::place::Place;
 
 // How far the deadline lies ahead of the reading. A deadline before the reading counts as difference 0.
 pub fn gap(reading: u64, deadline: u64) -> u64
     ensures { result ≡ deadline - reading }
 {
-    if deadline < reading {
-        0
-    } else {
-        deadline - reading
-    }
+    deadline.saturating_sub(reading)
 }
 
 // The index of a time at a level: its tick there, modulo the level's bucket count.
@@ -49,19 +45,12 @@ pub fn find(reading: u64, deadline: u64) -> Place
     ensures { Found reading deadline result }
 {
     let ahead = gap(reading, deadline);
-    if ahead < level_span(1) {
-        return place_at(0, deadline);
+    for level in 0..LAST {
+        if ahead < level_span(level + 1) {
+            return place_at(level, deadline);
+        }
     }
-    if ahead < level_span(2) {
-        return place_at(1, deadline);
-    }
-    if ahead < level_span(3) {
-        return place_at(2, deadline);
-    }
-    if ahead < level_span(4) {
-        return place_at(3, deadline);
-    }
-    place_at(4, deadline)
+    place_at(LAST, deadline)
 }
 
 // The number of the bucket, which is also the slot of its sentinel.

@@ -1,94 +1,57 @@
 // For proved code only, unchecked: arming, disarming and rearming a timer, on records known to be sound.
-ghost use Rattle.deque_rules.specs.Links.{links};
+ghost use Rattle.std.specs.Prelude.{◌≡◌};
+ghost use Rattle.deque.specs.Slices.{links_now};
 ghost use Rattle.rules.specs.Places.{wheel01};
-ghost use Rattle.wheel_rules.specs.Lent.{nodes};
+ghost use Rattle.wheel_rules.specs.records.Records.{with_links};
 ghost use Rattle.wheel_rules.specs.timers.Timers.{ArmReady, SlotReady, MoveReady, Arms, Disarms, Rearms};
+ghost use Rattle.wheel_timers.specs.Slices.{nodes_now, SameNodes};
 
-use crate::payload::write;
+use crate::lent::NodesMut;
 use crate::place::bucket_of;
-use deque::change::{move_back, push, remove};
-use wheel_rules::calls::Clock;
-pub use wheel_rules::timers::Armed;
+use wheel_rules::calls::{After, Clock, Handle};
 
-// Arms the first free slot for the entry e, with its generation h, at the back of the bucket of its deadline.
-pub fn arm(
-    heads: &mut [usize],
-    tails: &mut [usize],
-    next: &mut [usize],
-    prev: &mut [usize],
-    bucket: &mut [usize],
-    entry: &mut [usize],
-    generation: &mut [u32],
-    serial: &mut [u64],
-    clock: Clock,
-    e: usize,
-    h: u32,
-    deadline: u64,
-) -> Armed
-    requires { ArmReady wheel01
-        (nodes heads.old tails.old next.old prev.old bucket.old entry.old generation.old serial.old) clock }
-    ensures { Arms
-        wheel01
-        (nodes heads.old tails.old next.old prev.old bucket.old entry.old generation.old serial.old) clock
-        (nodes heads.new tails.new next.new prev.new bucket.new entry.new generation.new serial.new) result e h
-        deadline }
-{
-    let slot = clock.free;
-    let n = clock.serial;
-    let b = bucket_of(clock.reading, deadline);
-    let mut after = clock;
-    write(entry, generation, serial, slot, e, h, n);
-    after.free = push(heads, tails, next, prev, bucket, slot, b);
-    after.serial = n + 1;
-    Armed {
-        clock: after,
-        slot,
-        serial: n,
+impl NodesMut<'_> {
+    // Arms the first free slot for the entry e, with its generation h, at the back of the bucket of its deadline. Answers
+    // its handle.
+    pub fn arm(&mut self, clock: Clock, e: usize, h: u32, deadline: u64) -> After<Handle>
+        requires { ArmReady wheel01 (nodes_now self.old) clock }
+        ensures does { Arms wheel01 (nodes_now self.old) clock (nodes_now self.new) result e h deadline }
+        ensures same { SameNodes self.old self.new }
+    {
+        let slot = clock.free;
+        let serial = clock.serial;
+        let b = bucket_of(clock.reading, deadline);
+        let free = self.linked.push(slot, b);
+        self.write(slot, e, h, serial);
+        After {
+            clock: Clock {
+                serial: serial + 1,
+                free,
+                ..clock
+            },
+            answer: Handle { slot, serial },
+        }
     }
-}
 
-// Takes the armed slot x out of its bucket and frees it.
-pub fn disarm(
-    heads: &mut [usize],
-    tails: &mut [usize],
-    next: &mut [usize],
-    prev: &mut [usize],
-    bucket: &mut [usize],
-    entry: &mut [usize],
-    generation: &mut [u32],
-    serial: &mut [u64],
-    clock: Clock,
-    x: usize,
-) -> Clock
-    requires { SlotReady wheel01
-        (nodes heads.old tails.old next.old prev.old bucket.old entry.old generation.old serial.old) clock x }
-    ensures { Disarms
-        wheel01
-        (nodes heads.old tails.old next.old prev.old bucket.old entry.old generation.old serial.old) clock
-        (nodes heads.new tails.new next.new prev.new bucket.new entry.new generation.new serial.new) result x }
-{
-    remove(heads, tails, next, prev, bucket, clock.free, x);
-    write(entry, generation, serial, x, 0, 0, 0);
-    let mut after = clock;
-    after.free = x;
-    after
-}
+    // Takes the armed slot x out of its bucket and frees it.
+    pub fn disarm(&mut self, clock: Clock, x: usize) -> Clock
+        requires { SlotReady wheel01 (nodes_now self.old) clock x }
+        ensures does { Disarms wheel01 (nodes_now self.old) clock (nodes_now self.new) result x }
+        ensures same { SameNodes self.old self.new }
+    {
+        self.linked.remove(clock.free, x);
+        self.write(x, 0, 0, 0);
+        Clock { free: x, ..clock }
+    }
 
-// Moves the armed slot x to the back of the bucket that its deadline has at the reading.
-pub fn rearm(
-    heads: &mut [usize],
-    tails: &mut [usize],
-    next: &mut [usize],
-    prev: &mut [usize],
-    bucket: &mut [usize],
-    reading: u64,
-    x: usize,
-    deadline: u64,
-)
-    requires { MoveReady wheel01 (links heads.old tails.old next.old prev.old bucket.old) reading x }
-    ensures { Rearms wheel01 (links heads.old tails.old next.old prev.old bucket.old)
-        (links heads.new tails.new next.new prev.new bucket.new) reading x deadline }
-{
-    let b = bucket_of(reading, deadline);
-    move_back(heads, tails, next, prev, bucket, b, x);
+    // Moves the armed slot x to the back of the bucket that its deadline has at the reading. Its payload stays.
+    pub fn rearm(&mut self, reading: u64, x: usize, deadline: u64)
+        requires { MoveReady wheel01 (links_now self.old.linked) reading x }
+        ensures does { Rearms wheel01 (links_now self.old.linked) (links_now self.new.linked) reading x deadline }
+        ensures payload { nodes_now self.new ≡ with_links (links_now self.new.linked) (nodes_now self.old) }
+        ensures same { SameNodes self.old self.new }
+    {
+        let b = bucket_of(reading, deadline);
+        self.linked.move_back(b, x);
+    }
 }

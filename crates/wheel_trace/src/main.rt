@@ -1,18 +1,15 @@
 // Speaks the trace format for the wheel: calls on standard input, an answer for each on standard output.
 #![tactic(auto)]
 
-mod answers; // what the wheel's calls answered, as it is told
-mod asides; // create, place, lend, and lines that are no call
-mod clocks; // the clock as ten numbers
+mod answers; // what a call answers, and its line
+mod calls; // the calls on the wheel that is lent
 mod fields; // a part of a line as a field of a call
 mod pokes; // a field is written
+mod records; // the records that are lent, and the wheel on them
 mod requests; // a line as what it asks for
+mod rows; // what takes the records row by row: lines, or a digest
 mod sessions; // one wheel, from its lend to the next
 mod shows; // bucket, clock, dump, digest
-mod timers; // pull, schedule, reschedule, deschedule
-mod turns; // start, abandon, armed, due
-mod words; // a line's words as a call
-mod work; // the calls on the records that are lent
 
 use crate::sessions::session;
 use lines::{Answers, Lines};
@@ -21,10 +18,10 @@ use lines::{Answers, Lines};
 fn main(rt: HostRuntime) {
     let mut input = Lines::new();
     let mut answers = Answers::new();
-    let mut lent = None;
+    let mut lend = None;
     for _ in 0..u64::MAX {
-        lent = session(&rt, &mut input, &mut answers, lent);
-        if lent.is_none() {
+        lend = session(&rt, &mut input, &mut answers, lend);
+        if lend.is_none() {
             break;
         }
     }

@@ -1,87 +1,61 @@
 // Pokes: a field of a lent record, or of the clock, is written, if there is such a record.
-use crate::answers::{GOOD, plain};
-use crate::requests::Request;
-use lines::BAD_LINE;
+use crate::answers::Answer;
+use crate::records::Wheel;
+use crate::requests::{BucketField, ClockField, NodeField, Poke};
 
-// `poke-node S FIELD V`.
-pub fn poke_node<'a>(
-    next: &'a mut [usize],
-    prev: &'a mut [usize],
-    bucket: &'a mut [usize],
-    entry: &'a mut [usize],
-    generation: &'a mut [u32],
-    serial: &'a mut [u64],
-    told: &'a mut [u64; 6],
-    r: Request,
-) -> &'a mut [u64; 6] {
-    let x = r.index;
-    let call = r.call;
-    match call {
-        0x40 => put(next, told, x, r.third),
-        0x41 => put(prev, told, x, r.third),
-        0x42 => put(bucket, told, x, r.third),
-        0x43 => put(entry, told, x, r.third),
-        0x44 => put_generation(generation, told, x, r.generation),
-        _ => put_serial(serial, told, x, r.third),
+impl Wheel<'_> {
+    pub fn poke(&mut self, poke: Poke) -> Answer {
+        match poke {
+            Poke::Node(slot, field) => self.poke_node(slot, field),
+            Poke::Bucket(bucket, field) => self.poke_bucket(bucket, field),
+            Poke::Clock(field) => self.poke_clock(field),
+        }
+    }
+
+    // `poke-node S FIELD V`.
+    fn poke_node(&mut self, slot: usize, field: NodeField) -> Answer {
+        let nodes = &mut self.nodes;
+        match field {
+            NodeField::Next(x) => put(nodes.linked.next, slot, x),
+            NodeField::Prev(x) => put(nodes.linked.prev, slot, x),
+            NodeField::Bucket(b) => put(nodes.linked.home, slot, b),
+            NodeField::Entry(e) => put(nodes.entry, slot, e),
+            NodeField::Generation(h) => put(nodes.generation, slot, h),
+            NodeField::Serial(n) => put(nodes.serial, slot, n),
+        }
+    }
+
+    // `poke-bucket B FIELD V`.
+    fn poke_bucket(&mut self, bucket: usize, field: BucketField) -> Answer {
+        match field {
+            BucketField::Head(x) => put(self.nodes.linked.heads, bucket, x),
+            BucketField::Tail(x) => put(self.nodes.linked.tails, bucket, x),
+        }
+    }
+
+    // `poke-clock FIELD V`.
+    fn poke_clock(&mut self, field: ClockField) -> Answer {
+        match field {
+            ClockField::Enabled(on) => self.clock.enabled = on,
+            ClockField::Reading(time) => self.clock.reading = time,
+            ClockField::Serial(n) => self.clock.serial = n,
+            ClockField::Open(on) => self.clock.open = on,
+            ClockField::Previous(time) => self.clock.previous = time,
+            ClockField::Level(level) => self.clock.level = level,
+            ClockField::Step(step) => self.clock.step = step,
+            ClockField::Nodes(n) => self.clock.nodes = n,
+            ClockField::Entries(n) => self.clock.entries = n,
+            ClockField::Free(x) => self.clock.free = x,
+        }
+        Answer::Done
     }
 }
 
-// `poke-bucket B FIELD V`.
-pub fn poke_bucket<'a>(
-    heads: &'a mut [usize],
-    tails: &'a mut [usize],
-    told: &'a mut [u64; 6],
-    r: Request,
-) -> &'a mut [u64; 6] {
-    if r.call == 0x50 {
-        return put(heads, told, r.index, r.third);
-    }
-    put(tails, told, r.index, r.third)
-}
-
-// `poke-clock FIELD V`.
-pub fn poke_clock<'a>(
-    clock: &'a mut [u64; 10],
-    told: &'a mut [u64; 6],
-    r: Request,
-) -> &'a mut [u64; 6] {
-    let k = r.call % 16;
-    if k < 10 {
-        clock[k as usize] = r.second;
-    }
-    plain(told, GOOD)
-}
-
-fn put<'a>(column: &'a mut [usize], told: &'a mut [u64; 6], i: usize, v: u64) -> &'a mut [u64; 6] {
+// Writes the value at i, where there is such a place.
+pub fn put<T: Drop>(column: &mut [T], i: usize, value: T) -> Answer {
     if column.len() <= i {
-        return plain(told, BAD_LINE);
+        return Answer::BadLine;
     }
-    column[i] = v as usize;
-    plain(told, GOOD)
-}
-
-fn put_generation<'a>(
-    generation: &'a mut [u32],
-    told: &'a mut [u64; 6],
-    i: usize,
-    v: u32,
-) -> &'a mut [u64; 6] {
-    if generation.len() <= i {
-        return plain(told, BAD_LINE);
-    }
-    generation[i] = v;
-    plain(told, GOOD)
-}
-
-fn put_serial<'a>(
-    serial: &'a mut [u64],
-    told: &'a mut [u64; 6],
-    i: usize,
-    v: u64,
-) -> &'a mut [u64; 6] {
-    if serial.len() <= i {
-        return plain(told, BAD_LINE);
-    }
-    serial[i] = v;
-    plain(told, GOOD)
+    column[i] = value;
+    Answer::Done
 }

@@ -1,108 +1,203 @@
-// A line of the trace as what it asks for: the call's number and its fields.
-use crate::fields::{field_at, narrow};
-use crate::words::form_of;
-use lines::Kind;
+// A line of the trace as what it asks for.
+use crate::fields::{below, deadline, flag, generation, index, link, number};
+use crate::records::Lend;
+use lines::{count, part};
+use wheel::Handle;
 
-// What a line asks for: a call, its first field as an index, the numbers of the second and the third, the generation
-// among them, and whether the second is no dash.
+// What a line asks for, with its fields.
 #[derive(Clone, Copy)]
-pub struct Request {
-    pub call: u64,
-    pub index: usize,
-    pub second: u64,
-    pub third: u64,
-    pub generation: u32,
-    pub dated: bool,
+pub enum Request {
+    Lend(Lend),
+    Place { reading: u64, deadline: u64 },
+    Create(u64),
+    Call(Call),
+    Show(Show),
+    Poke(Poke),
 }
 
-// The calls' numbers, by sixteens: the timers' calls, those that write entries or lay out nodes, those that change the
-// clock alone or nothing, and what is shown.
-pub const PULL: u64 = 0x00;
+// A call that the wheel may refuse.
+#[derive(Clone, Copy)]
+pub enum Call {
+    Enable,
+    Set {
+        entry: usize,
+        deadline: Option<u64>,
+        generation: u32,
+    },
+    Schedule {
+        entry: usize,
+        generation: u32,
+    },
+    Reschedule(Handle, u32),
+    Deschedule(Handle, u32),
+    Start(u64),
+    Pull,
+    Abandon,
+    Armed,
+    Due,
+}
 
-pub const SCHEDULE: u64 = 0x01;
+// What is shown of the records.
+#[derive(Clone, Copy)]
+pub enum Show {
+    Bucket(usize),
+    Clock,
+    Dump,
+    Digest,
+}
 
-pub const RESCHEDULE: u64 = 0x02;
+// A field that is written: of a node record, of a bucket or of the clock.
+#[derive(Clone, Copy)]
+pub enum Poke {
+    Node(usize, NodeField),
+    Bucket(usize, BucketField),
+    Clock(ClockField),
+}
 
-pub const DESCHEDULE: u64 = 0x03;
+// A field of a node record, with what is written.
+#[derive(Clone, Copy)]
+pub enum NodeField {
+    Next(usize),
+    Prev(usize),
+    Bucket(usize),
+    Entry(usize),
+    Generation(u32),
+    Serial(u64),
+}
 
-pub const ENABLE: u64 = 0x10;
+// A field of a bucket, with what is written.
+#[derive(Clone, Copy)]
+pub enum BucketField {
+    Head(usize),
+    Tail(usize),
+}
 
-pub const SET: u64 = 0x11;
+// A field of the clock, with what is written.
+#[derive(Clone, Copy)]
+pub enum ClockField {
+    Enabled(bool),
+    Reading(u64),
+    Serial(u64),
+    Open(bool),
+    Previous(u64),
+    Level(usize),
+    Step(usize),
+    Nodes(usize),
+    Entries(usize),
+    Free(usize),
+}
 
-pub const START: u64 = 0x20;
-
-pub const ABANDON: u64 = 0x21;
-
-pub const ARMED: u64 = 0x22;
-
-pub const DUE: u64 = 0x23;
-
-pub const CLOCK: u64 = 0x30;
-
-pub const DUMP: u64 = 0x31;
-
-pub const DIGEST: u64 = 0x32;
-
-pub const BUCKET: u64 = 0x33;
-
-// A field that is poked is a call of its own: 0x40 to 0x45 for next, prev, bucket, entry, generation and serial of a
-// node, 0x50 and 0x51 for head and tail of a bucket, 0x60 to 0x69 for enabled, reading, serial, open, previous, level,
-// step, nodes, entries and free of the clock.
-
-// What touches no lent node or entry; no line or one that answers nothing; no call of the table.
-pub const CREATE: u64 = 0x70;
-
-pub const PLACE: u64 = 0x71;
-
-pub const LEND: u64 = 0x72;
-
-pub const SILENT: u64 = 0x73;
-
-pub const BAD: u64 = 0x74;
-
-// The forms from here on may come before the first lend.
-const ANY_TIME: u64 = 0x1_00_0_000;
-
-// What the line asks for. Before the first lend every call but `place` and `lend` is none.
-pub fn request_of(line: &[u8], lent: bool) -> Request {
-    match lines::kind_of(line) {
-        Kind::Silent => bare(SILENT),
-        Kind::Long => bare(BAD),
-        Kind::Call => called(line, form_of(line), lent),
+// What the line asks for; none where it is no call.
+pub fn request_of(line: &[u8]) -> Option<Request> {
+    match count(line) {
+        1 => of_one_part(line),
+        2 => of_two_parts(line),
+        3 => of_three_parts(line),
+        4 => of_four_parts(line),
+        _ => None,
     }
 }
 
-// A call without fields.
-fn bare(call: u64) -> Request {
-    Request {
-        call,
-        index: 0,
-        second: 0,
-        third: 0,
-        generation: 0,
-        dated: false,
+fn of_one_part(line: &[u8]) -> Option<Request> {
+    match line {
+        b"enable" => Some(Request::Call(Call::Enable)),
+        b"pull" => Some(Request::Call(Call::Pull)),
+        b"abandon" => Some(Request::Call(Call::Abandon)),
+        b"armed" => Some(Request::Call(Call::Armed)),
+        b"due" => Some(Request::Call(Call::Due)),
+        b"clock" => Some(Request::Show(Show::Clock)),
+        b"dump" => Some(Request::Show(Show::Dump)),
+        b"digest" => Some(Request::Show(Show::Digest)),
+        _ => None,
     }
 }
 
-// The call of that form, with its fields read.
-fn called(line: &[u8], form: u64, lent: bool) -> Request {
-    let parts = lines::count(line) as u64;
-    if (form >> 12) % 16 != parts || (!lent && form < ANY_TIME) {
-        return bare(BAD);
+fn of_two_parts(line: &[u8]) -> Option<Request> {
+    match part(line, 0) {
+        b"create" => Some(Request::Create(number(line, 1)?)),
+        b"start" => Some(Request::Call(Call::Start(number(line, 1)?))),
+        b"bucket" => Some(Request::Show(Show::Bucket(below(line, 1, 165)?))),
+        _ => None,
     }
-    let a = field_at(line, 1, (form >> 8) % 16);
-    let b = field_at(line, 2, (form >> 4) % 16);
-    let c = field_at(line, 3, form % 16);
-    if a.good && b.good && c.good {
-        let call = (form >> 16) % 256;
-        return Request {
-            call,
-            index: a.value as usize,
-            second: b.value,
-            third: c.value,
-            generation: narrow(call, b.value, c.value),
-            dated: !b.dash,
-        };
+}
+
+fn of_three_parts(line: &[u8]) -> Option<Request> {
+    match part(line, 0) {
+        b"lend" => Some(Request::Lend(Lend {
+            nodes: below(line, 1, 4101)?,
+            entries: below(line, 2, 4101)?,
+        })),
+        b"schedule" => Some(Request::Call(Call::Schedule {
+            entry: index(line, 1)?,
+            generation: generation(line, 2)?,
+        })),
+        b"place" => Some(Request::Place {
+            reading: number(line, 1)?,
+            deadline: number(line, 2)?,
+        }),
+        b"poke-clock" => Some(Request::Poke(Poke::Clock(clock_field(line)?))),
+        _ => None,
     }
-    bare(BAD)
+}
+
+fn of_four_parts(line: &[u8]) -> Option<Request> {
+    match part(line, 0) {
+        b"set" => Some(Request::Call(Call::Set {
+            entry: index(line, 1)?,
+            deadline: deadline(line, 2)?,
+            generation: generation(line, 3)?,
+        })),
+        b"reschedule" => Some(Request::Call(Call::Reschedule(handle(line)?, generation(line, 3)?))),
+        b"deschedule" => Some(Request::Call(Call::Deschedule(handle(line)?, generation(line, 3)?))),
+        b"poke-node" => Some(Request::Poke(Poke::Node(index(line, 1)?, node_field(line)?))),
+        b"poke-bucket" => Some(Request::Poke(Poke::Bucket(index(line, 1)?, bucket_field(line)?))),
+        _ => None,
+    }
+}
+
+// `SLOT SERIAL`.
+fn handle(line: &[u8]) -> Option<Handle> {
+    Some(Handle {
+        slot: index(line, 1)?,
+        serial: number(line, 2)?,
+    })
+}
+
+// `poke-node S FIELD V`.
+fn node_field(line: &[u8]) -> Option<NodeField> {
+    match part(line, 2) {
+        b"next" => Some(NodeField::Next(link(line, 3)?)),
+        b"prev" => Some(NodeField::Prev(link(line, 3)?)),
+        b"bucket" => Some(NodeField::Bucket(link(line, 3)?)),
+        b"entry" => Some(NodeField::Entry(index(line, 3)?)),
+        b"generation" => Some(NodeField::Generation(generation(line, 3)?)),
+        b"serial" => Some(NodeField::Serial(number(line, 3)?)),
+        _ => None,
+    }
+}
+
+// `poke-bucket B FIELD V`.
+fn bucket_field(line: &[u8]) -> Option<BucketField> {
+    match part(line, 2) {
+        b"head" => Some(BucketField::Head(link(line, 3)?)),
+        b"tail" => Some(BucketField::Tail(link(line, 3)?)),
+        _ => None,
+    }
+}
+
+// `poke-clock FIELD V`.
+fn clock_field(line: &[u8]) -> Option<ClockField> {
+    match part(line, 1) {
+        b"enabled" => Some(ClockField::Enabled(flag(line, 2)?)),
+        b"reading" => Some(ClockField::Reading(number(line, 2)?)),
+        b"serial" => Some(ClockField::Serial(number(line, 2)?)),
+        b"open" => Some(ClockField::Open(flag(line, 2)?)),
+        b"previous" => Some(ClockField::Previous(number(line, 2)?)),
+        b"level" => Some(ClockField::Level(index(line, 2)?)),
+        b"step" => Some(ClockField::Step(index(line, 2)?)),
+        b"nodes" => Some(ClockField::Nodes(index(line, 2)?)),
+        b"entries" => Some(ClockField::Entries(index(line, 2)?)),
+        b"free" => Some(ClockField::Free(link(line, 2)?)),
+        _ => None,
+    }
 }

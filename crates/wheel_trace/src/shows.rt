@@ -1,209 +1,102 @@
 // What is shown of the records: a bucket's slots, the clock, and the dump or its digest, row by row.
-use crate::answers::{answer, plain};
-use crate::clocks::number_of;
-use crate::requests::Request;
-use crate::{answers, requests};
-use lines::{Answers, NO_LINE, NONE, Value};
+use crate::answers::Answer;
+use crate::records::Wheel;
+use crate::requests::Show;
+use crate::rows::{Digest, Dump, Rows};
+use deque::NONE;
+use lines::{Answers, Value, digest_start};
 
-const BUCKETS: usize = 165;
-
-// `bucket`, `clock`, `dump` or `digest`.
-pub fn show<'a>(
-    rt: &impl Print,
-    heads: &'a [usize],
-    tails: &'a [usize],
-    next: &'a [usize],
-    prev: &'a [usize],
-    bucket: &'a [usize],
-    entry: &'a [usize],
-    generation: &'a [u32],
-    serial: &'a [u64],
-    dated: &'a [bool],
-    deadline: &'a [u64],
-    stamp: &'a [u32],
-    answers: &'a mut Answers,
-    clock: &'a mut [u64; 10],
-    told: &'a mut [u64; 6],
-    r: Request,
-) -> &'a mut [u64; 6] {
-    let call = r.call;
-    match call {
-        requests::BUCKET => answers.say_chain(rt, b"bucket", number(heads, r.index) as usize, next),
-        requests::CLOCK => answers.say_row(rt, b"clock", &clock_row(clock)),
-        requests::DIGEST => {
-            let h = digest(
-                heads, tails, next, prev, bucket, entry, generation, serial, dated, deadline,
-                stamp, clock,
-            );
-            return answer(told, answers::DIGEST, 1, h, 0, 0);
+impl Wheel<'_> {
+    // Puts what is shown after the answers that wait, but for the digest, which it answers.
+    pub fn show(&self, rt: &impl Print, answers: &mut Answers, show: Show) -> Answer {
+        match show {
+            Show::Bucket(b) => {
+                let head = at(self.nodes.linked.heads, b, NONE);
+                answers.say_chain(rt, b"bucket", head, self.nodes.linked.next);
+            }
+            Show::Clock => self.tell_clock(&mut Dump { rt, answers }),
+            Show::Dump => self.tell_all(&mut Dump { rt, answers }),
+            Show::Digest => {
+                let mut digest = Digest(digest_start());
+                self.tell_all(&mut digest);
+                return Answer::Digest(digest.0);
+            }
         }
-        _ => dump(
-            rt, heads, tails, next, prev, bucket, entry, generation, serial, dated, deadline,
-            stamp, clock, answers,
-        ),
+        Answer::Shown
     }
-    plain(told, NO_LINE)
+
+    // The clock, then the buckets, the node records and the entries.
+    fn tell_all(&self, rows: &mut impl Rows) {
+        self.tell_clock(rows);
+        self.tell_buckets(rows);
+        self.tell_nodes(rows);
+        self.tell_entries(rows);
+    }
+
+    // `ENABLED READING SERIAL OPEN PREVIOUS LEVEL STEP NODES ENTRIES FREE`.
+    fn tell_clock(&self, rows: &mut impl Rows) {
+        let clock = self.clock;
+        let values = [
+            Value::Number(u64::from(clock.enabled)),
+            Value::Number(clock.reading),
+            Value::Number(clock.serial),
+            Value::Number(u64::from(clock.open)),
+            Value::Number(clock.previous),
+            Value::Number(clock.level as u64),
+            Value::Number(clock.step as u64),
+            Value::Number(clock.nodes as u64),
+            Value::Number(clock.entries as u64),
+            Value::Link(clock.free as u64),
+        ];
+        rows.take(b"clock", &values);
+    }
+
+    // `B HEAD TAIL`.
+    fn tell_buckets(&self, rows: &mut impl Rows) {
+        let linked = self.nodes.linked.as_read();
+        for b in 0..linked.heads.len() {
+            let values = [
+                Value::Number(b as u64),
+                link(linked.heads, b),
+                link(linked.tails, b),
+            ];
+            rows.take(b"bucket", &values);
+        }
+    }
+
+    // `S NEXT PREV BUCKET ENTRY GENERATION SERIAL`.
+    fn tell_nodes(&self, rows: &mut impl Rows) {
+        let nodes = self.nodes.as_read();
+        for x in 0..nodes.linked.next.len() {
+            let values = [
+                Value::Number(x as u64),
+                link(nodes.linked.next, x),
+                link(nodes.linked.prev, x),
+                link(nodes.linked.home, x),
+                Value::Number(at(nodes.entry, x, 0) as u64),
+                Value::Number(u64::from(at(nodes.generation, x, 0))),
+                Value::Number(at(nodes.serial, x, 0)),
+            ];
+            rows.take(b"node", &values);
+        }
+    }
+
+    // Each entry with its deadline, if it has one, and its generation.
+    fn tell_entries(&self, rows: &mut impl Rows) {
+        let entries = self.entries.as_read();
+        for e in 0..entries.dated.len() {
+            let deadline = entries.dated[e].then_some(at(entries.deadline, e, 0));
+            rows.take_entry(e, deadline, at(entries.generation, e, 0));
+        }
+    }
 }
 
-// The clock, the buckets, the node records that are lent, and the entries, a line each.
-fn dump(
-    rt: &impl Print,
-    heads: &[usize],
-    tails: &[usize],
-    next: &[usize],
-    prev: &[usize],
-    bucket: &[usize],
-    entry: &[usize],
-    generation: &[u32],
-    serial: &[u64],
-    dated: &[bool],
-    deadline: &[u64],
-    stamp: &[u32],
-    clock: &[u64; 10],
-    answers: &mut Answers,
-) {
-    answers.say_row(rt, b"clock", &clock_row(clock));
-    for b in 0..BUCKETS {
-        answers.say_row(rt, b"bucket", &bucket_row(heads, tails, b));
-    }
-    for x in 0..next.len() {
-        answers.say_row(
-            rt,
-            b"node",
-            &node_row(next, prev, bucket, entry, generation, serial, x),
-        );
-    }
-    for e in 0..dated.len() {
-        answers.say_row(rt, b"entry", &entry_row(dated, deadline, stamp, e));
-    }
+// A column's link in record i.
+fn link(column: &[usize], i: usize) -> Value {
+    Value::Link(at(column, i, NONE) as u64)
 }
 
-// The digest of their numbers, in which an entry's deadline is two.
-fn digest(
-    heads: &[usize],
-    tails: &[usize],
-    next: &[usize],
-    prev: &[usize],
-    bucket: &[usize],
-    entry: &[usize],
-    generation: &[u32],
-    serial: &[u64],
-    dated: &[bool],
-    deadline: &[u64],
-    stamp: &[u32],
-    clock: &[u64; 10],
-) -> u64 {
-    let mut h = lines::digest_row(lines::digest_start(), &clock_row(clock));
-    for b in 0..BUCKETS {
-        h = lines::digest_row(h, &bucket_row(heads, tails, b));
-    }
-    for x in 0..next.len() {
-        h = lines::digest_row(
-            h,
-            &node_row(next, prev, bucket, entry, generation, serial, x),
-        );
-    }
-    for e in 0..dated.len() {
-        h = lines::digest_row(h, &entry_numbers(dated, deadline, stamp, e));
-    }
-    h
-}
-
-// `ENABLED READING SERIAL OPEN PREVIOUS LEVEL STEP NODES ENTRIES FREE`.
-fn clock_row(clock: &[u64; 10]) -> [Value; 10] {
-    let mut row = [Value::Number(0); 10];
-    for k in 0..9 {
-        row[k] = Value::Number(clock[k]);
-    }
-    row[9] = Value::Link(clock[9]);
-    row
-}
-
-// `B HEAD TAIL`.
-fn bucket_row(heads: &[usize], tails: &[usize], b: usize) -> [Value; 3] {
-    [
-        Value::Number(b as u64),
-        Value::Link(number(heads, b)),
-        Value::Link(number(tails, b)),
-    ]
-}
-
-// `S NEXT PREV BUCKET ENTRY GENERATION SERIAL`.
-fn node_row(
-    next: &[usize],
-    prev: &[usize],
-    bucket: &[usize],
-    entry: &[usize],
-    generation: &[u32],
-    serial: &[u64],
-    x: usize,
-) -> [Value; 7] {
-    [
-        Value::Number(x as u64),
-        Value::Link(number(next, x)),
-        Value::Link(number(prev, x)),
-        Value::Link(number(bucket, x)),
-        Value::Number(number(entry, x)),
-        Value::Number(narrow(generation, x)),
-        Value::Number(wide(serial, x)),
-    ]
-}
-
-// Of the entry e: `E DEADLINE GENERATION`.
-fn entry_row(dated: &[bool], deadline: &[u64], stamp: &[u32], e: usize) -> [Value; 3] {
-    let due = if flag(dated, e) {
-        Value::Number(wide(deadline, e))
-    } else {
-        Value::Link(NONE)
-    };
-    [
-        Value::Number(e as u64),
-        due,
-        Value::Number(narrow(stamp, e)),
-    ]
-}
-
-// The same for the digest: whether it has a deadline, and that or 0.
-fn entry_numbers(dated: &[bool], deadline: &[u64], stamp: &[u32], e: usize) -> [Value; 4] {
-    let has = flag(dated, e);
-    let kept = if has { wide(deadline, e) } else { 0 };
-    [
-        Value::Number(e as u64),
-        Value::Number(number_of(has)),
-        Value::Number(kept),
-        Value::Number(narrow(stamp, e)),
-    ]
-}
-
-// What a column has in record i: none, 0 or no where there is no such record.
-fn number(column: &[usize], i: usize) -> u64 {
-    if i < column.len() {
-        return column[i] as u64;
-    }
-    NONE
-}
-
-fn wide(column: &[u64], i: usize) -> u64 {
-    if i < column.len() {
-        return column[i];
-    }
-    0
-}
-
-fn narrow(column: &[u32], i: usize) -> u64 {
-    if i < column.len() {
-        return widened(column[i]);
-    }
-    0
-}
-
-fn widened(n: u32) -> u64 {
-    n as u64
-}
-
-fn flag(column: &[bool], i: usize) -> bool {
-    if i < column.len() {
-        return column[i];
-    }
-    false
+// What a column has in record i, else the other value: all columns have as many.
+fn at<T: Copy>(column: &[T], i: usize, other: T) -> T {
+    if i < column.len() { column[i] } else { other }
 }

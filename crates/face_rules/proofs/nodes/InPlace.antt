@@ -4,20 +4,19 @@ use native.Mathlib.Omega.{arith}
 use native.Mathlib.Numerals.{add-one}
 use mathlib.Core.Path.{◌≡◌, refl, sym, ap, ◌∙◌}
 use mathlib.Core.Logic.{⊎_elim}
-use mathlib.Core.Bool.{Bool, true, false}
 use mathlib.Core.List.{List, map}
 use lib.ListN.{length, length-map, get_or, get_or-map, replicate, length-replicate, get_or-replicate}
 use borrow.Author.Tests.{lt-ltb, le-ltb}
 use lib.Seq.{get_or-set_same, get_or-set_other, ext_get_or}
 use Rattle.numbers.specs.Shared.{no_slot as none}
 use Rattle.rules.specs.Places.{wheel01, buckets}
-use Rattle.numbers.proofs.Cases.{same?, not_both}
+use Rattle.numbers.proofs.Cases.{same?}
 use Rattle.wheel_rules.specs.Lent.{Nodes}
 use Rattle.wheel_rules.specs.layout.Layout.{bare_links, bare_nodes}
 use Rattle.wheel_rules.proofs.layout.Bare.{bare_next_len, bare_next_at, bare_prev_len, bare_prev_at, bare_home_len, bare_home_at}
 use Rattle.face_rules.specs.declared.Node.{Node}
 use Rattle.face_rules.specs.nodes.Columns.{Columns, columns, columns_of}
-use Rattle.face_rules.specs.nodes.Laid.{turns_of, laid_node, laid_nodes, Laid}
+use Rattle.face_rules.specs.nodes.Laid.{laid_node, laid_nodes}
 use Rattle.face_rules.proofs.nodes.Fills.{fills, length_fills, fills_all}
 use Rattle.face_rules.proofs.nodes.Using.{blank}
 
@@ -54,12 +53,11 @@ field_is g f ns ys e h =
     (λ i l. let l' : i < length ns = omega (arith, l, long) in get_or-map g zs i blank ∙ ap g (fills_at f ns blank (length ns) i l' (omega arith)) ∙ h i l')
 
 -- ---- the nodes after i turns, and after all
-abbrev pub laid_to : List Node → Bool → ℕ → List Node
-laid_to ns on = fills (laid_node (buckets wheel01) (turns_of on (length ns))) ns
+abbrev pub laid_to : List Node → ℕ → List Node
+laid_to ns = fills (laid_node (buckets wheel01) (length ns)) ns
 
-pub laid : (ns : List Node) (on : Bool) → Laid ns on (laid_to ns on (turns_of on (length ns)))
-laid ns true = record { lays = λ _. fills_all (laid_node (buckets wheel01) (length ns)) ns; stays = λ e. absurd (not_both (sym e)) }
-laid ns false = record { lays = λ e. absurd (not_both e); stays = λ _. refl }
+pub laid : (ns : List Node) → laid_to ns (length ns) ≡ laid_nodes (buckets wheel01) (length ns)
+laid ns = fills_all (laid_node (buckets wheel01) (length ns)) ns
 
 -- ---- what enabling makes of parallel slices: the columns of the node records
 abbrev pub columns_in : Nodes → Columns
@@ -80,7 +78,3 @@ laid_bare ns few =
     (field_is (λ v. v.entry) f ns (replicate n 0) (length-replicate {A = ℕ} n 0) zeros i)
     (field_is (λ v. v.generation) f ns (replicate n 0) (length-replicate {A = ℕ} n 0) zeros i)
     (field_is (λ v. v.serial) f ns (replicate n 0) (length-replicate {A = ℕ} n 0) zeros i))
-
-pub turns_le : (on : Bool) (n : ℕ) → turns_of on n ≤ n
-turns_le true n = omega arith
-turns_le false n = omega arith

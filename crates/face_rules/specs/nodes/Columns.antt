@@ -1,6 +1,6 @@
 -- inner: six columns of numbers, which lent nodes are read into and stored back from, a field in each: "The node
 -- records are lent as one array of 166 to 4,096 records". Lent nodes that are more than fit go neither way.
-use Rattle.std.specs.Prelude.{ℕ, ◌≤◌, ◌<◌, cond, List, ◌≡◌, leb, length, take}
+use Rattle.std.specs.Prelude.{ℕ, ◌≤◌, ◌<◌, List, ◌≡◌, length, take}
 use Rattle.face_rules.specs.Face.{next_slots, prev_slots, bucket_numbers, entry_numbers, generations, serials}
 use Rattle.face_rules.specs.declared.Node.{Node}
 
@@ -22,19 +22,6 @@ columns_of ns = columns (next_slots ns) (prev_slots ns) (bucket_numbers ns) (ent
 -- the first n of each
 abbrev pub front : ℕ → Columns → Columns
 front n c = columns (take n c.next) (take n c.prev) (take n c.bucket) (take n c.entry) (take n c.generation) (take n c.serial)
-
--- there are m or more in each
-pub record Holds (m : ℕ) (c : Columns) : Type 0 where
-  pub next_has : m ≤ length c.next
-  pub prev_has : m ≤ length c.prev
-  pub bucket_has : m ≤ length c.bucket
-  pub entry_has : m ≤ length c.entry
-  pub generation_has : m ≤ length c.generation
-  pub serial_has : m ≤ length c.serial
-
--- how many of n lent nodes go
-abbrev pub used_of : ℕ → ℕ
-used_of n = cond (leb n 4096) n 0
 
 -- the columns begin with the fields of the lent nodes, where they fit; what lies after them is not asked
 pub record Loads (ns : List Node) (c : Columns) : Type 0 where

@@ -4,10 +4,6 @@ use Rattle.face_rules.specs.declared.Node.{Node}
 use Rattle.numbers.specs.Shared.{no_slot, up_from}
 use Rattle.rules.specs.Places.{wheel01, buckets}
 
--- how many of n nodes are written
-abbrev pub turns_of : Bool → ℕ → ℕ
-turns_of on n = cond on n 0
-
 -- the slot i of n, over D buckets: a sentinel in the bucket i; or free, before the one above it, where there is one
 abbrev pub laid_node : ℕ → ℕ → ℕ → Node
 laid_node D n i = record {

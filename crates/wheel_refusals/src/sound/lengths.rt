@@ -1,7 +1,10 @@
 // Whether the lent lengths are those at enabling, and these in their ranges. No `requires`.
-ghost use Rattle.wheel_rules.specs.Lent.{Decides, nodes, entries, records, Ranges, EndsLengths, NodesLengths, EntriesLengths, Lengths};
+ghost use Rattle.std.specs.Prelude.{length};
+ghost use Rattle.wheel_rules.specs.Lent.{Decides, records, Ranges, EndsLengths, NodesLengths, EntriesLengths, Lengths};
+ghost use Rattle.wheel_timers.specs.Slices.{nodes_of, entries_of};
 
 use wheel_rules::calls::Clock;
+use wheel_timers::lent::{Entries, Nodes};
 
 // The most node records, and the most entries.
 const MOST: usize = 4096;
@@ -10,108 +13,49 @@ const MOST: usize = 4096;
 pub fn ranged(total: usize, nodes: usize, entries: usize) -> bool
     ensures { Decides (Ranges total nodes entries) result }
 {
-    if nodes <= total {
-        return false;
-    }
-    if MOST < nodes {
-        return false;
-    }
-    if entries == 0 {
-        return false;
-    }
-    entries <= MOST
+    total < nodes && nodes <= MOST && 0 < entries && entries <= MOST
 }
 
 // Heads and tails.
 pub fn ends_lent(total: usize, heads: usize, tails: usize) -> bool
     ensures { Decides (EndsLengths total heads tails) result }
 {
-    if heads != total {
-        return false;
-    }
-    tails == total
+    heads == total && tails == total
 }
 
-// The slices of the node records.
-pub fn nodes_lent(
-    nodes: usize,
-    next: usize,
-    prev: usize,
-    bucket: usize,
-    entry: usize,
-    generation: usize,
-    serial: usize,
-) -> bool
-    ensures { Decides (NodesLengths nodes next prev bucket entry generation serial) result }
+// The slices of the node records, of which there are `count`.
+pub fn nodes_lent(nodes: Nodes<'_>, count: usize) -> bool
+    ensures { let N = nodes_of nodes.entry in Decides
+        (NodesLengths count (length N.links.next) (length N.links.prev) (length N.links.home) (length N.entry)
+        (length N.generation) (length N.serial))
+        result }
 {
-    if next != nodes {
-        return false;
-    }
-    if prev != nodes {
-        return false;
-    }
-    if bucket != nodes {
-        return false;
-    }
-    if entry != nodes {
-        return false;
-    }
-    if generation != nodes {
-        return false;
-    }
-    serial == nodes
+    nodes.linked.next.len() == count
+        && nodes.linked.prev.len() == count
+        && nodes.linked.home.len() == count
+        && nodes.entry.len() == count
+        && nodes.generation.len() == count
+        && nodes.serial.len() == count
 }
 
 // The slices of the entries.
 pub fn entries_lent(entries: usize, dated: usize, deadline: usize, generation: usize) -> bool
     ensures { Decides (EntriesLengths entries dated deadline generation) result }
 {
-    if dated != entries {
-        return false;
-    }
-    if deadline != entries {
-        return false;
-    }
-    generation == entries
+    dated == entries && deadline == entries && generation == entries
 }
 
-// All the lent slices, by the lengths that the clock has recorded; stamp is the generation of an entry.
-pub fn lengths_kept(
-    heads: &[usize],
-    tails: &[usize],
-    next: &[usize],
-    prev: &[usize],
-    bucket: &[usize],
-    entry: &[usize],
-    generation: &[u32],
-    serial: &[u64],
-    dated: &[bool],
-    deadline: &[u64],
-    stamp: &[u32],
-    clock: Clock,
-    total: usize,
-) -> bool
-    ensures { Decides
-        (Lengths total (records (nodes heads.now tails.now next.now prev.now bucket.now entry.now generation.now
-        serial.now) (entries dated.now deadline.now stamp.now) clock))
-        result }
+// All the lent slices, by the lengths that the clock has recorded.
+pub fn lengths_kept(nodes: Nodes<'_>, entries: Entries<'_>, clock: Clock, total: usize) -> bool
+    ensures { Decides (Lengths total (records (nodes_of nodes.entry) (entries_of entries.entry) clock)) result }
 {
-    if !ranged(total, clock.nodes, clock.entries) {
-        return false;
-    }
-    if !ends_lent(total, heads.len(), tails.len()) {
-        return false;
-    }
-    if !nodes_lent(
-        clock.nodes,
-        next.len(),
-        prev.len(),
-        bucket.len(),
-        entry.len(),
-        generation.len(),
-        serial.len(),
-    ) {
-        return false;
-    }
-    entries_lent(clock.entries, dated.len(), deadline.len(), stamp.len())
+    ranged(total, clock.nodes, clock.entries)
+        && ends_lent(total, nodes.linked.heads.len(), nodes.linked.tails.len())
+        && nodes_lent(nodes, clock.nodes)
+        && entries_lent(
+            clock.entries,
+            entries.dated.len(),
+            entries.deadline.len(),
+            entries.generation.len(),
+        )
 }

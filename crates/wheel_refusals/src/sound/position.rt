@@ -24,8 +24,5 @@ pub fn stands_at(previous: u64, reading: u64, level: usize, step: usize) -> bool
 pub fn advance_stands(clock: Clock) -> bool
     ensures { Decides (AdvanceStands wheel01 clock) result }
 {
-    if !clock.open {
-        return true;
-    }
-    stands_at(clock.previous, clock.reading, clock.level, clock.step)
+    !clock.open || stands_at(clock.previous, clock.reading, clock.level, clock.step)
 }

@@ -1,56 +1,53 @@
 // For proved code only, unchecked: whether the serials of armed slots differ, in slices of one length that is at most
-// 4,096. The slots are filed under the remainder of their serial by 4,096, in two scratch arrays: the latest slot under
-// each remainder, and for each slot the one filed before it, 0 where there is none (slot 0 is a sentinel). Each way
-// back goes over earlier slots only. Where serials are near each other a remainder has one slot, and this is one pass.
+// 4,096. The slots are filed under the remainder of their serial by 4,096. Where serials are near each other a
+// remainder has one slot, and this is one pass.
 ghost use Rattle.std.specs.Prelude.{◌<◌, ◌≡◌};
 ghost use Rattle.wheel_rules.specs.Lent.{Decides, SerialsDiffer};
 ghost use Rattle.wheel_rules.specs.sound.Filing.{Walkable, Met, Fileable, Files, Sized};
 
-fn wide(x: u16) -> usize
-    ensures { result ≡ x }
-{
-    x as usize
+// The slots filed so far: the latest slot under each remainder, and for each slot the one filed before it, 0 where
+// there is none (slot 0 is a sentinel). Each way back goes over earlier slots only.
+// Stays 0 for none: the definitions of wheel_rules, specs/sound/Filing.antt, speak of lists of numbers.
+#[derive(Drop)]
+pub struct Filing {
+    pub latest: [u16; 4096],
+    pub before: [u16; 4096],
 }
 
-// Whether a slot with the wanted serial is filed at the slot `latest` or before it.
-pub fn is_met(before: &[u16; 4096], serial: &[u64], latest: usize, wanted: u64) -> bool
-    requires { Walkable before.now serial.now latest }
-    ensures { Decides (Met before.now serial.now latest wanted) result }
-{
-    let mut y = latest;
-    while 0 < y {
-        if serial[y] == wanted {
+impl Filing {
+    // Whether a slot with the wanted serial is filed at the slot `latest` or before it.
+    pub fn is_met(&self, serial: &[u64], latest: usize, wanted: u64) -> bool
+        requires { Walkable self.now.before serial.now latest }
+        ensures { Decides (Met self.now.before serial.now latest wanted) result }
+    {
+        let mut y = latest;
+        while 0 < y {
+            if serial[y] == wanted {
+                return true;
+            }
+            y = usize::from(self.before[y]);
+        }
+        false
+    }
+
+    // Files the slot x, if it is armed: whether it is the first with its serial.
+    pub fn file(&mut self, bucket: &[usize], serial: &[u64], total: usize, x: usize) -> bool
+        requires { Fileable total bucket.now serial.now self.old.latest self.old.before x }
+        ensures { Files total bucket.now serial.now self.new.latest self.new.before x result }
+    {
+        if total <= bucket[x] {
             return true;
         }
-        y = wide(before[y]);
+        let wanted = serial[x];
+        let k = (wanted % 4096) as usize;
+        let y = self.latest[k];
+        if self.is_met(serial, usize::from(y), wanted) {
+            return false;
+        }
+        self.before[x] = y;
+        self.latest[k] = x as u16;
+        true
     }
-    false
-}
-
-// Files the slot x, if it is armed: whether it is the first with its serial.
-pub fn file(
-    latest: &mut [u16; 4096],
-    before: &mut [u16; 4096],
-    bucket: &[usize],
-    serial: &[u64],
-    total: usize,
-    x: usize,
-) -> bool
-    requires { Fileable total bucket.now serial.now latest.old before.old x }
-    ensures { Files total bucket.now serial.now latest.new before.new x result }
-{
-    if total <= bucket[x] {
-        return true;
-    }
-    let wanted = serial[x];
-    let k = (wanted % 4096) as usize;
-    let y = latest[k];
-    if is_met(before, serial, wide(y), wanted) {
-        return false;
-    }
-    before[x] = y;
-    latest[k] = x as u16;
-    true
 }
 
 // Whether the serials of armed slots differ.
@@ -58,14 +55,14 @@ pub fn serials_differ(bucket: &[usize], serial: &[u64], total: usize) -> bool
     requires { Sized bucket.now serial.now }
     ensures { Decides (SerialsDiffer total bucket.now serial.now) result }
 {
-    let mut latest = [0u16; 4096];
-    let mut before = [0u16; 4096];
-    let mut x = total;
-    while x < bucket.len() {
-        if !file(&mut latest, &mut before, bucket, serial, total, x) {
+    let mut filing = Filing {
+        latest: [0; 4096],
+        before: [0; 4096],
+    };
+    for x in total..bucket.len() {
+        if !filing.file(bucket, serial, total, x) {
             return false;
         }
-        x += 1;
     }
     true
 }

@@ -2,7 +2,6 @@
 // armed one its entry and its serial. One pass over the slots each.
 ghost use Rattle.std.specs.Prelude.{◌≡◌, length};
 ghost use Rattle.wheel_rules.specs.Lent.{Decides, KindAt, Kinds, EntriesExist, SerialsBelow};
-ghost use Rattle.wheel_rules.specs.sound.Clauses.{BoundAt};
 
 use deque::NONE;
 
@@ -11,36 +10,20 @@ pub fn has_kind(total: usize, x: usize, b: usize) -> bool
     ensures { Decides (KindAt total x b) result }
 {
     if x < total {
-        return b == x;
+        b == x
+    } else {
+        b < total || b == NONE
     }
-    if b < total {
-        return true;
-    }
-    b == NONE
 }
 
 // Whether each slot is a sentinel, armed or free.
 pub fn kinds(bucket: &[usize], total: usize) -> bool
     ensures { Decides (Kinds total bucket.now) result }
 {
-    let mut x: usize = 0;
-    while x < bucket.len() {
-        if !has_kind(total, x, bucket[x]) {
-            return false;
-        }
-        x += 1;
-    }
-    true
-}
-
-// Whether the entry e of a slot with the bucket field b exists, if the slot is armed.
-pub fn has_entry(total: usize, b: usize, e: usize, entries: usize) -> bool
-    ensures { Decides (BoundAt total b e entries) result }
-{
-    if b < total {
-        return e < entries;
-    }
-    true
+    bucket
+        .iter()
+        .enumerate()
+        .all(|(x, b)| has_kind(total, x, *b))
 }
 
 // Whether the entries of armed slots exist.
@@ -48,37 +31,14 @@ pub fn entries_exist(bucket: &[usize], entry: &[usize], total: usize, entries: u
     requires { length entry.now ≡ length bucket.now }
     ensures { Decides (EntriesExist total entries bucket.now entry.now) result }
 {
-    let mut x = total;
-    while x < bucket.len() {
-        if !has_entry(total, bucket[x], entry[x], entries) {
-            return false;
-        }
-        x += 1;
-    }
-    true
+    (total..bucket.len()).all(|x| total <= bucket[x] || entry[x] < entries)
 }
 
-// Whether the serial s of a slot with the bucket field b lies below the next, if the slot is armed.
-pub fn has_serial(total: usize, b: usize, s: u64, next: u64) -> bool
-    ensures { Decides (BoundAt total b s next) result }
-{
-    if b < total {
-        return s < next;
-    }
-    true
-}
-
-// Whether the serials of armed slots lie below the next.
+// Whether the serials of armed slots lie below the next. No plainer as one generic function with entries_exist: that one
+// would ask for an order with laws, where each is one line.
 pub fn serials_below(bucket: &[usize], serial: &[u64], total: usize, next: u64) -> bool
     requires { length serial.now ≡ length bucket.now }
     ensures { Decides (SerialsBelow total next bucket.now serial.now) result }
 {
-    let mut x = total;
-    while x < bucket.len() {
-        if !has_serial(total, bucket[x], serial[x], next) {
-            return false;
-        }
-        x += 1;
-    }
-    true
+    (total..bucket.len()).all(|x| total <= bucket[x] || serial[x] < next)
 }

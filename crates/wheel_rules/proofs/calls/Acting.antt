@@ -4,20 +4,18 @@ use native.Mathlib.Omega.{arith}
 use mathlib.Core.Path.{◌≡◌, refl, sym, ap, ◌∙◌}
 use mathlib.Core.Bool.{Bool, true, false, cond}
 use mathlib.Core.Option.{none, some}
-use mathlib.Core.List.{List}
 use lib.ListN.{length, get_or}
 use borrow.Author.Tests.{lt-ltb}
 use borrow.Author.Rules.{scaled_Fits}
 use mir.Syntax.{w64}
 use mir.Val.{Fits}
-use Rattle.deque_rules.specs.Links.{Links, home_of}
+use Rattle.deque_rules.specs.Links.{home_of}
 use Rattle.numbers.specs.Shared.{no_slot, unless, not_refused as answered}
 use Rattle.deque_rules.proofs.Laws.{first_in}
 use Rattle.rules.specs.Places.{wheel01, buckets}
 use Rattle.rules.specs.Wheel.{Slot as Node, Entry, Wheel}
 use Rattle.wheel_rules.specs.declared.calls.Clock.{Clock}
-use Rattle.wheel_rules.specs.Lent.{Nodes, Entries, Records, records, nodes, entries, Shows, Armed, SoundRecords, wheel_of as shown, lent}
-use Rattle.wheel_rules.specs.records.Records.{join}
+use Rattle.wheel_rules.specs.Lent.{Nodes, Entries, Records, records, Shows, Armed, SoundRecords, wheel_of as shown}
 use Rattle.wheel_rules.specs.timers.Timers.{Ready, ArmReady, SlotReady, MoveReady}
 use Rattle.wheel_rules.specs.records.Counts.{DueReady}
 use Rattle.wheel_rules.specs.records.Settings.{EntryReady}
@@ -38,14 +36,14 @@ ready N E c e s =
     record { w = shown wheel01 (records N E c); shows = sound_shows wheel01 (records N E c) s e; sound = shown_sound wheel01 (records N E c) s }
 
 -- ---- enable
-pub lendable : (R : Records) (k : ℕ) → RefusesEnable R k → k ≡ 0 → Lendable R
-lendable R k f z =
-    let u = past 2 k f.by (λ i. omega (arith, z, i)) in
-    (past 3 k u.1 (λ i. omega (arith, z, i))).0
+pub lendable : (R : Records) → RefusesEnable R 0 → Lendable R
+lendable R f =
+    let u = past 2 0 f.by (λ i. omega (arith, i)) in
+    (past 3 0 u.1 (λ i. omega (arith, i))).0
 
-pub lay_ready : (N : Nodes) (E : Entries) (c : Clock) (k : ℕ) → RefusesEnable (records N E c) k → k ≡ 0 → LayReady wheel01 N E
-lay_ready N E c k f z =
-    let y = lendable (records N E c) k f z in
+pub lay_ready : (N : Nodes) (E : Entries) (c : Clock) → RefusesEnable (records N E c) 0 → LayReady wheel01 N E
+lay_ready N E c f =
+    let y = lendable (records N E c) f in
     record {
       seat =
           record {
@@ -76,54 +74,53 @@ pub record Schedulable (N : Nodes) (E : Entries) (c : Clock) (e : ℕ) : Type 0 
   pub free : c.free ≡ no_slot → ⊥
   pub more : c.serial ≡ 2 ^ 64 - 1 → ⊥
 
-pub schedulable_by : (R : Records) (e h k : ℕ) → schedule_rows R e h k → k ≡ 0 → Schedulable R.nodes R.entries R.clock e
-schedulable_by R e h k f z =
+pub schedulable_by : (R : Records) (e h : ℕ) → schedule_rows R e h 0 → Schedulable R.nodes R.entries R.clock e
+schedulable_by R e h f =
     let c : Clock = R.clock in
     let E : Entries = R.entries in
     let u = closed_past R (unless (e < c.entries) 7 (unless (get_or E.generation e 0 ≡ h) 8 (unless (get_or E.dated e false ≡ true) 9 (roomy R answered))))
-    k f z in
-    let v = past 7 k u.3 (λ i. omega (arith, z, i)) in
-    let a = past 8 k v.1 (λ i. omega (arith, z, i)) in
-    let b = past 9 k a.1 (λ i. omega (arith, z, i)) in
-    let r = past 10 k b.1 (λ i. omega (arith, z, i)) in
-    let q = past 11 k r.1 (λ i. omega (arith, z, i)) in
+    0 f refl in
+    let v = past 7 0 u.3 (λ i. omega (arith, i)) in
+    let a = past 8 0 v.1 (λ i. omega (arith, i)) in
+    let b = past 9 0 a.1 (λ i. omega (arith, i)) in
+    let r = past 10 0 b.1 (λ i. omega (arith, i)) in
+    let q = past 11 0 r.1 (λ i. omega (arith, i)) in
     record { enabled = u.0; sound = u.1; entry = v.0; dated = b.0; free = r.0; more = q.0 }
 
-pub schedulable : (N : Nodes) (E : Entries) (c : Clock) (e h k : ℕ) → RefusesSchedule (records N E c) e h k → k ≡ 0 → Schedulable N E c e
-schedulable N E c e h k f z = schedulable_by (records N E c) e h k f.by z
+pub schedulable : (N : Nodes) (E : Entries) (c : Clock) (e h : ℕ) → RefusesSchedule (records N E c) e h 0 → Schedulable N E c e
+schedulable N E c e h f = schedulable_by (records N E c) e h f.by
 
-pub arm_ready : (N : Nodes) (E : Entries) (c : Clock) (e h k : ℕ) → RefusesSchedule (records N E c) e h k → k ≡ 0 → ArmReady wheel01 N c
-arm_ready N E c e h k f z =
-    let s = schedulable N E c e h k f z in
+pub arm_ready : (N : Nodes) (E : Entries) (c : Clock) (e h : ℕ) → RefusesSchedule (records N E c) e h 0 → ArmReady wheel01 N c
+arm_ready N E c e h f =
+    let s = schedulable N E c e h f in
     let y : Ready wheel01 (records N E c) = ready N E c s.enabled s.sound in
     let t = y.shows in
     record {
       E = E;
       ready = y;
       slot = omega (arith, t.rep.next_len, (t.rep.spare c.free (first_in t.lists.free c.free t.free_is s.free)).0);
-      few = f.few z;
+      few = f.few refl;
     }
 
 -- the deadline of its entry is in the slice
-module _ (h t n p b ee g s : List ℕ) (d : List Bool) (l m : List ℕ) (c : Clock) (e i k : ℕ) (f : RefusesSchedule (lent h t n p b ee g s d l m c) e i k)
-    (z : k ≡ 0) where
-  pub due_index : e < length l
+module _ (N : Nodes) (E : Entries) (c : Clock) (e i : ℕ) (f : RefusesSchedule (records N E c) e i 0) where
+  pub due_index : e < length E.deadline
   due_index =
-      let s' = schedulable (nodes h t n p b ee g s) (entries d l m) c e i k f z in
+      let s' = schedulable N E c e i f in
       omega (arith, s'.entry, s'.sound.lengths.entries.deadline_len)
 
   pub due_bytes : Fits w64 (e * 8)
   due_bytes =
-      let s' = schedulable (nodes h t n p b ee g s) (entries d l m) c e i k f z in
+      let s' = schedulable N E c e i f in
       small e (omega (arith, s'.entry, s'.sound.lengths.ranges.entries_most))
 
 -- ---- set entry
-pub entry_ready : (N : Nodes) (E : Entries) (c : Clock) (e k : ℕ) → RefusesSet (records N E c) e k → k ≡ 0 → EntryReady E e
-entry_ready N E c e k f z =
+pub entry_ready : (N : Nodes) (E : Entries) (c : Clock) (e : ℕ) → RefusesSet (records N E c) e 0 → EntryReady E e
+entry_ready N E c e f =
     record {
-      dated = dated_at (records N E c) e k f z;
-      deadline = deadline_at_lem (records N E c) e k f z;
-      generation = stamp_at (records N E c) e k f z;
+      dated = dated_at (records N E c) e 0 f refl;
+      deadline = deadline_at_lem (records N E c) e 0 f refl;
+      generation = stamp_at (records N E c) e 0 f refl;
     }
 
 -- ---- reschedule, deschedule
@@ -132,11 +129,11 @@ pub record Handled (N : Nodes) (E : Entries) (c : Clock) (x n : ℕ) : Type 0 wh
   pub sound : SoundRecords wheel01 (records N E c)
   pub live : Live (records N E c) x n
 
-pub handled_by : (N : Nodes) (E : Entries) (c : Clock) (x n h k : ℕ) → RefusesHandle (records N E c) x n h k → k ≡ 0 → Handled N E c x n
-handled_by N E c x n h k f z =
+pub handled_by : (N : Nodes) (E : Entries) (c : Clock) (x n h : ℕ) → RefusesHandle (records N E c) x n h 0 → Handled N E c x n
+handled_by N E c x n h f =
     let R : Records = records N E c in
-    let u = closed_past R (unless (Live R x n) 12 (unless (get_or N.generation x 0 ≡ h) 13 answered)) k f.by z in
-    let v = past 12 k u.3 (λ i. omega (arith, z, i)) in
+    let u = closed_past R (unless (Live R x n) 12 (unless (get_or N.generation x 0 ≡ h) 13 answered)) 0 f.by refl in
+    let v = past 12 0 u.3 (λ i. omega (arith, i)) in
     record { enabled = u.0; sound = u.1; live = v.0 }
 
 slot_of : (N : Nodes) (E : Entries) (c : Clock) (x n : ℕ) → Handled N E c x n → SlotReady wheel01 N c x
@@ -149,13 +146,12 @@ slot_of N E c x n k =
       armed = omega (arith, k.live.armed, k.sound.lengths.ends.heads_len);
     }
 
-pub slot_ready : (N : Nodes) (E : Entries) (c : Clock) (x n h k : ℕ) → RefusesHandle (records N E c) x n h k → k ≡ 0 → SlotReady wheel01 N c x
-slot_ready N E c x n h k f z = slot_of N E c x n (handled_by N E c x n h k f z)
+pub slot_ready : (N : Nodes) (E : Entries) (c : Clock) (x n h : ℕ) → RefusesHandle (records N E c) x n h 0 → SlotReady wheel01 N c x
+slot_ready N E c x n h f = slot_of N E c x n (handled_by N E c x n h f)
 
-pub move_ready : (a : Links) (pe pg ps : List ℕ) (E : Entries) (c : Clock) (x n h k : ℕ) → RefusesHandle (records (join a pe pg ps) E c) x n h k → k ≡ 0
-    → MoveReady wheel01 a c.reading x
-move_ready a pe pg ps E c x n h k f z =
-    record { e = pe; h = pg; n = ps; c = c; at = refl; ready = slot_ready (join a pe pg ps) E c x n h k f z }
+pub move_ready : (N : Nodes) (E : Entries) (c : Clock) (x n h : ℕ) → RefusesHandle (records N E c) x n h 0 → MoveReady wheel01 N.links c.reading x
+move_ready N E c x n h f =
+    record { e = N.entry; h = N.generation; n = N.serial; c = c; at = refl; ready = slot_ready N E c x n h f }
 
 -- its entry exists
 armed_of : (N : Nodes) (E : Entries) (c : Clock) (x n : ℕ) → Handled N E c x n → Armed (buckets wheel01) N.links.home x
@@ -169,48 +165,46 @@ armed_of N E c x n k =
 pub entry_exists : (N : Nodes) (E : Entries) (c : Clock) (x n : ℕ) → Handled N E c x n → get_or N.entry x 0 < c.entries
 entry_exists N E c x n k = k.sound.exist.each x (armed_of N E c x n k)
 
-module _ (h t n p b ee g s : List ℕ) (d : List Bool) (l m : List ℕ) (c : Clock) (x j i k : ℕ) (f : RefusesHandle (lent h t n p b ee g s d l m c) x j i k)
-    (z : k ≡ 0) where
-  handled : Handled (nodes h t n p b ee g s) (entries d l m) c x j
-  handled = handled_by (nodes h t n p b ee g s) (entries d l m) c x j i k f z
+module _ (N : Nodes) (E : Entries) (c : Clock) (x j i : ℕ) (f : RefusesHandle (records N E c) x j i 0) where
+  handled : Handled N E c x j
+  handled = handled_by N E c x j i f
 
-  exists : get_or ee x 0 < c.entries
-  exists = entry_exists (nodes h t n p b ee g s) (entries d l m) c x j handled
+  exists : get_or N.entry x 0 < c.entries
+  exists = entry_exists N E c x j handled
 
-  pub entry_index : x < length ee
+  pub entry_index : x < length N.entry
   entry_index = omega (arith, handled.live.slot, handled.sound.lengths.nodes.entry_len)
 
   pub entry_bytes : Fits w64 (x * 8)
   entry_bytes = small x (omega (arith, handled.live.slot, handled.sound.lengths.ranges.nodes_most))
 
-  pub held_dated : get_or ee x 0 < length d
+  pub held_dated : get_or N.entry x 0 < length E.dated
   held_dated = omega (arith, exists, handled.sound.lengths.entries.dated_len)
 
-  pub held_deadline : get_or ee x 0 < length l
+  pub held_deadline : get_or N.entry x 0 < length E.deadline
   held_deadline = omega (arith, exists, handled.sound.lengths.entries.deadline_len)
 
-  pub held_bytes : Fits w64 (get_or ee x 0 * 8)
-  held_bytes = small (get_or ee x 0) (omega (arith, exists, handled.sound.lengths.ranges.entries_most))
+  pub held_bytes : Fits w64 (get_or N.entry x 0 * 8)
+  held_bytes = small (get_or N.entry x 0) (omega (arith, exists, handled.sound.lengths.ranges.entries_most))
 
 -- ---- pull
-pub turn_ready : (N : Nodes) (t : List Bool) (d m : List ℕ) (c : Clock) (k : ℕ) → RefusesOpen (records N (entries t d m) c) k → k ≡ 0 → TurnReady wheel01 N t d
-    c
-turn_ready N t d m c k f z =
-    let u = standing_past (records N (entries t d m) c) (unless (c.open ≡ true) 6 answered) k f.by z in
-    let v = past 6 k u.2 (λ i. omega (arith, z, i)) in
-    record { ages = m; ready = ready N (entries t d m) c u.0 u.1; opened = v.0 }
+pub turn_ready : (N : Nodes) (E : Entries) (c : Clock) → RefusesOpen (records N E c) 0 → TurnReady wheel01 N E.dated E.deadline c
+turn_ready N E c f =
+    let u = standing_past (records N E c) (unless (c.open ≡ true) 6 answered) 0 f.by refl in
+    let v = past 6 0 u.2 (λ i. omega (arith, i)) in
+    record { ages = E.generation; ready = ready N E c u.0 u.1; opened = v.0 }
 
 -- ---- the two counts
-module _ (h t n p b ee g s : List ℕ) (d : List Bool) (l m : List ℕ) (c : Clock) (o : SoundRecords wheel01 (lent h t n p b ee g s d l m c)) where
-  room : length h ≤ length b
+module _ (N : Nodes) (E : Entries) (c : Clock) (o : SoundRecords wheel01 (records N E c)) where
+  room : length N.links.heads ≤ length N.links.home
   room = omega (arith, o.lengths.ends.heads_len, o.lengths.nodes.bucket_len, o.lengths.ranges.room)
 
-  exists_at : (x : ℕ) → length h ≤ x → x < length b → get_or b x 0 < length h → get_or ee x 0 < c.entries
+  exists_at : (x : ℕ) → length N.links.heads ≤ x → x < length N.links.home → get_or N.links.home x 0 < length N.links.heads → get_or N.entry x 0 < c.entries
   exists_at x i j a =
       o.exist.each x
       (record { after = omega (arith, i, o.lengths.ends.heads_len); lent = j; names = omega (arith, a, o.lengths.ends.heads_len) })
 
-  due_of : DueReady h b ee d l
+  due_of : DueReady N.links.heads N.links.home N.entry E.dated E.deadline
   due_of =
       record {
         entry_len = o.lengths.nodes.entry_len ∙ sym o.lengths.nodes.bucket_len;
@@ -219,12 +213,12 @@ module _ (h t n p b ee g s : List ℕ) (d : List Bool) (l m : List ℕ) (c : Clo
         deadline = λ x i j a. omega (arith, exists_at x i j a, o.lengths.entries.deadline_len);
       }
 
-module _ (h t n p b ee g s : List ℕ) (d : List Bool) (l m : List ℕ) (c : Clock) (k : ℕ) where
-  pub count_ready : RefusesCount (lent h t n p b ee g s d l m c) k → k ≡ 0 → length h ≤ length b
-  count_ready f z = room h t n p b ee g s d l m c (standing_past (lent h t n p b ee g s d l m c) answered k f.by z).1
+module _ (N : Nodes) (E : Entries) (c : Clock) where
+  pub count_ready : RefusesCount (records N E c) 0 → length N.links.heads ≤ length N.links.home
+  count_ready f = room N E c (standing_past (records N E c) answered 0 f.by refl).1
 
-  pub due_ready : RefusesClosed (lent h t n p b ee g s d l m c) k → k ≡ 0 → DueReady h b ee d l
-  due_ready f z = due_of h t n p b ee g s d l m c (closed_past (lent h t n p b ee g s d l m c) answered k f.by z).1
+  pub due_ready : RefusesClosed (records N E c) 0 → DueReady N.links.heads N.links.home N.entry E.dated E.deadline
+  due_ready f = due_of N E c (closed_past (records N E c) answered 0 f.by refl).1
 
 -- ---- what the wheel that the records show says of them
 -- an entry's deadline

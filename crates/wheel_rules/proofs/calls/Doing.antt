@@ -44,7 +44,7 @@ use Rattle.wheel_rules.proofs.calls.Lifting.{stands_of, lift, same_option}
 -- ---- enable
 pub enable_acts : (R : Records) → enable_rows R 0 → Acts (enabling R) R (laid_out R) ok
 enable_acts R f w t o =
-    let y : LayReady wheel01 R.nodes R.entries = lay_ready R.nodes R.entries R.clock 0 (record { by = f }) refl in
+    let y : LayReady wheel01 R.nodes R.entries = lay_ready R.nodes R.entries R.clock (record { by = f }) in
     (refl, stands_of (laid_out R) _ (lay_does R.nodes R.entries R.clock y w t.reading t.next))
 
 -- ---- schedule
@@ -79,7 +79,7 @@ module _ (R : Records) (e h : ℕ) (s : Schedulable R.nodes R.entries R.clock e)
       (deadline_is R.entries w N R.clock e true t s.entry s.dated))
 
 pub schedule_acts : (R : Records) (e h : ℕ) → schedule_rows R e h 0 → Acts (schedule e h) R (scheduled R e h) (handle_of R)
-schedule_acts R e h f = schedule_lifts R e h (schedulable_by R e h 0 f refl)
+schedule_acts R e h f = schedule_lifts R e h (schedulable_by R e h f)
 
 -- ---- deschedule, reschedule
 module _ (R : Records) (x n h : ℕ) (f : handle_rows R x n h 0) where
@@ -87,10 +87,10 @@ module _ (R : Records) (x n h : ℕ) (f : handle_rows R x n h 0) where
   refuses = record { by = f }
 
   held : Handled R.nodes R.entries R.clock x n
-  held = handled_by R.nodes R.entries R.clock x n h 0 refuses refl
+  held = handled_by R.nodes R.entries R.clock x n h refuses
 
   slot : SlotReady wheel01 R.nodes R.clock x
-  slot = slot_ready R.nodes R.entries R.clock x n h 0 refuses refl
+  slot = slot_ready R.nodes R.entries R.clock x n h refuses
 
   pub deschedule_acts : Acts (deschedule x n h) R (descheduled R x) ok
   deschedule_acts =
@@ -123,7 +123,7 @@ set_acts R e has d h f =
     let g : RefusesSet R e 0 = record { by = f } in
     let E : Entries = R.entries in
     let j : ℕ = cond has d 0 in
-    let y : EntryReady E e = entry_ready R.nodes E R.clock e 0 g refl in
+    let y : EntryReady E e = entry_ready R.nodes E R.clock e g in
     lift (set_entry e (cond has (some d) none) h) R (entry_set R e has d h) ok (set_past R e 0 g refl).0
     (λ w t o. (
       refl,
@@ -164,6 +164,6 @@ pub pull_acts : (R : Records) → open_rows R 0 → Acts pull R (pulled R) (pull
 pull_acts R f =
     let E : Entries = R.entries in
     let y : TurnReady wheel01 R.nodes E.dated E.deadline R.clock =
-    turn_ready R.nodes E.dated E.deadline E.generation R.clock 0 (record { by = f }) refl in
+    turn_ready R.nodes E R.clock (record { by = f }) in
     lift pull R (pulled R) (pull_says R) (open_past R f).0
     (λ w t o. pull_does R.nodes E.dated E.deadline R.clock y E.generation w t o)

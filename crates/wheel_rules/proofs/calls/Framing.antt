@@ -8,6 +8,7 @@ use mathlib.Core.List.{List, []}
 use lib.ListN.{length, get_or, get_or-replicate}
 use lib.Dec.{ltb, leb}
 use borrow.Author.Tests.{ltb-true}
+use Rattle.std.specs.Prelude.{Option}
 use Rattle.numbers.specs.Shared.{no_slot as none, In, unless, not_refused as answered}
 use Rattle.deque_rules.specs.Links.{home_of, deq, listed}
 use Rattle.deque_rules.specs.Change.{turn_to}
@@ -15,15 +16,16 @@ use Rattle.deque_rules.proofs.Laws.{first_in, head_is, whole_listed}
 use Rattle.rules.specs.Places.{wheel01, buckets, bucket_at}
 use Rattle.rules.proofs.Placing.{bucket_of_in}
 use Rattle.numbers.proofs.Cases.{below?}
+use Rattle.wheel_rules.specs.popping.Position.{more, level_of, step_of}
 use Rattle.wheel_rules.specs.declared.calls.Clock.{Clock}
 use Rattle.wheel_rules.specs.Lent.{Nodes, Records, SoundRecords}
 use Rattle.wheel_rules.specs.records.Records.{with_links}
 use Rattle.wheel_rules.specs.records.Clocks.{standing, ended}
 use Rattle.wheel_rules.specs.timers.Change.{freed_from, moved_to}
 use Rattle.wheel_rules.specs.declared.popping.Position.{Position}
-use Rattle.wheel_rules.specs.declared.popping.Pulled.TheVariants.{End}
+use Rattle.wheel_rules.specs.declared.calls.Event.TheVariants.{End}
 use Rattle.wheel_rules.specs.declared.popping.Turn.{Turn}
-use Rattle.wheel_rules.specs.popping.Pop.{goes, stops, stands_in, waiting_at, next_position, pop_nodes, pop_turn, left as turnsLeft}
+use Rattle.wheel_rules.specs.popping.Pop.{goes, stops, stands_in, waiting_at, next_position, pop_nodes, pop_turn, left as turnsLeft, going}
 use Rattle.wheel_rules.specs.turns.Turns.{on_links, on_turn, turn_nodes, turn_turn}
 use Rattle.wheel_rules.specs.pull.Pull.{Step, turns}
 use Rattle.wheel_rules.specs.refusals.Refuse.{roomy, Live, Lendable, enable_rows, schedule_rows, handle_rows, closed_rows, open_rows}
@@ -224,18 +226,18 @@ module _ (t : List Bool) (d : List ℕ) (N : Nodes) (c : Clock) (z : Fit D N c.f
 
   -- the next bucket is entered, or the advance ends
   on_goes : Goes N (with_links (on_links wheel01 N.links c) N) (on_turn wheel01 c)
-  on_goes = go (next_position wheel01 c).more
+  on_goes = go (more (next_position wheel01 c))
     where
-      r : Position
+      r : Option Position
       r = next_position wheel01 c
 
       b : ℕ
-      b = bucket_at wheel01 c.previous r.level (r.step - 1)
+      b = bucket_at wheel01 c.previous (level_of r) ((step_of r) - 1)
 
       go : (m : Bool)
-          → Goes N (with_links (cond m (turn_to N.links b b) N.links) N) (cond m (goes (standing r.level r.step c)) (stops (ended c) End))
+          → Goes N (with_links (cond m (turn_to N.links b b) N.links) N) (cond m (goes (standing (level_of r) (step_of r) c)) (stops (ended c) End))
       go true =
-          let h : b < D = bucket_at_in wheel01 c.previous r.level (r.step - 1) in
+          let h : b < D = bucket_at_in wheel01 c.previous (level_of r) ((step_of r) - 1) in
           record { kept = turn_kept D N c.free z b h; fit = turn_fit D N c.free z b h }
       go false = record { kept = kept_same D N; fit = z }
 
@@ -258,13 +260,13 @@ turns_kept t d (suc k) N c z =
     let r : Turn = turn_turn wheel01 N t d c in
     let M : Nodes = turn_nodes wheel01 N t d c in
     let u : Goes N M r = turn_goes t d N c z in
-    either_kept N (turns wheel01 t d k M r.clock) (record { nodes = M; turn = r }) r.going
+    either_kept N (turns wheel01 t d k M r.clock) (record { nodes = M; turn = r }) (going r)
     (kept_both D N M (turns wheel01 t d k M r.clock).nodes u.kept (turns_kept t d k M r.clock u.fit))
     u.kept
 
 -- the clock of a turn: the advance stays open where the pull goes on, and one that is closed has been ended
 record Closes (r : Turn) : Type 0 where
-  on : r.going ≡ true → r.clock.open ≡ true
+  on : going r ≡ true → r.clock.open ≡ true
   off : r.clock.open ≡ false → (r.clock.previous ≡ 0) × (r.clock.level ≡ 0) × (r.clock.step ≡ 0)
 
 either_closes : (r r' : Turn) (b : Bool) → Closes r → Closes r' → Closes (cond b r r')
@@ -278,7 +280,7 @@ module _ (t : List Bool) (d : List ℕ) where
       let e : ℕ = get_or N.entry x 0 in
       either_closes _ _ (ltb x (length N.links.next))
       (either_closes _ _ (get_or t e false) (either_closes _ _ (leb (get_or d e 0) c.reading) (still _ refl) (still _ refl)) (still _ refl))
-      (either_closes _ _ (next_position wheel01 c).more (still _ refl)
+      (either_closes _ _ (more (next_position wheel01 c)) (still _ refl)
       (record { on = λ i. absurd (false≢true i); off = λ i. (refl, refl, refl) }))
     where
       still : (r : Turn) → r.clock.open ≡ c.open → Closes r
@@ -286,7 +288,7 @@ module _ (t : List Bool) (d : List ℕ) where
 
   turns_closes : (k : ℕ) (N : Nodes) (c : Clock) → c.open ≡ true → Closes (turns wheel01 t d k N c).turn
   turns_closes zero N c o = record { on = λ i. o; off = λ i. absurd (false≢true (sym i ∙ o)) }
-  turns_closes (suc k) N c o = go r.going refl (turns_closes k M r.clock)
+  turns_closes (suc k) N c o = go (going r) refl (turns_closes k M r.clock)
     where
       r : Turn
       r = turn_turn wheel01 N t d c
@@ -294,7 +296,7 @@ module _ (t : List Bool) (d : List ℕ) where
       M : Nodes
       M = turn_nodes wheel01 N t d c
 
-      go : (b : Bool) → r.going ≡ b → (r.clock.open ≡ true → Closes (turns wheel01 t d k M r.clock).turn)
+      go : (b : Bool) → going r ≡ b → (r.clock.open ≡ true → Closes (turns wheel01 t d k M r.clock).turn)
           → Closes (cond b (turns wheel01 t d k M r.clock) (record { nodes = M; turn = r })).turn
       go true e more = more ((turn_closes N c o).on e)
       go false e more = turn_closes N c o

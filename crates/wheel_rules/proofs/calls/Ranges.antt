@@ -12,9 +12,9 @@ use Rattle.wheel_rules.specs.declared.calls.Clock.{Clock}
 use Rattle.wheel_rules.specs.Lent.{Nodes, Records, SoundRecords}
 use Rattle.wheel_rules.specs.records.Clocks.{set_free, counted, started, ended, abandoned, standing}
 use Rattle.wheel_rules.specs.declared.popping.Turn.{Turn}
-use Rattle.wheel_rules.specs.declared.popping.Pulled.TheVariants.{Expired, Rescheduled, End}
-use Rattle.wheel_rules.specs.popping.Position.{at, over, onward}
-use Rattle.wheel_rules.specs.popping.Pop.{goes, stops, waiting_at, next_position, pop_turn, left}
+use Rattle.wheel_rules.specs.declared.calls.Event.TheVariants.{Expired, Rescheduled, End}
+use Rattle.wheel_rules.specs.popping.Position.{at, over, onward, more, level_of, step_of}
+use Rattle.wheel_rules.specs.popping.Pop.{goes, stops, waiting_at, next_position, pop_turn, left, going}
 use Rattle.wheel_rules.specs.turns.Turns.{on_turn, turn_nodes, turn_turn}
 use Rattle.wheel_rules.specs.pull.Pull.{Step, turns, pull_step}
 use Rattle.wheel_rules.specs.sound.Sound.{InRange}
@@ -56,10 +56,10 @@ either P true x y p q = p
 either P false x y p q = q
 
 -- the next position is on a level that there is
-onward_level : (p q l j : ℕ) → l ≤ length wheel01.sizes → (onward wheel01 p q l j).level ≤ length wheel01.sizes
+onward_level : (p q l j : ℕ) → l ≤ length wheel01.sizes → level_of (onward wheel01 p q l j) ≤ length wheel01.sizes
 onward_level p q l j h = go (ltb j (visited_at wheel01 p q l)) (ltb l (length wheel01.sizes)) refl (ltb 0 (visited_at wheel01 p q (l + 1)))
   where
-    go : (a b : Bool) → ltb l (length wheel01.sizes) ≡ b → (d : Bool) → (cond a (at l (j + 1)) (cond b (cond d (at (l + 1) 1) over) over)).level ≤ length
+    go : (a b : Bool) → ltb l (length wheel01.sizes) ≡ b → (d : Bool) → level_of (cond a (at l (j + 1)) (cond b (cond d (at (l + 1) 1) over) over)) ≤ length
         wheel01.sizes
     go true b e d = h
     go false true e true = omega (arith, ltb-true l (length wheel01.sizes) e)
@@ -71,7 +71,7 @@ Fine r = InRange wheel01 r.clock
 
 on_range : (c : Clock) → InRange wheel01 c → Fine (on_turn wheel01 c)
 on_range c i =
-    either Fine (next_position wheel01 c).more (goes (standing (next_position wheel01 c).level (next_position wheel01 c).step c)) (stops (ended c) End)
+    either Fine (more (next_position wheel01 c)) (goes (standing (level_of (next_position wheel01 c)) (step_of (next_position wheel01 c)) c)) (stops (ended c) End)
     (record { some = i.some; most = i.most; known = λ o. onward_level c.previous c.reading c.level c.step (i.known o) })
     (ending c i)
 
@@ -101,7 +101,7 @@ module _ (t : List Bool) (d : List ℕ) where
   turns_range (suc k) N c i =
       let r : Turn = turn_turn wheel01 N t d c in
       let M : Nodes = turn_nodes wheel01 N t d c in
-      either_step r.going (turns wheel01 t d k M r.clock) (record { nodes = M; turn = r }) (turns_range k M r.clock (turn_range N c i))
+      either_step (going r) (turns wheel01 t d k M r.clock) (record { nodes = M; turn = r }) (turns_range k M r.clock (turn_range N c i))
       (turn_range N c i)
 
   pub pulling_range : (N : Nodes) (c : Clock) → InRange wheel01 c → InRange wheel01 (pull_step wheel01 t d N c).turn.clock

@@ -1,94 +1,115 @@
 -- Two results that meet a promise coincide: the answer itself, every record and the clock.
 use Prim.Native.Nat.{ℕ}
 use native.Mathlib.Omega.{arith}
-use mathlib.Core.Path.{◌≡◌, refl, ap}
+use mathlib.Core.Path.{◌≡◌, refl, sym, ap}
 use mathlib.Core.List.{List}
-use Rattle.rules.specs.Wheel.{Call, create, Answer}
+use Rattle.rules.specs.Wheel.{Call, create, Answer, handle, number, due}
 use Rattle.wheel_rules.specs.declared.calls.Clock.{Clock}
 use Rattle.wheel_rules.specs.Lent.{Nodes, Entries, Records, records}
-use Rattle.wheel_rules.specs.declared.calls.Timed.{Timed}
-use Rattle.wheel_rules.specs.declared.calls.Timed.TheVariants.{Done, Refused as TimedRefused}
-use Rattle.wheel_rules.specs.declared.calls.Noted.{Noted}
-use Rattle.wheel_rules.specs.declared.calls.Noted.TheVariants.{Done as Set, Refused as NotedRefused}
-use Rattle.wheel_rules.specs.declared.calls.Scheduled.{Scheduled}
-use Rattle.wheel_rules.specs.declared.calls.Scheduled.TheVariants.{Armed, Refused as ScheduledRefused}
+use Rattle.numbers.proofs.Numbered.{number_once}
+use Rattle.numbers.specs.Refusals.{number_of}
+use Rattle.numbers.specs.declared.refusals.Refusal.{Refusal}
+use Rattle.std.specs.Prelude.{Option, Some, None, Result, Ok, Err}
+use Rattle.wheel_rules.specs.declared.calls.After.{After}
+use Rattle.wheel_rules.specs.declared.calls.Event.{Event}
+use Rattle.wheel_rules.specs.declared.calls.Event.TheVariants.{Expired, Rescheduled as Placed, End}
+use Rattle.wheel_rules.specs.declared.calls.Handle.{Handle}
 use Rattle.wheel_rules.specs.declared.calls.Rescheduled.{Rescheduled}
-use Rattle.wheel_rules.specs.declared.calls.Rescheduled.TheVariants.{Moved, Removed, Refused as RescheduledRefused}
-use Rattle.wheel_rules.specs.declared.calls.Pulled.{Pulled}
-use Rattle.wheel_rules.specs.declared.calls.Pulled.TheVariants.{Expired, Rescheduled as Placed, End, Refused as PulledRefused}
-use Rattle.wheel_rules.specs.declared.calls.Counted.{Counted}
-use Rattle.wheel_rules.specs.declared.calls.Counted.TheVariants.{Armed as Count, Refused as CountedRefused}
-use Rattle.wheel_rules.specs.declared.calls.Due.{Due}
-use Rattle.wheel_rules.specs.declared.calls.Due.TheVariants.{At, Never, Refused as DueRefused}
-use Rattle.wheel_rules.specs.Promise.{timed_says, noted_says, scheduled_says, rescheduled_says, pulled_says, counted_says, due_says, timed_clock}
-use Rattle.wheel_rules.specs.Promise.{scheduled_clock, rescheduled_clock, pulled_clock, Promised, over, Begins}
+use Rattle.wheel_rules.specs.declared.calls.Rescheduled.TheVariants.{Moved, Removed}
+use Rattle.rules.specs.Wheel.{refused, ok}
+use Rattle.wheel_rules.specs.Promise.{says, timed_says, noted_says, scheduled_says, rescheduled_says, pulled_says, counted_says, due_says}
+use Rattle.wheel_rules.specs.Promise.{handle_told, rescheduled_told, told, due_told, timed_clock, clock_after, Promised, over, Begins}
 use Rattle.wheel_rules.proofs.calls.Promising.{coincide}
 
--- ---- what is said, and the clock, determine the answer
-module _ (c : Clock) where
-  timed : (r s : Timed) → timed_says r ≡ timed_says s → timed_clock c r ≡ timed_clock c s → r ≡ s
-  timed (Done x) (Done y) e f = ap Done f
-  timed (Done x) (TimedRefused y) e f = let z : ◌≡◌ {A = ℕ} 0 1 = cc in absurd (omega arith)
-  timed (TimedRefused x) (Done y) e f = let z : ◌≡◌ {A = ℕ} 0 1 = cc in absurd (omega arith)
-  timed (TimedRefused x) (TimedRefused y) e f = cc
+-- ---- what is said determines the answer
+-- of a value: the same is said of no other, and a refusal of none
+pub record Telling {A : Type 0} (f : A → Answer) : Type 0 where
+  pub once : (a b : A) → f a ≡ f b → a ≡ b
+  pub never : (a : A) (k : ℕ) → f a ≡ refused k → ⊥
 
-  scheduled : (r s : Scheduled) → scheduled_says r ≡ scheduled_says s → scheduled_clock c r ≡ scheduled_clock c s → r ≡ s
-  scheduled (Armed x n k) (Armed y m l) e f = cc
-  scheduled (Armed x n k) (ScheduledRefused y) e f = let z : ◌≡◌ {A = ℕ} 0 1 = cc in absurd (omega arith)
-  scheduled (ScheduledRefused x) (Armed y m l) e f = let z : ◌≡◌ {A = ℕ} 0 1 = cc in absurd (omega arith)
-  scheduled (ScheduledRefused x) (ScheduledRefused y) e f = cc
+refused_once : (u v : Refusal) → ◌≡◌ {A = Answer} (refused (number_of u)) (refused (number_of v)) → u ≡ v
+refused_once u v e = number_once u v cc
 
-  rescheduled : (r s : Rescheduled) → rescheduled_says r ≡ rescheduled_says s → rescheduled_clock c r ≡ rescheduled_clock c s → r ≡ s
-  rescheduled Moved Moved e f = refl
-  rescheduled Moved (Removed y) e f = let z : ◌≡◌ {A = ℕ} 0 1 = cc in absurd (omega arith)
-  rescheduled Moved (RescheduledRefused y) e f = let z : ◌≡◌ {A = ℕ} 0 1 = cc in absurd (omega arith)
-  rescheduled (Removed x) Moved e f = let z : ◌≡◌ {A = ℕ} 0 1 = cc in absurd (omega arith)
-  rescheduled (Removed x) (Removed y) e f = ap Removed f
-  rescheduled (Removed x) (RescheduledRefused y) e f = let z : ◌≡◌ {A = ℕ} 0 1 = cc in absurd (omega arith)
-  rescheduled (RescheduledRefused x) Moved e f = let z : ◌≡◌ {A = ℕ} 0 1 = cc in absurd (omega arith)
-  rescheduled (RescheduledRefused x) (Removed y) e f = let z : ◌≡◌ {A = ℕ} 0 1 = cc in absurd (omega arith)
-  rescheduled (RescheduledRefused x) (RescheduledRefused y) e f = cc
+-- with a clock beside the value
+module _ {A : Type 0} (f : A → Answer) (t : Telling f) (c : Clock) where
+  after : (r s : Result (After A) Refusal) → says (λ a. f a.answer) r ≡ says (λ a. f a.answer) s → clock_after c r ≡ clock_after c s → r ≡ s
+  after (Ok x) (Ok y) e g = ap Ok (λ i. record { clock = g i; answer = t.once x.answer y.answer e i })
+  after (Ok x) (Err v) e g = absurd (t.never x.answer (number_of v) e)
+  after (Err u) (Ok y) e g = absurd (t.never y.answer (number_of u) (sym e))
+  after (Err u) (Err v) e g = ap Err (refused_once u v e)
 
-  pulled_answer : (r s : Pulled) → pulled_says r ≡ pulled_says s → pulled_clock c r ≡ pulled_clock c s → r ≡ s
-  pulled_answer (Expired x n d k) (Expired y m b l) e f = cc
-  pulled_answer (Expired x n d k) (Placed y m b l) e f = let z : ◌≡◌ {A = ℕ} 0 1 = cc in absurd (omega arith)
-  pulled_answer (Expired x n d k) (End l) e f = let z : ◌≡◌ {A = ℕ} 0 1 = cc in absurd (omega arith)
-  pulled_answer (Expired x n d k) (PulledRefused y) e f = let z : ◌≡◌ {A = ℕ} 0 1 = cc in absurd (omega arith)
-  pulled_answer (Placed x n d k) (Expired y m b l) e f = let z : ◌≡◌ {A = ℕ} 0 1 = cc in absurd (omega arith)
-  pulled_answer (Placed x n d k) (Placed y m b l) e f = cc
-  pulled_answer (Placed x n d k) (End l) e f = let z : ◌≡◌ {A = ℕ} 0 1 = cc in absurd (omega arith)
-  pulled_answer (Placed x n d k) (PulledRefused y) e f = let z : ◌≡◌ {A = ℕ} 0 1 = cc in absurd (omega arith)
-  pulled_answer (End k) (Expired y m b l) e f = let z : ◌≡◌ {A = ℕ} 0 1 = cc in absurd (omega arith)
-  pulled_answer (End k) (Placed y m b l) e f = let z : ◌≡◌ {A = ℕ} 0 1 = cc in absurd (omega arith)
-  pulled_answer (End k) (End l) e f = ap End f
-  pulled_answer (End k) (PulledRefused y) e f = let z : ◌≡◌ {A = ℕ} 0 1 = cc in absurd (omega arith)
-  pulled_answer (PulledRefused x) (Expired y m b l) e f = let z : ◌≡◌ {A = ℕ} 0 1 = cc in absurd (omega arith)
-  pulled_answer (PulledRefused x) (Placed y m b l) e f = let z : ◌≡◌ {A = ℕ} 0 1 = cc in absurd (omega arith)
-  pulled_answer (PulledRefused x) (End l) e f = let z : ◌≡◌ {A = ℕ} 0 1 = cc in absurd (omega arith)
-  pulled_answer (PulledRefused x) (PulledRefused y) e f = cc
+module _ {A : Type 0} (f : A → Answer) (t : Telling f) where
+  pub alone : (r s : Result A Refusal) → says f r ≡ says f s → r ≡ s
+  alone (Ok x) (Ok y) e = ap Ok (t.once x y e)
+  alone (Ok x) (Err v) e = absurd (t.never x (number_of v) e)
+  alone (Err u) (Ok y) e = absurd (t.never y (number_of u) (sym e))
+  alone (Err u) (Err v) e = ap Err (refused_once u v e)
 
-pub noted : (r s : Noted) → noted_says r ≡ noted_says s → r ≡ s
-noted Set Set e = refl
-noted Set (NotedRefused y) e = let z : ◌≡◌ {A = ℕ} 0 1 = cc in absurd (omega arith)
-noted (NotedRefused x) Set e = let z : ◌≡◌ {A = ℕ} 0 1 = cc in absurd (omega arith)
-noted (NotedRefused x) (NotedRefused y) e = cc
+timed : (c : Clock) (r s : Result Clock Refusal) → timed_says r ≡ timed_says s → timed_clock c r ≡ timed_clock c s → r ≡ s
+timed c (Ok x) (Ok y) e f = ap Ok f
+timed c (Ok x) (Err v) e f = let z : ◌≡◌ {A = ℕ} 0 1 = cc in absurd (omega arith)
+timed c (Err u) (Ok y) e f = let z : ◌≡◌ {A = ℕ} 0 1 = cc in absurd (omega arith)
+timed c (Err u) (Err v) e f = ap Err (refused_once u v e)
 
-pub counted : (r s : Counted) → counted_says r ≡ counted_says s → r ≡ s
-counted (Count x) (Count y) e = cc
-counted (Count x) (CountedRefused y) e = let z : ◌≡◌ {A = ℕ} 0 1 = cc in absurd (omega arith)
-counted (CountedRefused x) (Count y) e = let z : ◌≡◌ {A = ℕ} 0 1 = cc in absurd (omega arith)
-counted (CountedRefused x) (CountedRefused y) e = cc
+pub handles : Telling handle_told
+handles = record {
+  once = λ a b e i. record { slot = slots e i; serial = serials e i };
+  never = λ a k e. let z : ◌≡◌ {A = ℕ} 0 1 = cc in omega arith;
+}
+  where
+    slots : {x n y m : ℕ} → handle x n ≡ handle y m → x ≡ y
+    slots e = cc
 
-pub dued : (r s : Due) → due_says r ≡ due_says s → r ≡ s
-dued (At x) (At y) e = cc
-dued (At x) Never e = let z : ◌≡◌ {A = ℕ} 0 1 = cc in absurd (omega arith)
-dued (At x) (DueRefused y) e = let z : ◌≡◌ {A = ℕ} 0 1 = cc in absurd (omega arith)
-dued Never (At y) e = let z : ◌≡◌ {A = ℕ} 0 1 = cc in absurd (omega arith)
-dued Never Never e = refl
-dued Never (DueRefused y) e = let z : ◌≡◌ {A = ℕ} 0 1 = cc in absurd (omega arith)
-dued (DueRefused x) (At y) e = let z : ◌≡◌ {A = ℕ} 0 1 = cc in absurd (omega arith)
-dued (DueRefused x) Never e = let z : ◌≡◌ {A = ℕ} 0 1 = cc in absurd (omega arith)
-dued (DueRefused x) (DueRefused y) e = cc
+    serials : {x n y m : ℕ} → handle x n ≡ handle y m → n ≡ m
+    serials e = cc
+
+pub moves : Telling rescheduled_told
+moves = record { once = once; never = never }
+  where
+    once : (a b : Rescheduled) → rescheduled_told a ≡ rescheduled_told b → a ≡ b
+    once Moved Moved e = refl
+    once Moved Removed e = let z : ◌≡◌ {A = ℕ} 0 1 = cc in absurd (omega arith)
+    once Removed Moved e = let z : ◌≡◌ {A = ℕ} 0 1 = cc in absurd (omega arith)
+    once Removed Removed e = refl
+
+    never : (a : Rescheduled) (k : ℕ) → rescheduled_told a ≡ refused k → ⊥
+    never Moved k e = let z : ◌≡◌ {A = ℕ} 0 1 = cc in omega arith
+    never Removed k e = let z : ◌≡◌ {A = ℕ} 0 1 = cc in omega arith
+
+pub events : Telling told
+events = record { once = once; never = never }
+  where
+    once : (a b : Event) → told a ≡ told b → a ≡ b
+    once (Expired x n d) (Expired y m b) e = cc
+    once (Expired x n d) (Placed y m b) e = let z : ◌≡◌ {A = ℕ} 0 1 = cc in absurd (omega arith)
+    once (Expired x n d) End e = let z : ◌≡◌ {A = ℕ} 0 1 = cc in absurd (omega arith)
+    once (Placed x n d) (Expired y m b) e = let z : ◌≡◌ {A = ℕ} 0 1 = cc in absurd (omega arith)
+    once (Placed x n d) (Placed y m b) e = cc
+    once (Placed x n d) End e = let z : ◌≡◌ {A = ℕ} 0 1 = cc in absurd (omega arith)
+    once End (Expired y m b) e = let z : ◌≡◌ {A = ℕ} 0 1 = cc in absurd (omega arith)
+    once End (Placed y m b) e = let z : ◌≡◌ {A = ℕ} 0 1 = cc in absurd (omega arith)
+    once End End e = refl
+
+    never : (a : Event) (k : ℕ) → told a ≡ refused k → ⊥
+    never (Expired x n d) k e = let z : ◌≡◌ {A = ℕ} 0 1 = cc in omega arith
+    never (Placed x n d) k e = let z : ◌≡◌ {A = ℕ} 0 1 = cc in omega arith
+    never End k e = let z : ◌≡◌ {A = ℕ} 0 1 = cc in omega arith
+
+-- nothing to say but that it is done
+pub done : Telling {A = Unit {0}} (λ u. ok)
+done = record { once = λ a b e. refl; never = λ a k e. let z : ◌≡◌ {A = ℕ} 0 1 = cc in omega arith }
+
+pub counts : Telling number
+counts = record { once = λ a b e. cc; never = λ a k e. let z : ◌≡◌ {A = ℕ} 0 1 = cc in omega arith }
+
+pub dues : Telling {A = Option ℕ} (λ o. due (due_told o))
+dues = record { once = once; never = λ a k e. let z : ◌≡◌ {A = ℕ} 0 1 = cc in omega arith }
+  where
+    once : (a b : Option ℕ) → due (due_told a) ≡ due (due_told b) → a ≡ b
+    once (Some x) (Some y) e = cc
+    once (Some x) None e = let z : ◌≡◌ {A = ℕ} 0 1 = cc in absurd (omega arith)
+    once None (Some y) e = let z : ◌≡◌ {A = ℕ} 0 1 = cc in absurd (omega arith)
+    once None None e = refl
 
 -- ---- the calls: the clock afterwards is the one that the answer hands back, or the caller's own
 abbrev pub clock_of : Records → Clock
@@ -113,32 +134,32 @@ module _ (R : Records) (N M : Nodes) (E F : Entries) (c : Call) where
       (u.0, ap clock_of u.1, ap (λ (x : Records). x.nodes) u.1, ap (λ (x : Records). x.entries) u.1)
 
   -- enable, deschedule, start, abandon
-  pub timed_coincides : (r s : Timed) → Promised c R (records N E (timed_clock R.clock r)) (timed_says r)
+  pub timed_coincides : (r s : Result Clock Refusal) → Promised c R (records N E (timed_clock R.clock r)) (timed_says r)
       → Promised c R (records M F (timed_clock R.clock s)) (timed_says s) → (r ≡ s) × (N ≡ M) × (E ≡ F)
   timed_coincides r s p q = let u = one _ _ _ _ p q in (timed R.clock r s u.0 u.1, u.2, u.3)
 
   -- schedule
-  pub scheduled_coincides : (r s : Scheduled) → Promised c R (records N E (scheduled_clock R.clock r)) (scheduled_says r)
-      → Promised c R (records M F (scheduled_clock R.clock s)) (scheduled_says s) → (r ≡ s) × (N ≡ M) × (E ≡ F)
-  scheduled_coincides r s p q = let u = one _ _ _ _ p q in (scheduled R.clock r s u.0 u.1, u.2, u.3)
+  pub scheduled_coincides : (r s : Result (After Handle) Refusal) → Promised c R (records N E (clock_after R.clock r)) (scheduled_says r)
+      → Promised c R (records M F (clock_after R.clock s)) (scheduled_says s) → (r ≡ s) × (N ≡ M) × (E ≡ F)
+  scheduled_coincides r s p q = let u = one _ _ _ _ p q in (after _ handles R.clock r s u.0 u.1, u.2, u.3)
 
   -- reschedule
-  pub rescheduled_coincides : (r s : Rescheduled) → Promised c R (records N E (rescheduled_clock R.clock r)) (rescheduled_says r)
-      → Promised c R (records M F (rescheduled_clock R.clock s)) (rescheduled_says s) → (r ≡ s) × (N ≡ M) × (E ≡ F)
-  rescheduled_coincides r s p q = let u = one _ _ _ _ p q in (rescheduled R.clock r s u.0 u.1, u.2, u.3)
+  pub rescheduled_coincides : (r s : Result (After Rescheduled) Refusal) → Promised c R (records N E (clock_after R.clock r)) (rescheduled_says r)
+      → Promised c R (records M F (clock_after R.clock s)) (rescheduled_says s) → (r ≡ s) × (N ≡ M) × (E ≡ F)
+  rescheduled_coincides r s p q = let u = one _ _ _ _ p q in (after _ moves R.clock r s u.0 u.1, u.2, u.3)
 
   -- pull
-  pub pulled_coincides : (r s : Pulled) → Promised c R (records N E (pulled_clock R.clock r)) (pulled_says r)
-      → Promised c R (records M F (pulled_clock R.clock s)) (pulled_says s) → (r ≡ s) × (N ≡ M) × (E ≡ F)
-  pulled_coincides r s p q = let u = one _ _ _ _ p q in (pulled_answer R.clock r s u.0 u.1, u.2, u.3)
+  pub pulled_coincides : (r s : Result (After Event) Refusal) → Promised c R (records N E (clock_after R.clock r)) (pulled_says r)
+      → Promised c R (records M F (clock_after R.clock s)) (pulled_says s) → (r ≡ s) × (N ≡ M) × (E ≡ F)
+  pulled_coincides r s p q = let u = one _ _ _ _ p q in (after _ events R.clock r s u.0 u.1, u.2, u.3)
 
 -- set entry; the two counts, which change nothing
 module _ (R S T : Records) (c : Call) where
-  pub noted_coincides : (r s : Noted) → Promised c R S (noted_says r) → Promised c R T (noted_says s) → (r ≡ s) × (S ≡ T)
-  noted_coincides r s p q = let u = coincide R S T c _ _ p q in (noted r s u.0, u.1)
+  pub noted_coincides : (r s : Result (Unit {0}) Refusal) → Promised c R S (noted_says r) → Promised c R T (noted_says s) → (r ≡ s) × (S ≡ T)
+  noted_coincides r s p q = let u = coincide R S T c _ _ p q in (alone _ done r s u.0, u.1)
 
-  pub counted_coincides : (r s : Counted) → Promised c R S (counted_says r) → Promised c R T (counted_says s) → (r ≡ s) × (S ≡ T)
-  counted_coincides r s p q = let u = coincide R S T c _ _ p q in (counted r s u.0, u.1)
+  pub counted_coincides : (r s : Result ℕ Refusal) → Promised c R S (counted_says r) → Promised c R T (counted_says s) → (r ≡ s) × (S ≡ T)
+  counted_coincides r s p q = let u = coincide R S T c _ _ p q in (alone _ counts r s u.0, u.1)
 
-  pub due_coincides : (r s : Due) → Promised c R S (due_says r) → Promised c R T (due_says s) → (r ≡ s) × (S ≡ T)
-  due_coincides r s p q = let u = coincide R S T c _ _ p q in (dued r s u.0, u.1)
+  pub due_coincides : (r s : Result (Option ℕ) Refusal) → Promised c R S (due_says r) → Promised c R T (due_says s) → (r ≡ s) × (S ≡ T)
+  due_coincides r s p q = let u = coincide R S T c _ _ p q in (alone _ dues r s u.0, u.1)

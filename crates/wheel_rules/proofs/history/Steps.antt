@@ -13,11 +13,12 @@ use Rattle.rules.specs.Runs.{refusal, step}
 use Rattle.rules.specs.Sound.{SoundIfEnabled}
 use Rattle.numbers.proofs.Cases.{same?}
 use Rattle.rules.proofs.SoundCalls.{sound_step}
+use Rattle.wheel_rules.specs.popping.Pop.{event_of}
+use Rattle.wheel_rules.specs.Promise.{told}
 use Rattle.wheel_rules.specs.Lent.{Records, SoundRecords}
 use Rattle.wheel_rules.specs.records.Shows.{Stands}
-use Rattle.wheel_rules.specs.declared.popping.Pulled.{Pulled}
-use Rattle.wheel_rules.specs.declared.popping.Pulled.TheVariants.{Expired, Rescheduled, End}
-use Rattle.wheel_rules.specs.popping.Pop.{told}
+use Rattle.wheel_rules.specs.declared.calls.Event.{Event}
+use Rattle.wheel_rules.specs.declared.calls.Event.TheVariants.{Expired, Rescheduled, End}
 use Rattle.wheel_rules.specs.refusals.Refuse.{rows_on}
 use Rattle.wheel_rules.specs.calls.Work.{has_deadline, pulling}
 use Rattle.wheel_rules.specs.Promise.{Leaves, Promised}
@@ -93,7 +94,7 @@ create_is n R R' a w p = (
 
 -- ---- 4 is never given
 -- what is answered where a call is not refused is no refusal
-event_told : (v : Pulled) (k : ℕ) → told v ≡ refused k → ⊥
+event_told : (v : Event) (k : ℕ) → told v ≡ refused k → ⊥
 event_told (Expired e n d) k i = let z : ◌≡◌ {A = ℕ} 0 1 = cc in omega arith
 event_told (Rescheduled e n b) k i = let z : ◌≡◌ {A = ℕ} 0 1 = cc in omega arith
 event_told End k i = let z : ◌≡◌ {A = ℕ} 0 1 = cc in omega arith
@@ -110,7 +111,7 @@ not_refused_lem (schedule e h) R k i = let z : ◌≡◌ {A = ℕ} 0 1 = cc in o
 not_refused_lem (reschedule x n h) R k i = moved_told (has_deadline R x) k i
 not_refused_lem (deschedule x n h) R k i = let z : ◌≡◌ {A = ℕ} 0 1 = cc in omega arith
 not_refused_lem (start q) R k i = let z : ◌≡◌ {A = ℕ} 0 1 = cc in omega arith
-not_refused_lem pull R k i = event_told (pulling R).turn.event k i
+not_refused_lem pull R k i = event_told (event_of (pulling R).turn) k i
 not_refused_lem abandon R k i = let z : ◌≡◌ {A = ℕ} 0 1 = cc in omega arith
 not_refused_lem armed_count R k i = let z : ◌≡◌ {A = ℕ} 0 1 = cc in omega arith
 not_refused_lem next_due R k i = let z : ◌≡◌ {A = ℕ} 0 1 = cc in omega arith

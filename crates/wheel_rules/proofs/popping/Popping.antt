@@ -23,7 +23,7 @@ use Rattle.wheel_rules.specs.records.Counts.{armed_among}
 use Rattle.numbers.specs.Shared.{no_slot as nowhere}
 use Rattle.wheel_rules.proofs.popping.Fewer.{fewer}
 use Rattle.wheel_rules.specs.timers.Timers.{SlotReady, MoveReady, Disarms, Rearms}
-use Rattle.wheel_rules.specs.declared.popping.Pulled.TheVariants.{Expired, Rescheduled}
+use Rattle.wheel_rules.specs.declared.calls.Event.TheVariants.{Expired, Rescheduled}
 use Rattle.wheel_rules.specs.popping.Pop.{left, goes, stops, PopReady, Pops}
 use Rattle.wheel_rules.proofs.popping.Turning.{after, turn_skip, turn_expire, turn_move, popped_armed, unlink_pop, freed_sound}
 use Rattle.wheel_rules.proofs.popping.Waiting.{Fronted, to_front}

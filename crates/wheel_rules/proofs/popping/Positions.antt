@@ -11,12 +11,13 @@ use mathlib.Core.List.{List, [], ◌∷◌}
 use lib.ListN.{length}
 use lib.Pow.{pow_pos}
 use borrow.Author.Tests.{lt-ltb, le-ltb}
+use Rattle.std.specs.Prelude.{Option}
 use Rattle.rules.specs.Places.{Geometry, wheel01, tick, shift_of, size_of, dense, first_of, total, buckets, visited_at, bucket_at, ahead}
 use Rattle.numbers.proofs.Cases.{below?, not_both}
 use Rattle.rules.proofs.Positions.{ahead_more, ahead_over, ahead_end, ahead_still}
 use Rattle.wheel_rules.specs.place.Levels.{size01}
 use Rattle.wheel_rules.specs.declared.popping.Position.{Position}
-use Rattle.wheel_rules.specs.popping.Position.{at, over, onward}
+use Rattle.wheel_rules.specs.popping.Position.{at, over, onward, more, level_of, step_of}
 
 -- the last level is the one with a single bucket
 pub last_one : (l : ℕ) → 2 ^ size01 l ≡ 1 → length wheel01.sizes ≤ l
@@ -62,10 +63,10 @@ module _ (g : Geometry) (p q l j : ℕ) where
   onward_still h k i = rw (le-ltb j (visited_at g p q l) h, lt-ltb l (length g.sizes) k, le-ltb 0 (visited_at g p q (l + 1)) i)
 
   -- what is ahead: nothing, or the bucket of the next position and what is ahead of that
-  pub record Leads (r : Position) : Type 0 where
-    pub none : r.more ≡ false → ahead g p q l j ≡ []
-    pub some : r.more ≡ true → (i : ℕ) × (r.step ≡ suc i) × (i < visited_at g p q r.level) ×
-        (ahead g p q l j ≡ bucket_at g p r.level i ∷ ahead g p q r.level (suc i))
+  pub record Leads (r : Option Position) : Type 0 where
+    pub none : more r ≡ false → ahead g p q l j ≡ []
+    pub some : more r ≡ true → (i : ℕ) × (step_of r ≡ suc i) × (i < visited_at g p q (level_of r)) ×
+        (ahead g p q l j ≡ bucket_at g p (level_of r) i ∷ ahead g p q (level_of r) (suc i))
 
   pub leads : Leads (onward g p q l j)
   leads =

@@ -9,10 +9,11 @@ use Rattle.rules.specs.Places.{wheel01}
 use Rattle.rules.specs.Wheel.{Wheel, Answer, pull}
 use Rattle.rules.specs.Calls.{act}
 use Rattle.rules.specs.Sound.{Sound}
+use Rattle.wheel_rules.specs.Promise.{told}
 use Rattle.wheel_rules.specs.declared.calls.Clock.{Clock}
 use Rattle.wheel_rules.specs.Lent.{Nodes, entries, records, Shows}
 use Rattle.wheel_rules.specs.declared.popping.Turn.{Turn}
-use Rattle.wheel_rules.specs.popping.Pop.{told, left, TurnReady}
+use Rattle.wheel_rules.specs.popping.Pop.{left, TurnReady, going, event_of}
 use Rattle.wheel_rules.specs.turns.Turns.{Turned}
 use Rattle.wheel_rules.specs.pull.Pull.{Step, turns, pull_step, Pulls}
 
@@ -47,13 +48,13 @@ pull_begins M t d k y =
 
 -- a turn more
 module _ (t : List Bool) (d : List ℕ) (N : Nodes) (c : Clock) (N' : Nodes) (r : Turn) (z : Turned wheel01 N t d c N' r) (j : ℕ) where
-  unroll : turns wheel01 t d (suc j) N c ≡ cond r.going (turns wheel01 t d j N' r.clock) (record { nodes = N'; turn = r })
+  unroll : turns wheel01 t d (suc j) N c ≡ cond (going r) (turns wheel01 t d j N' r.clock) (record { nodes = N'; turn = r })
   unroll = rw (z.turn_is, z.is) refl
 
-  unroll_on : r.going ≡ true → turns wheel01 t d (suc j) N c ≡ turns wheel01 t d j N' r.clock
+  unroll_on : going r ≡ true → turns wheel01 t d (suc j) N c ≡ turns wheel01 t d j N' r.clock
   unroll_on h = unroll ∙ ap (λ (b : Bool). cond b (turns wheel01 t d j N' r.clock) (record { nodes = N'; turn = r })) h
 
-  unroll_stop : r.going ≡ false → turns wheel01 t d (suc j) N c ≡ record { nodes = N'; turn = r }
+  unroll_stop : going r ≡ false → turns wheel01 t d (suc j) N c ≡ record { nodes = N'; turn = r }
   unroll_stop h = unroll ∙ ap (λ (b : Bool). cond b (turns wheel01 t d j N' r.clock) (record { nodes = N'; turn = r })) h
 
 -- two node records that show wheels with as many slots
@@ -84,17 +85,17 @@ module _ (M : Nodes) (t : List Bool) (d : List ℕ) (k : Clock) (y : TurnReady w
       record { ages = y.ages; ready = record { w = u.0; shows = u.1; sound = u.2 }; opened = p.opened }
 
   module _ (N' : Nodes) (r : Turn) (z : Turned wheel01 N t d c N' r) where
-    pub pull_less : r.going ≡ true → left wheel01 N'.links.home r.clock < left wheel01 N.links.home c
+    pub pull_less : going r ≡ true → left wheel01 N'.links.home r.clock < left wheel01 N.links.home c
     pull_less h = omega (arith, z.nears.less h)
 
-    goes_on : r.going ≡ true → (ages : List ℕ) (w : Wheel) → Shows wheel01 (records M (entries t d ages) k) w → Sound wheel01 w
+    goes_on : going r ≡ true → (ages : List ℕ) (w : Wheel) → Shows wheel01 (records M (entries t d ages) k) w → Sound wheel01 w
         → (v : Wheel) × Shows wheel01 (records N' (entries t d ages) r.clock) v × Sound wheel01 v × (act wheel01 v pull ≡ act wheel01 w pull)
     goes_on h ages w s o =
         let u = p.does ages w s o in
         let x = (z.does ages u.0 u.1 u.2).on h in
         (x.0, x.1, x.2, x.3 ∙ u.3)
 
-    pub pull_again : r.going ≡ true → Pulling M t d k N' r.clock
+    pub pull_again : going r ≡ true → Pulling M t d k N' r.clock
     pull_again h =
         let x = goes_on h y.ages y.ready.w y.ready.shows y.ready.sound in
         record {
@@ -106,21 +107,21 @@ module _ (M : Nodes) (t : List Bool) (d : List ℕ) (k : Clock) (y : TurnReady w
           does = goes_on h;
         }
 
-    pub pull_ends : r.going ≡ false → Pulls wheel01 M t d k N' r.clock r.event
+    pub pull_ends : going r ≡ false → Pulls wheel01 M t d k N' r.clock (event_of r)
     pull_ends h =
         let e : record { nodes = N'; turn = r } ≡ pull_step wheel01 t d M k = sym (unroll_stop t d N c N' r z (left wheel01 N.links.home c) h) ∙ p.rest in
         record {
           is = ap (λ (s : Step). s.nodes) e;
           clock_is = ap (λ (s : Step). s.turn.clock) e;
-          event_is = ap (λ (s : Step). s.turn.event) e;
-          enough = ap (λ (s : Step). s.turn.going) (sym e) ∙ h;
+          event_is = ap (λ (s : Step). event_of s.turn) e;
+          enough = ap (λ (s : Step). going s.turn) (sym e) ∙ h;
           does = λ ages w s o.
               let u = p.does ages w s o in
-              finish (act wheel01 u.0 pull) (act wheel01 w pull) (told r.event) (Shows wheel01 (records N' (entries t d ages) r.clock)) u.3
+              finish (act wheel01 u.0 pull) (act wheel01 w pull) (told (event_of r)) (Shows wheel01 (records N' (entries t d ages) r.clock)) u.3
               ((z.does ages u.0 u.1 u.2).stop h);
         }
 
-    pub pull_kept : r.going ≡ false → Lengths N' M
+    pub pull_kept : going r ≡ false → Lengths N' M
     pull_kept h =
         let u = p.does y.ages y.ready.w y.ready.shows y.ready.sound in
         same_lengths N' M t d y.ages r.clock k (act wheel01 u.0 pull).1 y.ready.w ((z.does y.ages u.0 u.1 u.2).stop h).1

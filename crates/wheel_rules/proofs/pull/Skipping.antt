@@ -7,6 +7,7 @@ use mathlib.Core.List.{List}
 use lib.ListN.{length, get_or}
 use lib.Dec.{eqb, leb}
 use borrow.Author.Tests.{eqb-true, leb-true, eq-eqb, ne_eqb}
+use Rattle.std.specs.Prelude.{Option}
 use Rattle.deque_rules.specs.Links.{Links}
 use Rattle.deque_rules.specs.Read.{Front, Follows}
 use Rattle.deque_rules.proofs.Laws.{turn_stays}
@@ -18,7 +19,7 @@ use Rattle.wheel_rules.specs.records.Clocks.{standing}
 use Rattle.wheel_rules.specs.declared.popping.Position.{Position}
 use Rattle.wheel_rules.specs.declared.popping.Turn.{Turn}
 use Rattle.wheel_rules.specs.popping.Position.{at, onward}
-use Rattle.wheel_rules.specs.popping.Pop.{goes, stands_in, waiting_at, left, TurnReady}
+use Rattle.wheel_rules.specs.popping.Pop.{goes, stands_in, waiting_at, left, TurnReady, going}
 use Rattle.wheel_rules.specs.turns.Turns.{OnReady, Waits, Turned}
 use Rattle.wheel_rules.specs.pull.Skips.{alone_in, comes_next, one_on, Lent, PassReady, IdleReady, TellsAlone, Passable, Passes, stays, over}
 use Rattle.wheel_rules.proofs.popping.Positions.{onward_here}
@@ -99,7 +100,7 @@ module _ (N : Nodes) (t : List Bool) (d : List ℕ) (c : Clock) (y : TurnReady w
       let x : ℕ = waiting_at wheel01 a.heads c in
       let w : Waits wheel01 a.heads c x = record { is = refl } in
       let o : OnReady wheel01 a c = turn_on a.heads a.tails a.next a.prev a.home N.entry N.generation N.serial t d c y x w z.idle in
-      let r : Position = at c.level (c.step + 1) in
+      let r : Option Position = at c.level (c.step + 1) in
       let e : r ≡ onward wheel01 c.previous c.reading c.level c.step = onward_here wheel01 c.previous c.reading c.level c.step
       z.more in
       let b : ℕ = stands_in wheel01 (one_on c) in
@@ -121,7 +122,7 @@ module _ (M : Nodes) (t : List Bool) (d : List ℕ) (k : Clock) (y : TurnReady w
 
 -- a turn of the pull that goes on, and the buckets passed over after it
 module _ (M : Nodes) (t : List Bool) (d : List ℕ) (k : Clock) (y : TurnReady wheel01 M t d k) (N : Nodes) (c : Clock) (p : Pulling M t d k N c)
-    (N' : Nodes) (r : Turn) (z : Turned wheel01 N t d c N' r) (h : r.going ≡ true) where
+    (N' : Nodes) (r : Turn) (z : Turned wheel01 N t d c N' r) (h : going r ≡ true) where
   on : Pulling M t d k N' r.clock
   on = pull_again M t d k y N c p N' r z h
 

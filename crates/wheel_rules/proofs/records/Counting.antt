@@ -5,7 +5,7 @@ use native.Mathlib.Numerals.{add-one}
 use mathlib.Core.Path.{◌≡◌, refl, sym, ap, ◌∙◌}
 use mathlib.Core.Logic.{⊎_elim}
 use mathlib.Core.Bool.{Bool, true, false, cond}
-use mathlib.Core.Option.{Option, none}
+use mathlib.Core.Option.{Option as Maybe, none}
 use mathlib.Core.List.{List}
 use lib.ListN.{length, get_or}
 use lib.Dec.{ltb}
@@ -15,11 +15,11 @@ use Rattle.rules.specs.Wheel.{Slot as Node, Wheel, Entry, number, due}
 use Rattle.rules.specs.Calls.{armed_below, sooner, key_of, least_key}
 use Rattle.rules.specs.Sound.{Sound}
 use Rattle.numbers.proofs.Cases.{below?}
+use Rattle.wheel_rules.specs.Promise.{due_told}
 use Rattle.wheel_rules.specs.declared.calls.Clock.{Clock}
-use Rattle.wheel_rules.specs.declared.records.Due.{Due}
-use Rattle.wheel_rules.specs.declared.records.Due.TheVariants.{At, Nothing}
+use Rattle.std.specs.Prelude.{Option, Some, None}
 use Rattle.wheel_rules.specs.Lent.{Nodes, nodes, Entries, entries, records, node_at, entry_at, Shows}
-use Rattle.wheel_rules.specs.records.Counts.{armed_among, IsOne, Counts, due_told, key_at, least_among, KeyReady, DueReady, FindsKey, Sooner, FindsDue}
+use Rattle.wheel_rules.specs.records.Counts.{armed_among, IsOne, Counts, key_at, least_among, KeyReady, DueReady, FindsKey, Sooner, FindsDue}
 
 -- ---- armed count: the loop
 pub none_below : (D : ℕ) (bucket : List ℕ) (k : ℕ) → k ≤ D → armed_among D bucket k ≡ 0
@@ -85,7 +85,7 @@ module _ (g : Geometry) (N : Nodes) (E : Entries) (c : Clock) (w : Wheel) (s : S
       (λ (i : k < buckets g). rw (lt-leb (buckets g) k i, sentinel k i) (ap (sooner none) (least_same k (omega arith))))
       (λ (i : buckets g ≤ k).
       rw (le-leb (buckets g) k i)
-      (ap (λ (o : Option ℕ). sooner o (least_key g w k)) (key_same k i (omega arith))
+      (ap (λ (o : Maybe ℕ). sooner o (least_key g w k)) (key_same k i (omega arith))
       ∙ ap (sooner (key_at (buckets g) N.links.home N.entry E.dated E.deadline k)) (least_same k (omega arith))))
       (below? k (buckets g))
 
@@ -109,26 +109,26 @@ counted_all h bucket n x c l =
 
 -- ---- next due
 pub key_at_lem : (D : ℕ) (bucket entry : List ℕ) (t : List Bool) (d : List ℕ) (x : ℕ) → get_or bucket x 0 < D → get_or t (get_or entry x 0) false ≡ true
-    → FindsKey D bucket entry t d x (At (get_or d (get_or entry x 0) 0))
+    → FindsKey D bucket entry t d x (Some (get_or d (get_or entry x 0) 0))
 key_at_lem D bucket entry t d x h e = record { is = rw (lt-ltb (get_or bucket x 0) D h, e) }
 
 pub key_undated : (D : ℕ) (bucket entry : List ℕ) (t : List Bool) (d : List ℕ) (x : ℕ) → get_or bucket x 0 < D → get_or t (get_or entry x 0) false ≡ false
-    → FindsKey D bucket entry t d x Nothing
+    → FindsKey D bucket entry t d x None
 key_undated D bucket entry t d x h e = record { is = rw (lt-ltb (get_or bucket x 0) D h, e) }
 
-pub key_free : (D : ℕ) (bucket entry : List ℕ) (t : List Bool) (d : List ℕ) (x : ℕ) → D ≤ get_or bucket x 0 → FindsKey D bucket entry t d x Nothing
+pub key_free : (D : ℕ) (bucket entry : List ℕ) (t : List Bool) (d : List ℕ) (x : ℕ) → D ≤ get_or bucket x 0 → FindsKey D bucket entry t d x None
 key_free D bucket entry t d x h = record { is = rw (le-ltb (get_or bucket x 0) D h) }
 
-pub sooner_first : (a b : Due) (d c : ℕ) → a ≡ At d → b ≡ At c → d < c → Sooner a b (At d)
+pub sooner_first : (a b : Option ℕ) (d c : ℕ) → a ≡ Some d → b ≡ Some c → d < c → Sooner a b (Some d)
 sooner_first a b d c p q h = let e : min d c ≡ d = omega arith in record { is = rw (p, q, e) }
 
-pub sooner_second : (a b : Due) (d c : ℕ) → a ≡ At d → b ≡ At c → c ≤ d → Sooner a b (At c)
+pub sooner_second : (a b : Option ℕ) (d c : ℕ) → a ≡ Some d → b ≡ Some c → c ≤ d → Sooner a b (Some c)
 sooner_second a b d c p q h = let e : min d c ≡ c = omega arith in record { is = rw (p, q, e) }
 
-pub sooner_only : (a b : Due) (d : ℕ) → a ≡ At d → b ≡ Nothing → Sooner a b (At d)
+pub sooner_only : (a b : Option ℕ) (d : ℕ) → a ≡ Some d → b ≡ None → Sooner a b (Some d)
 sooner_only a b d p q = record { is = rw (p, q) }
 
-pub record Finding (h bucket entry : List ℕ) (t : List Bool) (d : List ℕ) (r : Due) (x : ℕ) : Type 0 where
+pub record Finding (h bucket entry : List ℕ) (t : List Bool) (d : List ℕ) (r : Option ℕ) (x : ℕ) : Type 0 where
   pub is : due_told r ≡ least_among (length h) bucket entry t d x
   pub past : length h ≤ x
   pub within : x ≤ length bucket
@@ -137,21 +137,21 @@ least_below : (D : ℕ) (bucket entry : List ℕ) (t : List Bool) (d : List ℕ)
 least_below D bucket entry t d zero h = refl
 least_below D bucket entry t d (suc k) h = rw (lt-leb D k (omega arith)) (ap (sooner none) (least_below D bucket entry t d k (omega arith)))
 
-pub finding_begins : (h bucket entry : List ℕ) (t : List Bool) (d : List ℕ) → DueReady h bucket entry t d → Finding h bucket entry t d Nothing (length h)
+pub finding_begins : (h bucket entry : List ℕ) (t : List Bool) (d : List ℕ) → DueReady h bucket entry t d → Finding h bucket entry t d None (length h)
 finding_begins h bucket entry t d y =
     record { is = sym (least_below (length h) bucket entry t d (length h) (omega arith)); past = omega arith; within = y.room }
 
-pub key_asks : (h bucket entry : List ℕ) (t : List Bool) (d : List ℕ) (r : Due) (x : ℕ) → DueReady h bucket entry t d → Finding h bucket entry t d r x → x <
+pub key_asks : (h bucket entry : List ℕ) (t : List Bool) (d : List ℕ) (r : Option ℕ) (x : ℕ) → DueReady h bucket entry t d → Finding h bucket entry t d r x → x <
     length bucket
     → KeyReady (length h) bucket entry t d x
 key_asks h bucket entry t d r x y f l =
     record { slot = l; known = omega (arith, y.entry_len); dated = λ i. y.dated x f.past l i; deadline = λ i. y.deadline x f.past l i }
 
-pub finding_again : (h bucket entry : List ℕ) (t : List Bool) (d : List ℕ) (r k m : Due) (x : ℕ) → Finding h bucket entry t d r x → x < length bucket
+pub finding_again : (h bucket entry : List ℕ) (t : List Bool) (d : List ℕ) (r k m : Option ℕ) (x : ℕ) → Finding h bucket entry t d r x → x < length bucket
     → FindsKey (length h) bucket entry t d x k → Sooner k r m → Finding h bucket entry t d m (x + 1)
 finding_again h bucket entry t d r k m x f l e z =
     record {
-      is = rw add-one (z.is ∙ ap (λ (o : Option ℕ). sooner o (due_told r)) e.is ∙ ap (sooner (key_at (length h) bucket entry t d x)) f.is ∙ sym
+      is = rw add-one (z.is ∙ ap (λ (o : Maybe ℕ). sooner o (due_told r)) e.is ∙ ap (sooner (key_at (length h) bucket entry t d x)) f.is ∙ sym
           (here f.past));
       past = omega (arith, f.past);
       within = omega arith;
@@ -161,7 +161,7 @@ finding_again h bucket entry t d r k m x f l e z =
         (least_among (length h) bucket entry t d x)
     here p = rw (le-leb (length h) x p)
 
-pub found_all : (h bucket entry : List ℕ) (t : List Bool) (d : List ℕ) (r : Due) (x : ℕ) → Finding h bucket entry t d r x → length bucket ≤ x → FindsDue
+pub found_all : (h bucket entry : List ℕ) (t : List Bool) (d : List ℕ) (r : Option ℕ) (x : ℕ) → Finding h bucket entry t d r x → length bucket ≤ x → FindsDue
     wheel01 h bucket entry t d r
 found_all h bucket entry t d r x f l =
     let e : x ≡ length bucket = omega (arith, f.within) in

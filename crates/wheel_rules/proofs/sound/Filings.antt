@@ -1,18 +1,17 @@
 -- Slots filed by their serials: the way back from a slot, and what filing one more slot keeps.
-use Prim.Native.Nat.{ℕ, zero, suc, ◌+◌, ◌%◌, ◌≤◌, ◌<◌}
+use Prim.Native.Nat.{ℕ, zero, suc, ◌+◌, ◌%◌, ◌<◌}
 use native.Mathlib.Nat.{mod-lt}
 use native.Mathlib.Omega.{arith}
 use mathlib.Core.Path.{◌≡◌, refl, sym, ap, subst, ◌∙◌}
 use mathlib.Core.Logic.{⊎_elim}
-use mathlib.Core.Bool.{Bool, true, false, not, false≢true}
+use mathlib.Core.Bool.{Bool, true, false, false≢true}
 use mathlib.Core.List.{List}
 use lib.ListN.{length, get_or, set, replicate, length-set, length-replicate}
 use lib.Seq.{get_or-set_same, get_or-set_other}
-use borrow.Author.Tests.{not-true, not-false}
 use Rattle.numbers.proofs.Cases.{same?, below?}
-use Rattle.wheel_rules.specs.Lent.{Decides, Armed, SerialsDiffer}
+use Rattle.wheel_rules.specs.Lent.{Decides, Armed}
 use Rattle.wheel_rules.specs.sound.Filing.{Leads, here, back, Walkable, Met, Filed, Fileable, Files}
-use Rattle.wheel_rules.proofs.sound.Answers.{yes, no}
+use Rattle.wheel_rules.proofs.sound.Answers.{yes}
 
 -- ---- the way back
 pub leads_some : {b : List ℕ} {y z : ℕ} → Leads b y z → 0 < y
@@ -26,9 +25,6 @@ pub record MetFrom (before serial : List ℕ) (latest wanted y : ℕ) : Type 0 w
   pub from : Met before serial latest wanted → Met before serial y wanted
 
 module _ (before serial : List ℕ) (latest wanted : ℕ) (p : Walkable before serial latest) where
-  pub met_start : MetFrom before serial latest wanted latest
-  met_start = record { lent = p.lent; to = λ m. m; from = λ m. m }
-
   further : (y : ℕ) → (get_or serial y 0 ≡ wanted → ⊥) → Met before serial y wanted → Met before serial (get_or before y 0) wanted
   further y n m = go m.leads m.is
     where
@@ -46,16 +42,8 @@ module _ (before serial : List ℕ) (latest wanted : ℕ) (p : Walkable before s
         from = λ m. further y n (g.from m);
       })
 
-  pub met_less : (y z : ℕ) → 0 < y → z ≡ get_or before y 0 → z < y
-  met_less y z q e = omega (arith, p.earlier.each y q, e)
-
   pub met_yes : (y : ℕ) → MetFrom before serial latest wanted y → 0 < y → get_or serial y 0 ≡ wanted → Decides (Met before serial latest wanted) true
   met_yes y g q e = yes (g.to (record { slot = y; leads = here q; is = e }))
-
-  pub met_no : (y : ℕ) → MetFrom before serial latest wanted y → y ≤ 0 → Decides (Met before serial latest wanted) false
-  met_no y g q = no (λ m. omega (arith, leads_some (g.from m).leads, q))
-
-pub ruleset met-exits = (met_yes, met_no)
 
 -- ---- filing a slot
 -- two arrays that agree below x lead alike from below x
@@ -89,47 +77,9 @@ module _ (t : ℕ) (bucket serial latest before : List ℕ) (x : ℕ) (f : Filea
   abbrev o : Filed t bucket serial latest before x
   o = f.so_far
 
-  pub file_other : t ≤ get_or bucket x 0 → Files t bucket serial latest before x true
-  file_other h =
-      record {
-        filed = λ _.
-            record {
-              latest_lent = o.latest_lent;
-              earlier = o.earlier;
-              low = λ k p. omega (arith, o.low k p);
-              filed = λ z a i. o.filed z a (still z a i);
-              real = λ k z m. ((o.real k z m).0, omega (arith, (o.real k z m).1));
-              differ = λ y z a b i j e. o.differ y z a b (still y a i) (still z b j) e;
-            };
-        twice = λ e. absurd (false≢true (sym e));
-      }
-    where
-      still : (z : ℕ) → Armed t bucket z → z < x + 1 → z < x
-      still z a i = ⊎_elim (λ (e : z ≡ x). absurd (omega (arith, (subst (λ (v : ℕ). Armed t bucket v) e a).names, h))) (λ (n : z ≡ x → ⊥). omega (arith, i, n))
-          (same? z x)
-
-  pub file_walk : (k y : ℕ) → y ≡ get_or latest k 0 → Walkable before serial y
-  file_walk k y e =
-      record {
-        earlier = o.earlier;
-        few = omega (arith, f.sized.same, f.sized.few);
-        lent = ⊎_elim (λ (h : 0 < get_or latest k 0). omega (arith, o.low k h, e, f.lent, f.sized.same)) (λ h. omega (arith, h, e, f.lent, f.sized.same))
-            (below? 0 (get_or latest k 0));
-      }
-
   module _ (h : get_or bucket x 0 < t) where
     armed_x : Armed t bucket x
     armed_x = record { after = f.beyond; lent = f.lent; names = h }
-
-    pub file_met : (k y : ℕ) (r : Bool) → y ≡ get_or latest k 0 → Decides (Met before serial y (get_or serial x 0)) r → r ≡ true → Files t bucket serial latest
-        before x false
-    file_met k y r e d i =
-        let m = d.sound i in
-        let u = o.real k m.slot (rw e at m.leads) in
-        record {
-          filed = λ z. absurd (false≢true z);
-          twice = λ _ s. omega (arith, s.each m.slot x u.0 armed_x m.is, u.1);
-        }
 
     abbrev key : ℕ
     key = get_or serial x 0 % 4096
@@ -255,16 +205,3 @@ module _ (t : ℕ) (bucket serial latest before : List ℕ) (x : ℕ) (f : Filea
                 };
             twice = λ z. absurd (false≢true (sym z));
           }
-
-pub ruleset file-exits = (file_other, file_met, file_new)
-
--- ---- all slots
-module _ (t : ℕ) (bucket serial latest before : List ℕ) (x : ℕ) where
-  pub file_on : (r : Bool) → Files t bucket serial latest before x r → not r ≡ false → Filed t bucket serial latest before (x + 1)
-  file_on r f e = f.filed (not-false r e)
-
-  pub differ_fail : (r : Bool) → Files t bucket serial latest before x r → not r ≡ true → Decides (SerialsDiffer t bucket serial) false
-  differ_fail r f e = no (f.twice (not-true r e))
-
-  pub differ_done : Filed t bucket serial latest before x → length bucket ≤ x → Decides (SerialsDiffer t bucket serial) true
-  differ_done f h = yes (record { each = λ y z a b e. f.differ y z a b (omega (arith, a.lent, h)) (omega (arith, b.lent, h)) e })

@@ -86,7 +86,7 @@ module _ (h t n p o e γ s : List ℕ) (c : Clock) (y : ArmReady wheel01 (nodes 
   module _ (h' t' n' p' o' e' γ' s' : List ℕ) (i' j : ℕ) (w : Writes e γ s e' γ' s' c.free i' j c.serial)
       (l : PushesBack (links h t n p o) (links h' t' n' p' o') c.free b f) where
     pub arm_does : Arms wheel01 (nodes h t n p o e γ s) c (nodes h' t' n' p' o' e' γ' s')
-        (record { clock = counted f c; slot = c.free; serial = c.serial }) i' j d
+        (record { clock = counted f c; answer = record { slot = c.free; serial = c.serial } }) i' j d
     arm_does =
         record {
           is = arm_is h t n p o e γ s c d f b i h' t' n' p' o' e' γ' s' i' j w l;

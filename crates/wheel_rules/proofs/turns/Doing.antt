@@ -5,11 +5,13 @@ use mathlib.Core.Logic.{⊎_elim}
 use mathlib.Core.Bool.{Bool, true, false}
 use mathlib.Core.List.{List}
 use lib.ListN.{length, get_or}
+use Rattle.std.specs.Prelude.{Option}
 use Rattle.deque_rules.specs.Links.{Links}
 use Rattle.deque_rules.specs.Change.{turn_to}
 use Rattle.deque_rules.proofs.Laws.{turns}
 use Rattle.rules.specs.Places.{wheel01, bucket_of, place_of, bucket_at}
 use Rattle.numbers.proofs.Cases.{below?}
+use Rattle.wheel_rules.specs.popping.Position.{more, level_of, step_of}
 use Rattle.wheel_rules.specs.declared.calls.Clock.{Clock}
 use Rattle.wheel_rules.specs.Lent.{Nodes}
 use Rattle.wheel_rules.specs.records.Records.{with_links}
@@ -56,12 +58,12 @@ module _ (N : Nodes) (t : List Bool) (d : List ℕ) (c : Clock) (x : ℕ) (y : P
 -- ---- the next bucket is entered, or the advance ends
 module _ (a : Links) (c : Clock) (y : OnReady wheel01 a c) where
   on_right : (a' : Links) × (r : Turn) × GoesOn wheel01 a c a' r
-  on_right = go (next_position wheel01 c).more refl
+  on_right = go (more (next_position wheel01 c)) refl
     where
-      go : (m : Bool) → (next_position wheel01 c).more ≡ m → (a' : Links) × (r : Turn) × GoesOn wheel01 a c a' r
+      go : (m : Bool) → more (next_position wheel01 c) ≡ m → (a' : Links) × (r : Turn) × GoesOn wheel01 a c a' r
       go true m =
-          let r : Position = next_position wheel01 c in
-          let b : ℕ = bucket_at wheel01 c.previous r.level (r.step - 1) in
+          let r : Option Position = next_position wheel01 c in
+          let b : ℕ = bucket_at wheel01 c.previous (level_of r) ((step_of r) - 1) in
           (_, _, on_goes a c y r refl m b refl (turn_to a b b) (turns a b b (enter_asks a c y r refl m b refl)))
       go false m = (a, _, on_ends a c y (next_position wheel01 c) refl (ended c) m (end_does wheel01 c))
 

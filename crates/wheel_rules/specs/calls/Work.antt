@@ -2,10 +2,11 @@
 use Rattle.std.specs.Prelude.{ℕ, Bool, false, cond, length, get_or}
 use Rattle.rules.specs.Places.{wheel01, bucket_of}
 use Rattle.rules.specs.Wheel.{Answer, ok, handle, removed, number, due}
+use Rattle.wheel_rules.specs.Promise.{told}
 use Rattle.wheel_rules.specs.Promise.{bare_entries}
 use Rattle.wheel_rules.specs.Lent.{Records, records}
 use Rattle.wheel_rules.specs.layout.Layout.{bare_nodes, enabled_with}
-use Rattle.wheel_rules.specs.popping.Pop.{told}
+use Rattle.wheel_rules.specs.popping.Pop.{event_of}
 use Rattle.wheel_rules.specs.pull.Pull.{Step, pull_step}
 use Rattle.wheel_rules.specs.records.Clocks.{set_free, counted, started, abandoned}
 use Rattle.wheel_rules.specs.records.Counts.{armed_among, least_among}
@@ -77,7 +78,7 @@ abbrev pub pulled : Records → Records
 pulled R = records (pulling R).nodes R.entries (pulling R).turn.clock
 
 abbrev pub pull_says : Records → Answer
-pull_says R = told (pulling R).turn.event
+pull_says R = told (event_of (pulling R).turn)
 
 -- ---- the two counts
 abbrev pub armed_says : Records → Answer

@@ -1,15 +1,16 @@
 -- inner: a pull's turn that pops a node, on the records, and what all turns share: their form, the node that waits, the
 -- next position, the turns that are left. 01, "Calls", the paragraph on the advance.
-use Rattle.std.specs.Prelude.{ℕ, suc, ◌+◌, ◌-◌, ◌<◌, Bool, true, false, cond, List, ◌≡◌, eqb, leb, length, get_or}
+use Rattle.std.specs.Prelude.{ℕ, suc, ◌+◌, ◌-◌, ◌<◌, Bool, true, false, cond, List, ◌≡◌, eqb, leb, length, get_or, Option, Some, None, is_none, unwrap_or}
 use Rattle.numbers.specs.Shared.{no_slot}
 use Rattle.rules.specs.Calls.{act}
 use Rattle.rules.specs.Places.{Geometry, buckets, bucket_of, place_of, bucket_at, ahead}
 use Rattle.rules.specs.Sound.{Sound}
-use Rattle.rules.specs.Wheel.{Wheel, Answer, end, expired, rescheduled, pull}
+use Rattle.rules.specs.Wheel.{Wheel, pull}
+use Rattle.wheel_rules.specs.Promise.{told}
 use Rattle.wheel_rules.specs.Lent.{Nodes, entries, Records, records, Shows}
+use Rattle.wheel_rules.specs.declared.calls.Event.{Event}
+use Rattle.wheel_rules.specs.declared.calls.Event.TheVariants.{Expired, Rescheduled, End}
 use Rattle.wheel_rules.specs.declared.popping.Position.{Position}
-use Rattle.wheel_rules.specs.declared.popping.Pulled.{Pulled}
-use Rattle.wheel_rules.specs.declared.popping.Pulled.TheVariants.{Expired, Rescheduled, End}
 use Rattle.wheel_rules.specs.declared.popping.Turn.{Turn}
 use Rattle.wheel_rules.specs.declared.calls.Clock.{Clock}
 use Rattle.wheel_rules.specs.popping.Position.{onward}
@@ -18,18 +19,20 @@ use Rattle.wheel_rules.specs.records.Counts.{armed_among}
 use Rattle.wheel_rules.specs.timers.Change.{freed_from, moved_to}
 use Rattle.wheel_rules.specs.timers.Timers.{Ready}
 
--- what a pull's answer says: "End"; "Expired(entry, serial, deadline)"; "Rescheduled(entry, serial, new place)"
-abbrev pub told : Pulled → Answer
-told (Expired e n d) = expired e n d
-told (Rescheduled e n b) = rescheduled e n b
-told End = end
-
 -- ---- the turns
 abbrev pub goes : Clock → Turn
-goes c = record { going = true; clock = c; event = End }
+goes c = record { clock = c; event = None }
 
-abbrev pub stops : Clock → Pulled → Turn
-stops c a = record { going = false; clock = c; event = a }
+abbrev pub stops : Clock → Event → Turn
+stops c a = record { clock = c; event = Some a }
+
+-- whether the pull goes on after it
+abbrev pub going : Turn → Bool
+going r = is_none r.event
+
+-- the pull's answer; End where it goes on
+abbrev pub event_of : Turn → Event
+event_of r = unwrap_or r.event End
 
 -- the bucket that the advance stands in
 abbrev pub stands_in : Geometry → Clock → ℕ
@@ -42,7 +45,7 @@ waiting_at g heads c =
     (cond (eqb (get_or heads (stands_in g c) 0) (stands_in g c)) no_slot (get_or heads (stands_in g c) 0))
 
 -- where the visit goes on
-abbrev pub next_position : Geometry → Clock → Position
+abbrev pub next_position : Geometry → Clock → Option Position
 next_position g c = onward g c.previous c.reading c.level c.step
 
 -- "nodes before the sentinel are popped in turn. No deadline: slot freed, no event. Deadline at most q: freed,
@@ -84,13 +87,13 @@ pub record PopReady (g : Geometry) (N : Nodes) (t : List Bool) (d : List ℕ) (c
 -- ---- what is done
 -- a turn that goes on leaves one turn fewer, and the advance open
 pub record Nears (g : Geometry) (c : Clock) (bucket bucket' : List ℕ) (r : Turn) : Type 0 where
-  pub less : r.going ≡ true → left g bucket c ≡ suc (left g bucket' r.clock)
-  pub opened : r.going ≡ true → r.clock.open ≡ true
+  pub less : going r ≡ true → left g bucket c ≡ suc (left g bucket' r.clock)
+  pub opened : going r ≡ true → r.clock.open ≡ true
 
 -- where the pull goes on, the rest of it is the same pull; else the wheel is that after it
 pub record Outcome (g : Geometry) (R : Records) (r : Turn) (w : Wheel) : Type 0 where
-  pub on : r.going ≡ true → (v : Wheel) × Shows g R v × Sound g v × (act g v pull ≡ act g w pull)
-  pub stop : r.going ≡ false → ((act g w pull).0 ≡ told r.event) × Shows g R (act g w pull).1
+  pub on : going r ≡ true → (v : Wheel) × Shows g R v × Sound g v × (act g v pull ≡ act g w pull)
+  pub stop : going r ≡ false → ((act g w pull).0 ≡ told (event_of r)) × Shows g R (act g w pull).1
 
 pub record Pops (g : Geometry) (N : Nodes) (t : List Bool) (d : List ℕ) (c : Clock) (x : ℕ) (N' : Nodes) (r : Turn) : Type 0 where
   pub is : N' ≡ pop_nodes g N t d c x

@@ -1,14 +1,13 @@
 -- inner: armed count and next due, on the records.
-use Rattle.std.specs.Prelude.{ℕ, zero, suc, ◌+◌, ◌≤◌, ◌<◌, Bool, false, cond, List, ◌≡◌, leb, ltb, length, get_or}
-use Rattle.std.proofs.Math.Option.{Option, none, some}
+use Rattle.std.specs.Prelude.{ℕ, zero, suc, ◌+◌, ◌≤◌, ◌<◌, Bool, false, cond, List, ◌≡◌, leb, ltb, length, get_or, Option}
+use Rattle.std.proofs.Math.Option.{Option as Maybe, none, some}
 use Rattle.rules.specs.Calls.{sooner, act}
 use Rattle.rules.specs.Places.{Geometry}
 use Rattle.rules.specs.Sound.{Sound}
 use Rattle.rules.specs.Wheel.{Wheel, armed_count, next_due, number, due}
+use Rattle.wheel_rules.specs.Promise.{due_told}
 use Rattle.wheel_rules.specs.Lent.{nodes, Entries, entries, records, Shows}
 use Rattle.wheel_rules.specs.declared.calls.Clock.{Clock}
-use Rattle.wheel_rules.specs.declared.records.Due.{Due}
-use Rattle.wheel_rules.specs.declared.records.Due.TheVariants.{At, Nothing}
 
 -- how many of the slots from the total D on and below k are armed
 abbrev pub armed_among : ℕ → List ℕ → ℕ → ℕ
@@ -28,18 +27,13 @@ pub record Counts (g : Geometry) (heads bucket : List ℕ) (r : ℕ) : Type 0 wh
       (act g w armed_count).0 ≡ number r
 
 -- ---- next due
--- what the answer says: a deadline, or none
-abbrev pub due_told : Due → Option ℕ
-due_told (At d) = some d
-due_told Nothing = none
-
 -- the key of the slot x: the deadline that its entry holds, where it is armed
-abbrev pub key_at : ℕ → List ℕ → List ℕ → List Bool → List ℕ → ℕ → Option ℕ
+abbrev pub key_at : ℕ → List ℕ → List ℕ → List Bool → List ℕ → ℕ → Maybe ℕ
 key_at D bucket entry t d x =
     cond (ltb (get_or bucket x 0) D) (cond (get_or t (get_or entry x 0) false) (some (get_or d (get_or entry x 0) 0)) none) none
 
 -- the least key of the slots from the total D on and below k
-abbrev pub least_among : ℕ → List ℕ → List ℕ → List Bool → List ℕ → ℕ → Option ℕ
+abbrev pub least_among : ℕ → List ℕ → List ℕ → List Bool → List ℕ → ℕ → Maybe ℕ
 least_among D bucket entry t d zero = none
 least_among D bucket entry t d (suc k) =
     sooner (cond (leb D k) (key_at D bucket entry t d k) none) (least_among D bucket entry t d k)
@@ -58,14 +52,14 @@ pub record DueReady (heads bucket entry : List ℕ) (t : List Bool) (d : List �
   pub dated : (x : ℕ) → length heads ≤ x → x < length bucket → get_or bucket x 0 < length heads → get_or entry x 0 < length t
   pub deadline : (x : ℕ) → length heads ≤ x → x < length bucket → get_or bucket x 0 < length heads → get_or entry x 0 < length d
 
-pub record FindsKey (D : ℕ) (bucket entry : List ℕ) (t : List Bool) (d : List ℕ) (x : ℕ) (r : Due) : Type 0 where
+pub record FindsKey (D : ℕ) (bucket entry : List ℕ) (t : List Bool) (d : List ℕ) (x : ℕ) (r : Option ℕ) : Type 0 where
   pub is : due_told r ≡ key_at D bucket entry t d x
 
-pub record Sooner (a b r : Due) : Type 0 where
+pub record Sooner (a b r : Option ℕ) : Type 0 where
   pub is : due_told r ≡ sooner (due_told a) (due_told b)
 
 -- "the smallest deadline among armed timers, or none"
-pub record FindsDue (g : Geometry) (heads bucket entry : List ℕ) (t : List Bool) (d : List ℕ) (r : Due) : Type 0 where
+pub record FindsDue (g : Geometry) (heads bucket entry : List ℕ) (t : List Bool) (d : List ℕ) (r : Option ℕ) : Type 0 where
   pub is : due_told r ≡ least_among (length heads) bucket entry t d (length bucket)
   pub does :
       (tl n p h s ge : List ℕ) (c : Clock) (w : Wheel) → Shows g (records (nodes heads tl n p bucket entry h s) (entries t d ge) c) w → Sound g w →

@@ -9,7 +9,8 @@ use Rattle.rules.specs.Sound.{Sound}
 use Rattle.rules.specs.Wheel.{Wheel, schedule, reschedule, deschedule, handle, ok}
 use Rattle.wheel_rules.specs.Lent.{Nodes, Entries, Records, records, Shows}
 use Rattle.wheel_rules.specs.declared.calls.Clock.{Clock}
-use Rattle.wheel_rules.specs.declared.timers.Armed.{Armed}
+use Rattle.wheel_rules.specs.declared.calls.After.{After}
+use Rattle.wheel_rules.specs.declared.calls.Handle.{Handle}
 use Rattle.wheel_rules.specs.records.Clocks.{counted, set_free}
 use Rattle.wheel_rules.specs.records.Records.{join}
 use Rattle.wheel_rules.specs.timers.Change.{armed_in, freed_from}
@@ -48,14 +49,14 @@ pub record MoveReady (g : Geometry) (a : Links) (r x : ℕ) : Type 0 where
 -- ---- what is done
 -- "puts a new node at the back of its bucket, answers its handle": for the entry e, with its generation h and its
 -- deadline d
-pub record Arms (g : Geometry) (N : Nodes) (c : Clock) (N' : Nodes) (r : Armed) (e h d : ℕ) : Type 0 where
+pub record Arms (g : Geometry) (N : Nodes) (c : Clock) (N' : Nodes) (r : After Handle) (e h d : ℕ) : Type 0 where
   pub is : N' ≡ armed_in (bucket_of g c.reading d) c.free e h c.serial N
   pub clock_is : r.clock ≡ counted (get_or N.links.next c.free 0) c
-  pub slot_is : r.slot ≡ c.free
-  pub serial_is : r.serial ≡ c.serial
+  pub slot_is : r.answer.slot ≡ c.free
+  pub serial_is : r.answer.serial ≡ c.serial
   pub does :
       (E : Entries) (w : Wheel) → Shows g (records N E c) w → Sound g w → (w.entry e).deadline ≡ some d →
-      ((act g w (schedule e h)).0 ≡ handle r.slot r.serial) × Shows g (records N' E r.clock) (act g w (schedule e h)).1
+      ((act g w (schedule e h)).0 ≡ handle r.answer.slot r.answer.serial) × Shows g (records N' E r.clock) (act g w (schedule e h)).1
 
 -- "unlinks and frees"
 pub record Disarms (g : Geometry) (N : Nodes) (c : Clock) (N' : Nodes) (c' : Clock) (x : ℕ) : Type 0 where

@@ -1,5 +1,5 @@
 -- inner: the turns of a pull, on the records: 01, "Calls", the paragraph on the advance.
-use Rattle.std.specs.Prelude.{ℕ, ◌-◌, ◌≤◌, Bool, cond, List, ◌≡◌, ltb, length}
+use Rattle.std.specs.Prelude.{ℕ, ◌-◌, ◌≤◌, Bool, cond, List, ◌≡◌, ltb, length, Option}
 use Rattle.deque_rules.specs.Change.{turn_to}
 use Rattle.deque_rules.specs.Links.{Links}
 use Rattle.rules.specs.Places.{Geometry, buckets, bucket_at}
@@ -7,10 +7,11 @@ use Rattle.rules.specs.Sound.{Sound}
 use Rattle.rules.specs.Wheel.{Wheel}
 use Rattle.wheel_rules.specs.Lent.{Nodes, Entries, entries, records, Shows}
 use Rattle.wheel_rules.specs.declared.popping.Position.{Position}
-use Rattle.wheel_rules.specs.declared.popping.Pulled.TheVariants.{End}
+use Rattle.wheel_rules.specs.declared.calls.Event.TheVariants.{End}
 use Rattle.wheel_rules.specs.declared.popping.Turn.{Turn}
 use Rattle.wheel_rules.specs.declared.calls.Clock.{Clock}
 use Rattle.wheel_rules.specs.popping.Pop.{goes, stops, waiting_at, next_position, pop_nodes, pop_turn, TurnReady, Nears, Outcome}
+use Rattle.wheel_rules.specs.popping.Position.{more, level_of, step_of}
 use Rattle.wheel_rules.specs.records.Clocks.{standing, ended}
 use Rattle.wheel_rules.specs.records.Records.{join, with_links}
 
@@ -18,14 +19,14 @@ use Rattle.wheel_rules.specs.records.Records.{join, with_links}
 -- "On entering a bucket, nodes go front to back until the sentinel is last"
 abbrev pub on_links : Geometry → Links → Clock → Links
 on_links g a c =
-    let r : Position = next_position g c in
-    let b : ℕ = bucket_at g c.previous r.level (r.step - 1) in
-    cond r.more (turn_to a b b) a
+    let r : Option Position = next_position g c in
+    let b : ℕ = bucket_at g c.previous (level_of r) ((step_of r) - 1) in
+    cond (more r) (turn_to a b b) a
 
 abbrev pub on_turn : Geometry → Clock → Turn
 on_turn g c =
-    let r : Position = next_position g c in
-    cond r.more (goes (standing r.level r.step c)) (stops (ended c) End)
+    let r : Option Position = next_position g c in
+    cond (more r) (goes (standing (level_of r) (step_of r) c)) (stops (ended c) End)
 
 -- one turn
 abbrev pub turn_nodes : Geometry → Nodes → List Bool → List ℕ → Clock → Nodes

@@ -4,7 +4,8 @@
 ghost use Rattle.std.specs.Prelude.{◌≡◌, ◌^◌, min};
 ghost use Rattle.wheel_rules.specs.place.Levels.{shift01, size01, first01};
 
-const LAST: usize = 4;
+// The number of the last one.
+pub const LAST: usize = 4;
 
 // The number of a level that there is.
 pub fn known(level: usize) -> usize

@@ -1,14 +1,8 @@
 -- `string` meets its contract.
 use Rattle.std.proofs.lemmas.Grind.{common_steps}
 use native.Mathlib.Omega.{arith}
-use Rattle.deque_rules.proofs.Laying.{string_starts, string_goes, string_links, string_first}
+use Rattle.deque_rules.proofs.Laying.{string_links, string_first}
 use Rattle.deque.proofs.layout.string.Goals as goal
-
-pub loop-s-init : goal.loop-s-init
-loop-s-init c = string_starts _
-
-pub loop-s-preserved : goal.loop-s-preserved
-loop-s-preserved c = search string_goes
 
 pub returns : goal.returns
 returns c =

@@ -1,4 +1,4 @@
--- `sketch::index::word_at` meets its contract.
+use Rattle.std.proofs.Common.{refl}
 use Rattle.numbers.proofs.Powers.{power_least}
 use Rattle.sketch_rules.proofs.Places.{placed}
 use Rattle.sketch.proofs.index.word_at.Goals as goal
@@ -7,10 +7,4 @@ pub overflow_sub-result : goal.overflow_sub-result
 overflow_sub-result c = power_least 16 _ c.requires.words_value
 
 pub returns : goal.returns
-returns c =
-    placed _ _ _ _ _ _ _
-    c.seed_of-s.ensures
-    c.wrapping_add_u64.ensures.value
-    c.wrapping_mul-x.ensures
-    c.wrapping_add_u64-2.ensures.value
-    c.requires.words_value
+returns c = placed _ _ _ _ _ _ _ refl refl refl refl c.requires.words_value

@@ -1,5 +1,4 @@
--- `sketch::sound::is_sound` meets its contract: a law for each way out.
-use Rattle.std.proofs.Common.{sym, ◌∙◌, rules}
+use Rattle.std.proofs.Common.{arith}
 use Rattle.sketch_rules.proofs.Soundness.{blank_size, blank_sample, not_inside, not_power, not_tenfold, too_low, too_high, by_size}
 use Rattle.sketch.proofs.sound.is_sound.Goals as goal
 
@@ -13,19 +12,16 @@ pub returns-then-lent-used : goal.returns-then-lent-used
 returns-then-lent-used c = search not_inside
 
 pub returns-then-not-is_power : goal.returns-then-not-is_power
-returns-then-not-is_power c = not_power _ _ c.if-used-eq0.false (sym c.is_power.ensures ∙ c.if-not-is_power.true)
+returns-then-not-is_power c = grind (arith, not_power)
 
 pub returns-then-sample-ne0 : goal.returns-then-sample-ne0
-returns-then-sample-ne0 c = not_tenfold _ _ c.if-used-eq0.false (search rules) (sym c.is_power.ensures ∙ c.if-not-is_power.false) c.if-sample-ne0.true
+returns-then-sample-ne0 c = grind (arith, not_tenfold)
 
 pub returns-then-capacity-used : goal.returns-then-capacity-used
-returns-then-capacity-used c =
-    too_low _ _ c.if-used-eq0.false (search rules) (sym c.is_power.ensures ∙ c.if-not-is_power.false) c.if-capacity-used.true
+returns-then-capacity-used c = grind (arith, too_low)
 
 pub returns-then-capacity-used-2 : goal.returns-then-capacity-used-2
-returns-then-capacity-used-2 c =
-    too_high _ _ c.if-used-eq0.false (search rules) (sym c.is_power.ensures ∙ c.if-not-is_power.false) c.if-capacity-used-2.true
+returns-then-capacity-used-2 c = grind (arith, too_high)
 
 pub returns : goal.returns
-returns c =
-    by_size _ _ c.if-used-eq0.false (search rules) (sym c.is_power.ensures ∙ c.if-not-is_power.false) c.if-sample-ne0.false c.if-capacity-used.false c.if-capacity-used-2.false
+returns c = grind (arith, by_size)

@@ -7,4 +7,4 @@ use Rattle.story.proofs.chapters.count_none.Goals as goal
 
 pub expect-requires : goal.expect-requires
 unfolding tick
-expect-requires c = c.is_count.ensures.yes (says armed_count _ _ c.requires c.armed_count-count.ensures _ refl)
+expect-requires c = c.is_count.ensures.yes (says armed_count _ _ c.requires c.armed_count.ensures _ refl)

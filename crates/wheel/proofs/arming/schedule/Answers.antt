@@ -1,20 +1,14 @@
 -- `schedule` meets its promise.
 use Rattle.wheel_rules.proofs.calls.Calling.{schedule_no, schedule_yes}
-use Rattle.wheel_rules.proofs.calls.Acting.{arm_ready, due_bytes, due_index}
+use Rattle.wheel_rules.proofs.calls.Acting.{arm_ready}
+use Rattle.std.proofs.Common.{rules, sym}
 use Rattle.wheel.proofs.arming.schedule.Goals as goal
 
-pub returns-then-no-ne0 : goal.returns-then-no-ne0
-returns-then-no-ne0 c = search schedule_no
+pub returns-in_err-schedule_refusal-clause-does : goal.returns-in_err-schedule_refusal-clause-does
+returns-in_err-schedule_refusal-clause-does c = rw (sym c.as_read.ensures.nodes) (search (rules, schedule_no))
 
-pub offset_bounds-deadline-e : goal.offset_bounds-deadline-e
-offset_bounds-deadline-e c = due_bytes _ _ _ _ _ _ _ _ _ _ _ _ _ _ _ c.schedule_refusal-no.ensures c.if-no-ne0.false
+pub arm-requires : goal.arm-requires
+arm-requires c = rw (sym c.as_read.ensures.nodes) (arm_ready _ _ _ _ _ c.in_ok-schedule_refusal.ensures)
 
-pub bounds-deadline-e : goal.bounds-deadline-e
-bounds-deadline-e c = due_index _ _ _ _ _ _ _ _ _ _ _ _ _ _ _ c.schedule_refusal-no.ensures c.if-no-ne0.false
-
-pub arm-armed-requires : goal.arm-armed-requires
-arm-armed-requires c = arm_ready _ _ _ _ _ _ c.schedule_refusal-no.ensures
-    c.if-no-ne0.false
-
-pub returns : goal.returns
-returns c = search schedule_yes
+pub returns-clause-does : goal.returns-clause-does
+returns-clause-does c = rw (sym c.as_read.ensures.nodes) (search (rules, schedule_yes))

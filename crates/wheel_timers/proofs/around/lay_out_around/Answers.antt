@@ -2,7 +2,5 @@
 use Rattle.wheel_rules.proofs.layout.Ends.{laid_around}
 use Rattle.wheel_timers.proofs.around.lay_out_around.Goals as goal
 
-pub returns : goal.returns
-returns c = laid_around _ _ _ _ _ _ _ _ _ _ _ _ _ c.enabled-after.ensures
-    c.seat_ends.ensures
-    c.clear_entries.ensures
+pub returns-clause-does : goal.returns-clause-does
+returns-clause-does c = search laid_around

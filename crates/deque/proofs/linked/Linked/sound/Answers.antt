@@ -1,11 +1,8 @@
 -- `sound` meets its contract: its loop keeps `Upto`, and each way out has a law of `Verdicts`.
 use borrow.Author.Rules.{rules}
 use Rattle.deque_rules.proofs.Judging.{more}
-use Rattle.deque_rules.proofs.Verdicts.{begins, exits}
+use Rattle.deque_rules.proofs.Verdicts.{exits}
 use Rattle.deque.proofs.linked.Linked.sound.Goals as goal
-
-pub loop-d-init : goal.loop-d-init
-loop-d-init c = search (begins, rules)
 
 pub returns-in_default : goal.returns-in_default
 returns-in_default c = search (exits, rules, c.in_default.ensures)

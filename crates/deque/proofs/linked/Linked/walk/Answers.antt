@@ -1,12 +1,9 @@
 -- `walk` meets its contract: the invariant of its loop is `Going`, and each way out has a law of `Walking`.
 use native.Mathlib.Omega.{arith}
 use borrow.Author.Rules.{rules}
-use Rattle.deque_rules.proofs.Walking.{start, goes, exits}
+use Rattle.deque_rules.proofs.Walking.{goes, exits}
 use Rattle.deque.proofs.linked.Linked.walk.Goals.{then-n-x-via-then-n-x, then-n-x-via-else-n-x+then-self-x, then-n-x-via-else-n-x+else-self-x+then-self-x-2}
 use Rattle.deque.proofs.linked.Linked.walk.Goals as goal
-
-pub loop-k-init : goal.loop-k-init
-loop-k-init c = start _ _
 
 pub returns-then-self-d : goal.returns-then-self-d
 returns-then-self-d c = (search exits, omega arith)

@@ -2,12 +2,9 @@
 -- `WalkingFree`.
 use native.Mathlib.Omega.{arith}
 use borrow.Author.Rules.{rules}
-use Rattle.deque_rules.proofs.WalkingFree.{start, goes, exits}
+use Rattle.deque_rules.proofs.WalkingFree.{goes, exits}
 use Rattle.deque.proofs.linked.Linked.walk_free.Goals.{then-n-x-via-then-n-x, then-n-x-via-else-n-x+then-self-x-ne-NONE}
 use Rattle.deque.proofs.linked.Linked.walk_free.Goals as goal
-
-pub loop-k-init : goal.loop-k-init
-loop-k-init c = start _ _ _
 
 pub returns-then-x-eq-NONE : goal.returns-then-x-eq-NONE
 returns-then-x-eq-NONE c = (search exits, omega arith)

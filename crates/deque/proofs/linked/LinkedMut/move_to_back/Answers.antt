@@ -1,5 +1,5 @@
 -- `move_to_back` meets its contract.
-use Rattle.deque_rules.proofs.Moving.{after_index, after_bytes, send_asks, last_index, last_bytes, own_index, send_does}
+use Rattle.deque_rules.proofs.Moving.{after_index, after_bytes, send_asks, last_index, last_bytes, send_does}
 use Rattle.deque.proofs.linked.LinkedMut.move_to_back.Goals as goal
 
 pub offset_bounds-self-q : goal.offset_bounds-self-q
@@ -16,9 +16,6 @@ offset_bounds-self-t c = search last_bytes
 
 pub bounds-self-t : goal.bounds-self-t
 bounds-self-t c = search last_index
-
-pub bounds-self-s-4 : goal.bounds-self-s-4
-bounds-self-s-4 c = search own_index
 
 pub returns-clause-does : goal.returns-clause-does
 returns-clause-does c = search send_does

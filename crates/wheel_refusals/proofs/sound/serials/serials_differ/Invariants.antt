@@ -1,11 +1,6 @@
 -- `serials_differ` meets its contract: its loop keeps `Filed`.
-use Prim.Native.Nat.{◌-◌, ◌≤◌}
-use lib.ListN.{length}
 use Rattle.wheel_rules.specs.sound.Filing.{Filed}
 use Rattle.wheel_refusals.proofs.sound.serials.serials_differ.Given as goal
 
 abbrev pub invariant-loop-x : goal.invariant-loop-x
-invariant-loop-x l = (l.total ≤ l.x) × Filed l.total l.bucket l.serial l.latest l.before l.x
-
-abbrev pub decreases-loop-x : goal.decreases-loop-x
-decreases-loop-x l = length l.bucket - l.x
+invariant-loop-x l = Filed l.total l.bucket l.serial l.filing.latest l.filing.before l.x

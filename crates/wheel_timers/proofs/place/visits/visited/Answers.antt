@@ -3,15 +3,8 @@ use Prim.Native.Nat.{◌^◌}
 use native.Mathlib.Omega.{arith}
 use mathlib.Core.Path.{refl}
 use Rattle.wheel_rules.specs.place.Levels.{size01}
-use Rattle.wheel_rules.proofs.place.Tables.{shift_below}
 use Rattle.wheel_rules.proofs.place.Visiting.{visits_none, visits_few, visits_all}
 use Rattle.wheel_timers.proofs.place.visits.visited.Goals as goal
-
-pub overflow_shr-from : goal.overflow_shr-from
-overflow_shr-from c = omega (arith, c.level_shift-shift.ensures, shift_below c.args.level)
-
-pub overflow_shr-to : goal.overflow_shr-to
-overflow_shr-to c = omega (arith, c.level_shift-shift.ensures, shift_below c.args.level)
 
 pub returns-then-to-from : goal.returns-then-to-from
 returns-then-to-from c =

@@ -1,0 +1,2 @@
+-- inner: what the contracts of nodes cite.
+pub mod Held

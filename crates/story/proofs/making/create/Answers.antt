@@ -1,5 +1,0 @@
--- `create` keeps the wheel's promise.
-use Rattle.story.proofs.making.create.Goals as goal
-
-pub returns : goal.returns
-returns c = c.create-made.ensures.promised _

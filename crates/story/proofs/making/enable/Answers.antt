@@ -1,9 +1,0 @@
--- `enable` keeps the wheel's promise.
-use Rattle.story.proofs.Beginning.{enabling_so}
-use borrow.Author.Rules.{rules}
-use Rattle.story.proofs.making.enable.Goals as goal
-
-pub returns : goal.returns
-returns c =
-    enabling_so c.args.s (search rules) (search rules) (search rules) (search rules) (search rules) (search rules)
-    c.enable-left.ensures

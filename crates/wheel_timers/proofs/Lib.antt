@@ -1,0 +1,2 @@
+-- A law that the proofs of this crate share with none.
+mod Counted
