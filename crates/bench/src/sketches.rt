@@ -75,8 +75,8 @@ fn increases(table: &mut [u64], sketch: Sketch, calls: u64, first: u64) -> Made 
     Made { sketch: s, x }
 }
 
-// The record after an increase; the one before where it is refused. By a `match` in a function of its own: by
-// `unwrap_or`, or in the loop, the sample size is divided anew in each turn, and the loop is slower.
+// The record after an increase; the one before where it is refused. A function of its own: in the loop itself, by `match`
+// or `unwrap_or`, a turn runs a sixth more instructions.
 fn increased(table: &mut [u64], s: Sketch, hash: u64) -> Sketch {
     match sketch::increase(table, s, hash) {
         Ok(after) => after,
