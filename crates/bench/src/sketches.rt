@@ -18,8 +18,8 @@ struct Made {
     x: u64,
 }
 
-// The digest of the workload on a table of so many words, a power of two up to 65,536; none on any other. The loops that
-// are timed stand in functions of their own, so that the program around them takes none of their registers.
+// The digest of the workload on a table of so many words, a power of two up to 65,536; none on any other. The loops
+// that are timed stand in functions of their own, so that the program around them takes none of their registers.
 pub fn digest_of(workload: Workload, words: u64, calls: u64, x: u64) -> Option<u64> {
     if words > 65536 || !words.is_power_of_two() {
         return None;
@@ -75,8 +75,8 @@ fn increases(table: &mut [u64], sketch: Sketch, calls: u64, first: u64) -> Made 
     Made { sketch: s, x }
 }
 
-// The record after an increase; the one before where it is refused. A function of its own: in the loop itself, by `match`
-// or `unwrap_or`, a turn runs a sixth more instructions.
+// The record after an increase; the one before where it is refused. A function of its own: in the loop itself, by
+// `match` or `unwrap_or`, a turn runs a sixth more instructions.
 fn increased(table: &mut [u64], s: Sketch, hash: u64) -> Sketch {
     match sketch::increase(table, s, hash) {
         Ok(after) => after,
