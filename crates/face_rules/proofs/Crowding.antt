@@ -15,23 +15,11 @@ use Rattle.wheel_rules.specs.refusals.Refuse.{standing, tests_on, rows_on}
 use Rattle.wheel_rules.specs.Promise.{Promised}
 use Rattle.wheel_rules.proofs.calls.Deciding.{LentTo, later}
 use Rattle.wheel_rules.proofs.calls.Calling.{no}
+use Rattle.numbers.specs.Refusals.{number_of}
+use Rattle.numbers.specs.declared.refusals.Refusal.{Refusal}
 use Rattle.face_rules.specs.declared.Node.{Node}
 use Rattle.face_rules.specs.Face.{records_of as shown}
-use Rattle.face_rules.specs.Crowded.{crowded_number}
-
--- the calls that 1 names: "all wheel calls but create, enable"
-abbrev pub OfOne : Call → Type 0
-OfOne (create n) = ⊥
-OfOne (enable m k f) = ⊥
-OfOne (set_entry e o h) = Unit {0}
-OfOne (schedule e h) = Unit {0}
-OfOne (reschedule x n h) = Unit {0}
-OfOne (deschedule x n h) = Unit {0}
-OfOne (start q) = Unit {0}
-OfOne pull = Unit {0}
-OfOne abandon = Unit {0}
-OfOne armed_count = Unit {0}
-OfOne next_due = Unit {0}
+use Rattle.face_rules.specs.Crowded.{crowded_number, OfOne}
 
 -- their rows begin with 1 and 4, and no length is given to them
 module _ (R : Records) (k : ℕ) (f : (more : ℕ → Type 0) → standing R more k) where
@@ -69,14 +57,7 @@ module _ (h t : List ℕ) (ns : List Node) (d : List Bool) (l m : List ℕ) (c :
           inr (sym on, inl ((λ s. too_many (omega (arith, s.lengths.nodes.next_len, s.lengths.ranges.nodes_most))), i))
       go false off i = inl ((λ s. false≢true (off ∙ s)), i)
 
-  numbered_some : (k : ℕ) → k ≡ crowded_number c → k ≡ 0 → ⊥
-  numbered_some k e z = go c.enabled e
-    where
-      go : (b : Bool) → k ≡ cond b 4 1 → ⊥
-      go true i = omega (arith, i, z)
-      go false i = omega (arith, i, z)
-
-  pub crowd_no : (q : Call) → OfOne q → (k : ℕ) → k ≡ crowded_number c → Promised q crowd crowd (refused k)
-  crowd_no q o k e =
-      let u = stops crowd k (λ more. numbered more k e) q o in
-      no q crowd k u.0 u.1 (numbered_some k e)
+  pub crowd_no : (q : Call) → OfOne q → (why : Refusal) → number_of why ≡ crowded_number c → Promised q crowd crowd (refused (number_of why))
+  crowd_no q o why e =
+      let u = stops crowd (number_of why) (λ more. numbered more (number_of why) e) q o in
+      no q crowd why u.0 u.1

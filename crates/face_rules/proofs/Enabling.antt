@@ -5,6 +5,8 @@ use mathlib.Core.Path.{◌≡◌, refl, sym, ap, subst, ◌∙◌}
 use mathlib.Core.Bool.{true, false}
 use mathlib.Core.List.{List}
 use lib.ListN.{length, length-map}
+use Rattle.numbers.specs.Refusals.{number_of}
+use Rattle.numbers.specs.declared.refusals.Refusal.{Refusal}
 use Rattle.rules.specs.Places.{wheel01}
 use Rattle.rules.specs.Wheel.{refused, ok}
 use Rattle.wheel_rules.specs.declared.calls.Clock.{Clock}
@@ -57,12 +59,12 @@ module _ (n : ℕ) (c : Clock) (hs ts : List ℕ) (E : Entries) (k : ℕ)
         E.generation c k
         (subst (λ (i : ℕ). RefusesAround c.enabled (length hs) (length ts) i (length E.dated) (length E.deadline) (length E.generation) k) as_many f) (same_lengths ns)
 
-  pub enable_refused : (k ≡ 0 → ⊥) → Enabled n c c hs ts hs ts E E false (refused k)
-  enable_refused x =
+  pub enable_refused : (why : Refusal) → k ≡ number_of why → Enabled n c c hs ts hs ts E E false (refused (number_of why))
+  enable_refused why x =
       record {
         meets = λ ns ns' e o.
-            subst (λ (zs : List Node). Promised (enabling (before ns e)) (before ns e) (shown hs ts zs E c) (refused k)) (sym (o.stays refl))
-            (calling.enable_no _ _ c k (numbers ns e) x);
+            subst (λ (zs : List Node). Promised (enabling (before ns e)) (before ns e) (shown hs ts zs E c) (refused (number_of why))) (sym (o.stays refl))
+            (calling.enable_no (before ns e) why (subst (RefusesEnable (before ns e)) x (numbers ns e)));
       }
 
   module _ (z : k ≡ 0) where
@@ -88,7 +90,7 @@ module _ (n : ℕ) (c : Clock) (hs ts : List ℕ) (E : Entries) (k : ℕ)
       M = length (nexts ns)
 
       ready : LayReady wheel01 (before ns e).nodes (before ns e).entries
-      ready = lay_ready _ _ c k (numbers ns e) z
+      ready = lay_ready _ _ c (subst (RefusesEnable (before ns e)) z (numbers ns e))
 
       -- the nodes' columns are those of the records that enabling lays out
       written : columns_of ns' ≡ columns_in (bare_nodes D M)
@@ -109,7 +111,7 @@ module _ (n : ℕ) (c : Clock) (hs ts : List ℕ) (E : Entries) (k : ℕ)
       pub enables : Promised (enabling (before ns e)) (before ns e) (shown hs' ts' ns' E' c') ok
       enables =
           subst (λ (R : Records). Promised (enabling (before ns e)) (before ns e) R ok) (sym laid_out_lem)
-          (calling.enable_yes _ _ c k (numbers ns e) _ _ _ z (bare_lays _ _ c ready))
+          (calling.enable_yes _ _ c _ _ _ (subst (RefusesEnable (before ns e)) z (numbers ns e)) (bare_lays _ _ c ready))
 
     pub enable_done : {hs' ts' : List ℕ} {E' : Entries} {c' : Clock} → LaysAround hs ts E n c hs' ts' E' c'
         → Enabled n c c' hs ts hs' ts' E E' true ok

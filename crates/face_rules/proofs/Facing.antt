@@ -6,11 +6,13 @@ use Rattle.rules.specs.Wheel.{Call, Answer, refused}
 use Rattle.wheel_rules.specs.declared.calls.Clock.{Clock}
 use Rattle.wheel_rules.specs.Lent.{Entries, Records}
 use Rattle.wheel_rules.specs.Promise.{Promised}
+use Rattle.numbers.specs.Refusals.{number_of}
+use Rattle.numbers.specs.declared.refusals.Refusal.{Refusal}
 use Rattle.face_rules.specs.nodes.Columns.{Columns, front}
-use Rattle.face_rules.specs.Crowded.{crowded_number}
+use Rattle.face_rules.specs.Crowded.{crowded_number, OfOne}
 use Rattle.face_rules.specs.Works.{Stored, Loaded}
 use Rattle.face_rules.proofs.Loading.{held, reads, writes, stays, stays_stored}
-use Rattle.face_rules.proofs.Crowding.{OfOne, crowd_no}
+use Rattle.face_rules.proofs.Crowding.{crowd_no}
 
 -- the same promise of an answer that says the same
 said : (q : Call) (R R' : Records) (a b : Answer) → b ≡ a → Promised q R R' a → Promised q R R' b
@@ -18,12 +20,13 @@ said q R R' a b e p = subst (λ (x : Answer). Promised q R R' x) (sym e) p
 
 module _ {q : Call} {k : Columns} {n : ℕ} {c : Clock} {hs ts : List ℕ} {E : Entries} where
   -- ---- works that store the nodes back
-  pub stored_crowded : {i : ℕ} {k' : Columns} → OfOne q → 4096 < n → i ≡ crowded_number c → Stored q k k' n c c hs ts hs ts E (refused i)
-  stored_crowded {i} o many z =
+  pub stored_crowded : (w : Refusal) {k' : Columns} → OfOne q → 4096 < n → number_of w ≡ crowded_number c
+      → Stored q k k' n c c hs ts hs ts E (refused (number_of w))
+  stored_crowded w o many z =
       record {
         meets =
-            stays_stored (λ R R'. Promised q R R' (refused i)) k n hs ts E c many
-            (λ ns f. crowd_no hs ts ns E.dated E.deadline E.generation c f q o i z);
+            stays_stored (λ R R'. Promised q R R' (refused (number_of w))) k n hs ts E c many
+            (λ ns f. crowd_no hs ts ns E.dated E.deadline E.generation c f q o w z);
       }
 
   -- as the call over columns answers a, with the clock b; a' says the same, and c' is that clock
@@ -33,12 +36,12 @@ module _ {q : Call} {k : Columns} {n : ℕ} {c : Clock} {hs ts : List ℕ} {E : 
       record { meets = writes (λ R R'. Promised q R R' a') k n hs ts E c fits f w (said q _ _ a a' e p) }
 
   -- ---- works that do not
-  pub loaded_crowded : {i : ℕ} → OfOne q → 4096 < n → i ≡ crowded_number c → Loaded q k n c c hs ts E E (refused i)
-  loaded_crowded {i} o many z =
+  pub loaded_crowded : (w : Refusal) → OfOne q → 4096 < n → number_of w ≡ crowded_number c → Loaded q k n c c hs ts E E (refused (number_of w))
+  loaded_crowded w o many z =
       record {
         meets =
-            stays (λ R R'. Promised q R R' (refused i)) k n hs ts E c many
-            (λ ns f. crowd_no hs ts ns E.dated E.deadline E.generation c f q o i z);
+            stays (λ R R'. Promised q R R' (refused (number_of w))) k n hs ts E c many
+            (λ ns f. crowd_no hs ts ns E.dated E.deadline E.generation c f q o w z);
       }
 
   pub loaded_done : {a a' : Answer} {b c' : Clock} {E' : Entries} → n ≤ 4096

@@ -7,15 +7,15 @@ use mathlib.Core.List.{List, ◌++◌}
 use lib.ListN.{length, take, drop}
 use lib.Seq.{length-take-le, take_at}
 use Rattle.wheel_rules.specs.declared.calls.Clock.{Clock}
-use Rattle.wheel_rules.specs.Lent.{Entries, Records, nodes, records}
+use Rattle.wheel_rules.specs.Lent.{Entries, Records, records}
 use Rattle.face_rules.specs.declared.Node.{Node}
 use Rattle.face_rules.specs.nodes.Columns.{Columns, columns, columns_of, front, Loads, Stores}
-use Rattle.face_rules.specs.Works.{lent_with as shown, OfLoaded, OfStored}
+use Rattle.face_rules.specs.Works.{lent_with as shown, slots, OfLoaded, OfStored}
 use Rattle.face_rules.proofs.nodes.Using.{Holds}
 
 -- the records that columns are, with heads and tails, the entries and the clock beside them
 abbrev pub held : List ℕ → List ℕ → Columns → Entries → Clock → Records
-held h t k E c = records (nodes h t k.next k.prev k.bucket k.entry k.generation k.serial) E c
+held h t k E c = records (slots h t k) E c
 
 -- ---- columns k of which the first n were lent, and came back as j: what the columns are then
 abbrev pub over : ℕ → Columns → Columns → Columns

@@ -7,13 +7,17 @@ use Rattle.face_rules.specs.declared.Node.{Node}
 use Rattle.face_rules.specs.nodes.Columns.{Columns, Loads, Stores}
 use Rattle.face_rules.specs.nodes.Laid.{Laid}
 use Rattle.rules.specs.Wheel.{Call, Answer}
-use Rattle.wheel_rules.specs.Lent.{Entries, Records}
+use Rattle.wheel_rules.specs.Lent.{Entries, Nodes, Records, nodes}
 use Rattle.wheel_rules.specs.Promise.{enabling, Promised}
 use Rattle.wheel_rules.specs.declared.calls.Clock.{Clock}
 
 -- the lent records: heads, tails; nodes; entries; clock
 abbrev pub lent_with : List ℕ → List ℕ → List Node → Entries → Clock → Records
 lent_with h t ns E c = records_of h t ns E.dated E.deadline E.generation c
+
+-- the slots of a wheel that columns are, with heads and tails
+abbrev pub slots : List ℕ → List ℕ → Columns → Nodes
+slots h t c = nodes h t c.next c.prev c.bucket c.entry c.generation c.serial
 
 -- of every n nodes that were read into the columns c
 abbrev pub OfLoaded : Columns → ℕ → (List Node → Type 0) → Type 0

@@ -39,7 +39,7 @@ use Rattle.wheel_rules.proofs.calls.Deciding.{LentTo}
 use Rattle.wheel_rules.proofs.calls.Promising.{promise}
 
 -- a refusal, and a result by 0
-no : (c : Call) (R : Records) (why : Refusal) → LentTo R c → rows_on R c (number_of why) → Promised c R R (refused (number_of why))
+pub no : (c : Call) (R : Records) (why : Refusal) → LentTo R c → rows_on R c (number_of why) → Promised c R R (refused (number_of why))
 no c R why l f =
     promise c R R (refused (number_of why)) l
     (record {
