@@ -29,7 +29,16 @@ pub fn wheel_set_entry(
         (records_of heads.now tails.now nodes.now dated.new deadline.new stamp.new clock) answer.new result }
 {
     let told = set_entry(
-        nodes, clock, heads, tails, dated, deadline, stamp, e, has.then_some(due), h,
+        nodes,
+        clock,
+        heads,
+        tails,
+        dated,
+        deadline,
+        stamp,
+        e,
+        has.then_some(due),
+        h,
     );
     tell(told, answer)
 }

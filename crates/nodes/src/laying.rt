@@ -6,7 +6,6 @@ ghost use Rattle.rules.specs.Places.{wheel01, buckets};
 
 use deque::NONE;
 use face_rules::Node;
-
 use wheel_refusals::BUCKETS;
 
 // The slot i of n: a sentinel, alone in the bucket of its number; or free, before the one above it.
