@@ -46,8 +46,7 @@ pub fn pass_over(linked: Linked<'_>, clock: Clock) -> Clock
     if waiting(linked.heads, clock) < linked.next.len() {
         return clock;
     }
-    Clock {
-        step: step_past(linked, clock),
-        ..clock
-    }
+    let mut after = clock;
+    after.step = step_past(linked, clock);
+    after
 }

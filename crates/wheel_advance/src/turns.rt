@@ -48,11 +48,9 @@ fn go_on(linked: &mut LinkedMut<'_>, clock: Clock) -> Turn
     };
     let b = bucket_at(to.level, clock.previous, to.step - 1);
     linked.turn(b, b);
-    let entered = Clock {
-        level: to.level,
-        step: to.step,
-        ..clock
-    };
+    let mut entered = clock;
+    entered.level = to.level;
+    entered.step = to.step;
     Turn {
         clock: entered,
         event: None,

@@ -26,13 +26,12 @@ fn seat(linked: &mut LinkedMut<'_>)
 pub fn enabled(clock: Clock, total: usize, nodes: usize, entries: usize) -> Clock
     ensures { result ≡ enabled_with total nodes entries clock }
 {
-    Clock {
-        enabled: true,
-        free: total,
-        nodes,
-        entries,
-        ..end(clock)
-    }
+    let mut after = end(clock);
+    after.enabled = true;
+    after.free = total;
+    after.nodes = nodes;
+    after.entries = entries;
+    after
 }
 
 impl EntriesMut<'_> {

@@ -23,12 +23,11 @@ impl NodesMut<'_> {
         let b = bucket_of(clock.reading, deadline);
         let free = self.linked.push(slot, b);
         self.write(slot, e, h, serial);
+        let mut after = clock;
+        after.free = free;
+        after.serial = serial + 1;
         After {
-            clock: Clock {
-                serial: serial + 1,
-                free,
-                ..clock
-            },
+            clock: after,
             answer: Handle { slot, serial },
         }
     }
@@ -41,7 +40,9 @@ impl NodesMut<'_> {
     {
         self.linked.remove(clock.free, x);
         self.write(x, 0, 0, 0);
-        Clock { free: x, ..clock }
+        let mut after = clock;
+        after.free = x;
+        after
     }
 
     // Moves the armed slot x to the back of the bucket that its deadline has at the reading. Its payload stays.
