@@ -2,13 +2,14 @@
 ghost use Rattle.std.specs.Prelude.{◌≤◌};
 
 use crate::generator::following;
-use crate::requests::{digested, unfit};
 use sketch_rules::Sketch;
 
-// The workloads before the last, in the order of their words.
-const INCREASE: usize = 0;
-
-const ESTIMATE: usize = 1;
+#[derive(Clone, Copy)]
+pub enum Workload {
+    Increase,
+    Estimate,
+    Index,
+}
 
 // A sketch after a run of increases, and the generator's last number.
 #[derive(Clone, Copy)]
@@ -17,20 +18,18 @@ struct Made {
     x: u64,
 }
 
-// Tells the digest of the workload on a table of so many words, a power of two up to 65,536. The loops that are timed
-// stand in functions of their own, so that the program around them takes none of their registers.
-pub fn answer(told: &mut [u64; 6], workload: usize, words: u64, calls: u64, x: u64) {
+// The digest of the workload on a table of so many words, a power of two up to 65,536; none on any other. The loops
+// that are timed stand in functions of their own, so that the program around them takes none of their registers.
+pub fn digest_of(workload: Workload, words: u64, calls: u64, x: u64) -> Option<u64> {
     if words > 65536 || !words.is_power_of_two() {
-        unfit(told);
-        return;
+        return None;
     }
     let n = words as usize;
-    let digest = match workload {
-        INCREASE => on_table(n, |table| digest_of_increases(table, calls, x)),
-        ESTIMATE => on_table(n, |table| sum_of_estimates(table, calls, x)),
-        _ => sum_of_indexes(words, calls, x),
-    };
-    digested(told, digest);
+    Some(match workload {
+        Workload::Increase => on_table(n, |table| digest_of_increases(table, calls, x)),
+        Workload::Estimate => on_table(n, |table| sum_of_estimates(table, calls, x)),
+        Workload::Index => sum_of_indexes(words, calls, x),
+    })
 }
 
 // What the work answers on a table of so many words, all of them 0.
@@ -76,8 +75,8 @@ fn increases(table: &mut [u64], sketch: Sketch, calls: u64, first: u64) -> Made 
     Made { sketch: s, x }
 }
 
-// The record after an increase; the one before where it is refused. By a `match` in a function of its own: by
-// `unwrap_or`, or in the loop, the sample size is divided anew in each turn, and the loop is slower.
+// The record after an increase; the one before where it is refused. A function of its own: in the loop itself, by
+// `match` or `unwrap_or`, a turn runs a sixth more instructions.
 fn increased(table: &mut [u64], s: Sketch, hash: u64) -> Sketch {
     match sketch::increase(table, s, hash) {
         Ok(after) => after,
