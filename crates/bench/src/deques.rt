@@ -19,6 +19,7 @@ pub enum Workload {
 }
 
 // The digest of the workload on one deque over so many nodes, 2 to 4,096; none where they are fewer or more.
+#[inline(never)]
 pub fn digest_of(workload: Workload, nodes: u64, calls: u64, x: u64) -> Option<u64> {
     if nodes < 2 || nodes > 4096 {
         return None;

@@ -1,19 +1,18 @@
 // The digest of what the workloads leave.
-use deque_alone::Deques;
 
 // The digest of the first elements as next leads from the front, so many as are asked for and there are.
-pub fn digest(deques: Deques<'_>, shown: usize) -> u64 {
+pub fn digest(heads: &[usize], next: &[usize], element: &[u64], shown: usize) -> u64 {
     let mut h = lines::digest_start();
-    let Some(front) = deques.links.heads.get(0) else {
+    let Some(front) = heads.get(0) else {
         return h;
     };
     let mut s = *front;
     for _ in 0..shown {
-        if s >= deques.links.next.len() || s >= deques.element.len() {
+        if s >= next.len() || s >= element.len() {
             break;
         }
-        h = lines::digest_step(h, deques.element[s]);
-        s = deques.links.next[s];
+        h = lines::digest_step(h, element[s]);
+        s = next[s];
     }
     h
 }

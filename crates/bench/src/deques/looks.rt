@@ -1,4 +1,5 @@
-// The workloads that change no link: the steps of a cursor, and the checked lengths.
+// The workloads that change no link: the steps of a cursor, and the checked lengths. Each stands in a function of its
+// own, so that the program around it takes none of its registers.
 ghost use Rattle.std.specs.Prelude.{◌≤◌};
 
 use crate::deques::records::laid;
