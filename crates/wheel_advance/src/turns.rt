@@ -18,6 +18,7 @@ use wheel_timers::moments::end;
 use wheel_timers::place::visits::bucket_at;
 
 // The first node before the sentinel of the bucket that the advance stands in, or NONE where there is none.
+// It answers a slot's number or NONE: a rule of the project, 01's forms.
 pub fn waiting(heads: &[usize], clock: Clock) -> usize
     requires { WaitReady wheel01 heads.now }
     ensures { Waits wheel01 heads.now clock result }
