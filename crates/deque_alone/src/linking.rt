@@ -9,7 +9,7 @@ ghost use Rattle.deque.specs.Slices.{links_of, links_now, SameSlices};
 ghost use Rattle.deque_alone.specs.Slices.{records, state_now, SameDeques};
 
 use crate::lending::{Deques, DequesMut};
-use crate::unchecked::{shift, to_back};
+use crate::unchecked::shift;
 use deque::linked::{Linked, LinkedMut};
 use deque_rules::alone::{Done, Placed, Pushed};
 use numbers::refusals::Refusal;
@@ -36,7 +36,7 @@ impl DequesMut<'_> {
         ensures same { SameDeques self.old self.new }
     {
         self.as_read().node_refusal(cursors, free, d, s)?;
-        to_back(&mut self.links, cursors, d, s);
+        self.shift(cursors, free, d, s);
         Ok(())
     }
 }

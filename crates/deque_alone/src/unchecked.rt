@@ -67,9 +67,18 @@ impl DequesMut<'_> {
             free: slot,
         })
     }
+
+    // Moves the node s of the deque d to its back. The tail stays where it is, and the cursor on it too.
+    pub fn shift(&mut self, cursors: &mut [usize], free: usize, d: usize, s: usize)
+        requires { NodeReady (state_now self.old cursors.old) free d s }
+        ensures does { Moves (state_now self.old cursors.old) (state_now self.new cursors.new) free d s }
+        ensures same { SameDeques self.old self.new }
+    {
+        to_back(&mut self.links, cursors, d, s);
+    }
 }
 
-// Moves the node s of the deque d to its back. The tail stays where it is, and the cursor on it too.
+// The same on lengths and elements that are lent for reading: a move writes none.
 pub fn shift(
     links: &mut LinkedMut<'_>,
     lens: &[usize],
@@ -88,7 +97,7 @@ pub fn shift(
 }
 
 // What a move writes.
-pub(crate) fn to_back(links: &mut LinkedMut<'_>, cursors: &mut [usize], d: usize, s: usize)
+fn to_back(links: &mut LinkedMut<'_>, cursors: &mut [usize], d: usize, s: usize)
     requires { HeldBy (links_now links.old) d s × (d < length cursors.old) }
     ensures does { Shifts (links_now links.old) cursors.old (links_now links.new) cursors.new d s }
     ensures same { SameSlices links.old links.new }

@@ -26,12 +26,7 @@ pub struct Told {
 
 // Puts the answer's line after the answers that wait. A line is told by the place of its word in the table and its
 // numbers.
-pub fn say(
-    rt: &impl Print,
-    answers: &mut Answers,
-    told: Result<Told, Refusal>,
-    input: &Lines,
-) {
+pub fn say(rt: &impl Print, answers: &mut Answers, told: Result<Told, Refusal>, input: &Lines) {
     let mut line = [0; 6];
     match told {
         Ok(told) => tell(&mut line, told.answer),

@@ -1,14 +1,15 @@
 // The records of one deque in arrays, tested once before the workloads rely on them.
-ghost use Rattle.std.specs.Prelude.{◌≤◌};
-ghost use Rattle.bench.specs.Ready.{Tested, Laid};
-ghost use Rattle.deque_rules.specs.Deque.{state};
+ghost use Rattle.std.specs.Prelude.{◌≤◌, ◌≡◌, length, List, ℕ};
+ghost use Rattle.bench.specs.Ready.{Ready, Laid, first_nodes};
+ghost use Rattle.deque_alone.specs.Slices.{state_of};
 
 use crate::deques::laying::{
     first_free, first_node, laid_element, laid_home, laid_next, laid_prev, node_before,
 };
-use deque_alone::NONE;
+use deque::linked::Linked;
+use deque_alone::{Deques, NONE};
 
-// The records, the first free node, and whether all of them are sound.
+// The records, and the first free node.
 #[derive(Clone, Copy)]
 pub struct Records {
     pub heads: [usize; 1],
@@ -20,65 +21,47 @@ pub struct Records {
     pub home: [usize; 4096],
     pub element: [u64; 4096],
     pub free: usize,
-    pub good: bool,
 }
 
-// The records of a deque that has the first ones of n nodes, so many, with the numbers after x.
-pub fn laid(n: usize, count: usize, x: u64) -> Records
+impl Records {
+    // The records over the first n nodes, but for the cursors.
+    pub fn as_read(&self, n: usize) -> Deques<'_>
+        requires { n ≤ 4096 }
+        ensures { state_of result self.now.cursors ≡ first_nodes n self.now }
+    {
+        Deques {
+            links: Linked {
+                heads: &self.heads,
+                tails: &self.tails,
+                next: &self.next[..n],
+                prev: &self.prev[..n],
+                home: &self.home[..n],
+            },
+            lens: &self.lens,
+            element: &self.element[..n],
+        }
+    }
+}
+
+// The records of a deque that has the first ones of n nodes, so many, with the numbers after x, if they are sound.
+pub fn laid(n: usize, count: usize, x: u64) -> Option<Records>
     requires { n ≤ 4096 }
     ensures { Laid n result }
 {
-    let heads = [first_node(count); 1];
-    let tails = [node_before(count); 1];
-    let lens = [count; 1];
-    let cursors = [NONE; 1];
-    let next = laid_next(n, count);
-    let prev = laid_prev(count);
-    let home = laid_home(count);
-    let element = laid_element(count, x);
-    let free = first_free(n, count);
-    let good = test(
-        &heads,
-        &tails,
-        &lens,
-        &cursors,
-        &next[..n],
-        &prev[..n],
-        &home[..n],
-        &element[..n],
-        free,
-    );
-    Records {
-        heads,
-        tails,
-        lens,
-        cursors,
-        next,
-        prev,
-        home,
-        element,
-        free,
-        good,
+    let records = Records {
+        heads: [first_node(count)],
+        tails: [node_before(count)],
+        lens: [count],
+        cursors: [NONE],
+        next: laid_next(n, count),
+        prev: laid_prev(count),
+        home: laid_home(count),
+        element: laid_element(count, x),
+        free: first_free(n, count),
+    };
+    if records.as_read(n).sound(&records.cursors, records.free) {
+        Some(records)
+    } else {
+        None
     }
-}
-
-// Whether there is one deque, and its records are sound.
-fn test(
-    heads: &[usize],
-    tails: &[usize],
-    lens: &[usize],
-    cursors: &[usize],
-    next: &[usize],
-    prev: &[usize],
-    home: &[usize],
-    element: &[u64],
-    free: usize,
-) -> bool
-    ensures { Tested (state heads.now tails.now lens.now cursors.now next.now prev.now home.now element.now) free
-        result }
-{
-    if heads.len() != 1 {
-        return false;
-    }
-    deque_alone::sound::sound(heads, tails, lens, cursors, next, prev, home, element, free)
 }

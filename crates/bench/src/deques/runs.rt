@@ -6,162 +6,106 @@ use crate::deques::digests::digest;
 use crate::deques::laying::number_after;
 use crate::deques::records::laid;
 use crate::generator::following;
-use deque_alone::unchecked;
+use deque::linked::LinkedMut;
+use deque_alone::DequesMut;
+use deque_alone::unchecked::shift;
 
 // So many times a push, with a pop of the front after it, on a deque that has `count` nodes at first: the sum of what
 // was popped, and the digest of what is left.
 pub fn queue(n: usize, count: usize, calls: u64, first: u64) -> u64
     requires { n ≤ 4096 }
 {
-    let made = laid(n, count, first);
-    if !made.good {
+    let Some(mut made) = laid(n, count, first) else {
         return 0;
-    }
-    let mut heads = made.heads;
-    let mut tails = made.tails;
-    let mut lens = made.lens;
-    let mut cursors = made.cursors;
-    let mut next = made.next;
-    let mut prev = made.prev;
-    let mut home = made.home;
-    let mut element = made.element;
+    };
     let mut spare = made.free;
     if spare >= n {
         return 0;
     }
+    let mut cursors = made.cursors;
+    let mut deques = DequesMut {
+        links: LinkedMut {
+            heads: &mut made.heads,
+            tails: &mut made.tails,
+            next: &mut made.next[..n],
+            prev: &mut made.prev[..n],
+            home: &mut made.home[..n],
+        },
+        lens: &mut made.lens,
+        element: &mut made.element[..n],
+    };
     let mut sum: u64 = 0;
     let mut x = number_after(count, first);
-    let mut left = calls;
-    while left > 0 {
-        left -= 1;
+    for _ in 0..calls {
         x = following(x);
-        let rest = unchecked::push(
-            &mut heads,
-            &mut tails,
-            &mut lens,
-            &cursors,
-            &mut next[..n],
-            &mut prev[..n],
-            &mut home[..n],
-            &mut element[..n],
-            spare,
-            0,
-            x,
-        );
-        spare = heads[0];
-        let e = unchecked::release(
-            &mut heads,
-            &mut tails,
-            &mut lens,
-            &mut cursors,
-            &mut next[..n],
-            &mut prev[..n],
-            &mut home[..n],
-            &mut element[..n],
-            rest,
-            0,
-            spare,
-        );
-        sum = std::num::wrapping_add_u64(sum, e);
+        let rest = deques.push(&cursors, spare, 0, x);
+        spare = deques.links.heads[0];
+        sum = sum.wrapping_add(deques.release(&mut cursors, rest, 0, spare));
     }
-    std::num::wrapping_add_u64(sum, digest(&heads, &next[..n], &element[..n], n))
+    sum.wrapping_add(digest(deques.as_read(), n))
 }
 
 // So many moves to the back at random, on a deque that has every node: the digest.
 pub fn moves(n: usize, calls: u64, first: u64) -> u64
     requires { n ≤ 4096 }
 {
-    let made = laid(n, n, first);
-    if !made.good {
+    let Some(mut made) = laid(n, n, first) else {
+        return 0;
+    };
+    if made.free < n {
         return 0;
     }
-    let mut heads = made.heads;
-    let mut tails = made.tails;
-    let lens = made.lens;
-    let mut cursors = made.cursors;
-    let mut next = made.next;
-    let mut prev = made.prev;
-    let home = made.home;
-    let element = made.element;
     let free = made.free;
-    if free < n {
-        return 0;
-    }
+    let mut cursors = made.cursors;
+    let mut deques = DequesMut {
+        links: LinkedMut {
+            heads: &mut made.heads,
+            tails: &mut made.tails,
+            next: &mut made.next[..n],
+            prev: &mut made.prev[..n],
+            home: &mut made.home[..n],
+        },
+        lens: &mut made.lens,
+        element: &mut made.element[..n],
+    };
     let mut x = number_after(n, first);
-    let mut left = calls;
-    while left > 0 {
-        left -= 1;
+    for _ in 0..calls {
         x = following(x);
-        let s = chosen(x, n as u64);
-        unchecked::shift(
-            &mut heads,
-            &mut tails,
-            &lens,
-            &mut cursors,
-            &mut next[..n],
-            &mut prev[..n],
-            &home[..n],
-            &element[..n],
-            free,
-            0,
-            s,
-        );
+        let s = chosen(x, deques.links.next.len() as u64);
+        deques.shift(&mut cursors, free, 0, s);
     }
-    digest(&heads, &next[..n], &element[..n], n)
+    digest(deques.as_read(), n)
 }
 
 // So many nodes unlinked at random, each with a push after it, on a deque that has every node: the digest.
 pub fn unlinking(n: usize, calls: u64, first: u64) -> u64
     requires { n ≤ 4096 }
 {
-    let made = laid(n, n, first);
-    if !made.good {
+    let Some(mut made) = laid(n, n, first) else {
         return 0;
-    }
-    let mut heads = made.heads;
-    let mut tails = made.tails;
-    let mut lens = made.lens;
-    let mut cursors = made.cursors;
-    let mut next = made.next;
-    let mut prev = made.prev;
-    let mut home = made.home;
-    let mut element = made.element;
+    };
     let mut spare = made.free;
     if spare < n {
         return 0;
     }
+    let mut cursors = made.cursors;
+    let mut deques = DequesMut {
+        links: LinkedMut {
+            heads: &mut made.heads,
+            tails: &mut made.tails,
+            next: &mut made.next[..n],
+            prev: &mut made.prev[..n],
+            home: &mut made.home[..n],
+        },
+        lens: &mut made.lens,
+        element: &mut made.element[..n],
+    };
     let mut x = number_after(n, first);
-    let mut left = calls;
-    while left > 0 {
-        left -= 1;
+    for _ in 0..calls {
         x = following(x);
-        let s = chosen(x, n as u64);
-        unchecked::release(
-            &mut heads,
-            &mut tails,
-            &mut lens,
-            &mut cursors,
-            &mut next[..n],
-            &mut prev[..n],
-            &mut home[..n],
-            &mut element[..n],
-            spare,
-            0,
-            s,
-        );
-        spare = unchecked::push(
-            &mut heads,
-            &mut tails,
-            &mut lens,
-            &cursors,
-            &mut next[..n],
-            &mut prev[..n],
-            &mut home[..n],
-            &mut element[..n],
-            s,
-            0,
-            x,
-        );
+        let s = chosen(x, deques.links.next.len() as u64);
+        deques.release(&mut cursors, spare, 0, s);
+        spare = deques.push(&cursors, s, 0, x);
     }
-    digest(&heads, &next[..n], &element[..n], n)
+    digest(deques.as_read(), n)
 }

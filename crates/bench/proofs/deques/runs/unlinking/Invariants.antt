@@ -1,15 +1,7 @@
--- `unlinking` keeps the records those of one deque that has every node. The measure is the number of calls that are
--- left.
-use Rattle.std.proofs.Common.{take}
-use Rattle.deque_rules.specs.Deque.{state}
-use Rattle.bench.specs.Ready.{Sized, Full}
+-- `unlinking` keeps the records those of one deque that has every node.
+use Rattle.deque_alone.specs.Slices.{state_now}
+use Rattle.bench.specs.Ready.{Full}
 use Rattle.bench.proofs.deques.runs.unlinking.Given as goal
 
-abbrev pub invariant-loop-left : goal.invariant-loop-left
-invariant-loop-left l =
-    Full (state l.heads l.tails l.lens l.cursors (take l.n l.next) (take l.n l.prev) (take l.n l.home) (take l.n l.element)) l.spare × Sized l.n l.heads l.tails l.lens l.cursors l.next l.prev
-    l.home l.element
-
-abbrev pub decreases-loop-left : goal.decreases-loop-left
-decreases-loop-left l =
-    l.left
+abbrev pub invariant-loop : goal.invariant-loop
+invariant-loop l = Full (state_now l.deques l.cursors) l.spare
