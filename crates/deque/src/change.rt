@@ -3,6 +3,7 @@
 ghost use Rattle.std.specs.Prelude.{◌≡◌};
 ghost use Rattle.deque_rules.specs.Change.{CanPut, Puts, Linkable, LinksBack, Held, CutsOut, Pushable, PushesBack, Removes, Movable, MovesBack, HeldBy, Ahead};
 ghost use Rattle.deque_rules.specs.Change.{Turns};
+ghost use Rattle.deque_rules.specs.Links.{links};
 ghost use Rattle.deque.specs.Slices.{links_now, SameSlices};
 
 use crate::NONE;
@@ -122,4 +123,62 @@ impl LinkedMut<'_> {
         self.heads[d] = q;
         self.tails[d] = s;
     }
+}
+
+// The two that write no home stand here as functions of slices too: the methods above ask for homes that are lent to be
+// changed, these for homes that are lent for reading alone (what may not change: no call asks more than it did).
+
+// Moves the slot s, which is not last, to the back of its own deque d: what `move_back` writes, with no home read or
+// written and no choice but at the front.
+pub fn move_to_back(
+    heads: &mut [usize],
+    tails: &mut [usize],
+    next: &mut [usize],
+    prev: &mut [usize],
+    home: &[usize],
+    d: usize,
+    s: usize,
+)
+    requires { Ahead (links heads.old tails.old next.old prev.old home.now) d s }
+    ensures { MovesBack (links heads.old tails.old next.old prev.old home.now)
+        (links heads.new tails.new next.new prev.new home.now) d s }
+{
+    let p = prev[s];
+    let q = next[s];
+    let t = tails[d];
+    prev[q] = p;
+    put(heads, next, d, p, q);
+    next[s] = NONE;
+    next[t] = s;
+    prev[s] = t;
+    tails[d] = s;
+}
+
+// Turns the deque d until its member s is last: what stood after s, what stood before it, s. The records are those of
+// moving nodes from front to back one by one. No home changes.
+pub fn turn(
+    heads: &mut [usize],
+    tails: &mut [usize],
+    next: &mut [usize],
+    prev: &mut [usize],
+    home: &[usize],
+    d: usize,
+    s: usize,
+)
+    requires { HeldBy (links heads.old tails.old next.old prev.old home.now) d s }
+    ensures { Turns (links heads.old tails.old next.old prev.old home.now)
+        (links heads.new tails.new next.new prev.new home.now) d s }
+{
+    let q = next[s];
+    if next.len() <= q {
+        return;
+    }
+    let h = heads[d];
+    let t = tails[d];
+    next[t] = h;
+    prev[h] = t;
+    next[s] = NONE;
+    prev[q] = NONE;
+    heads[d] = q;
+    tails[d] = s;
 }

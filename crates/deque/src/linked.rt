@@ -1,5 +1,6 @@
 // The records of linked deques and free slots, lent together: head and tail of each deque; next slot, previous slot and
 // deque of each slot.
+// Parallel slices, and a link is a slot's number or NONE: a rule of the project, 01's forms.
 ghost use Rattle.deque.specs.Slices.{Reads};
 
 // Lent for reading.

@@ -1,5 +1,6 @@
 // For proved code only, unchecked: what may be read off the records, with what it means for whatever lists they stand
 // for.
+// The answer is the link as it stands, a slot's number or NONE: a rule of the project, 01's forms.
 ghost use Rattle.std.specs.Prelude.{◌<◌, length};
 ghost use Rattle.deque_rules.specs.Read.{Front, Follows};
 

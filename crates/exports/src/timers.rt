@@ -5,7 +5,7 @@ ghost use Rattle.rules.specs.Wheel.{schedule, reschedule, deschedule};
 use crate::words::tell;
 use face::{deschedule, reschedule, schedule};
 use face_rules::Node;
-use wheel_rules::calls::Clock;
+use wheel_rules::calls::{Clock, Handle};
 
 // Arms a timer for the entry e, whose generation is h. Refuses (1, 4, 5, 7 to 11).
 pub fn wheel_schedule(
@@ -47,8 +47,12 @@ pub fn wheel_reschedule(
         (records_of heads.old tails.old nodes.old dated.now deadline.now stamp.now clock.old)
         (records_of heads.new tails.new nodes.new dated.now deadline.now stamp.now clock.new) answer.new result }
 {
+    let handle = Handle {
+        slot,
+        serial: number,
+    };
     let told = reschedule(
-        nodes, clock, heads, tails, dated, deadline, stamp, slot, number, h,
+        nodes, clock, heads, tails, dated, deadline, stamp, handle, h,
     );
     tell(told, answer)
 }
@@ -71,8 +75,12 @@ pub fn wheel_deschedule(
         (records_of heads.old tails.old nodes.old dated.now deadline.now stamp.now clock.old)
         (records_of heads.new tails.new nodes.new dated.now deadline.now stamp.now clock.new) answer.new result }
 {
+    let handle = Handle {
+        slot,
+        serial: number,
+    };
     let told = deschedule(
-        nodes, clock, heads, tails, dated, deadline, stamp, slot, number, h,
+        nodes, clock, heads, tails, dated, deadline, stamp, handle, h,
     );
     tell(told, answer)
 }

@@ -3,11 +3,14 @@ ghost use Rattle.face_rules.specs.Face.{pulled_says, records_of};
 ghost use Rattle.rules.specs.Wheel.{start, pull, abandon};
 ghost use Rattle.wheel_rules.specs.Promise.{noted_says, Promised};
 
-use face_rules::{Node, Pulled};
+use crate::writing::write_nodes;
+use face_rules::Node;
 use face_works::advancing::{abandon_work, start_work};
-use face_works::pulling::pull_work;
-use nodes::{ROOM, load, store};
-use wheel_rules::calls::{Clock, Noted};
+use face_works::writing::Pull;
+use nodes::Columns;
+use numbers::refusals::Refusal;
+use wheel::Entries;
+use wheel_rules::calls::{Clock, Event};
 
 // Opens an advance to q. Refuses (1, 4, 5).
 pub fn start(
@@ -19,44 +22,21 @@ pub fn start(
     deadline: &[u64],
     stamp: &[u32],
     q: u64,
-) -> Noted
+) -> Result<(), Refusal>
     ensures { Promised (start q)
         (records_of heads.now tails.now nodes.now dated.now deadline.now stamp.now clock.old)
         (records_of heads.now tails.now nodes.now dated.now deadline.now stamp.now clock.new) (noted_says result) }
 {
-    let mut next = [0usize; ROOM];
-    let mut prev = [0usize; ROOM];
-    let mut bucket = [0usize; ROOM];
-    let mut entry = [0usize; ROOM];
-    let mut generation = [0u32; ROOM];
-    let mut serial = [0u64; ROOM];
-    load(
-        nodes,
-        &mut next,
-        &mut prev,
-        &mut bucket,
-        &mut entry,
-        &mut generation,
-        &mut serial,
-    );
-    let turn = start_work(
-        &next,
-        &prev,
-        &bucket,
-        &entry,
-        &generation,
-        &serial,
-        nodes.len(),
-        *clock,
-        heads,
-        tails,
+    let entries = Entries {
         dated,
         deadline,
-        stamp,
-        q,
-    );
-    *clock = turn.clock;
-    turn.answer
+        generation: stamp,
+    };
+    let mut columns = Columns::zeroed();
+    columns.load(nodes);
+    let after = start_work(&columns, nodes.len(), *clock, heads, tails, entries, q);
+    *clock = after.clock;
+    after.answer
 }
 
 // One event of the open advance, or End. Refuses (1, 4, 6).
@@ -68,44 +48,17 @@ pub fn pull(
     dated: &[bool],
     deadline: &[u64],
     stamp: &[u32],
-) -> Pulled
+) -> Result<Event, Refusal>
     ensures { Promised pull
         (records_of heads.old tails.old nodes.old dated.now deadline.now stamp.now clock.old)
         (records_of heads.new tails.new nodes.new dated.now deadline.now stamp.now clock.new) (pulled_says result) }
 {
-    let mut next = [0usize; ROOM];
-    let mut prev = [0usize; ROOM];
-    let mut bucket = [0usize; ROOM];
-    let mut entry = [0usize; ROOM];
-    let mut generation = [0u32; ROOM];
-    let mut serial = [0u64; ROOM];
-    load(
-        nodes,
-        &mut next,
-        &mut prev,
-        &mut bucket,
-        &mut entry,
-        &mut generation,
-        &mut serial,
-    );
-    let turn = pull_work(
-        &mut next,
-        &mut prev,
-        &mut bucket,
-        &mut entry,
-        &mut generation,
-        &mut serial,
-        nodes.len(),
-        *clock,
-        heads,
-        tails,
+    let entries = Entries {
         dated,
         deadline,
-        stamp,
-    );
-    *clock = turn.clock;
-    store(nodes, &next, &prev, &bucket, &entry, &generation, &serial);
-    turn.answer
+        generation: stamp,
+    };
+    write_nodes(nodes, clock, heads, tails, entries, Pull)
 }
 
 // Closes the open advance and restores the reading that it started from. Refuses (1, 4, 6).
@@ -117,41 +70,19 @@ pub fn abandon(
     dated: &[bool],
     deadline: &[u64],
     stamp: &[u32],
-) -> Noted
+) -> Result<(), Refusal>
     ensures { Promised abandon
         (records_of heads.now tails.now nodes.now dated.now deadline.now stamp.now clock.old)
         (records_of heads.now tails.now nodes.now dated.now deadline.now stamp.now clock.new) (noted_says result) }
 {
-    let mut next = [0usize; ROOM];
-    let mut prev = [0usize; ROOM];
-    let mut bucket = [0usize; ROOM];
-    let mut entry = [0usize; ROOM];
-    let mut generation = [0u32; ROOM];
-    let mut serial = [0u64; ROOM];
-    load(
-        nodes,
-        &mut next,
-        &mut prev,
-        &mut bucket,
-        &mut entry,
-        &mut generation,
-        &mut serial,
-    );
-    let turn = abandon_work(
-        &next,
-        &prev,
-        &bucket,
-        &entry,
-        &generation,
-        &serial,
-        nodes.len(),
-        *clock,
-        heads,
-        tails,
+    let entries = Entries {
         dated,
         deadline,
-        stamp,
-    );
-    *clock = turn.clock;
-    turn.answer
+        generation: stamp,
+    };
+    let mut columns = Columns::zeroed();
+    columns.load(nodes);
+    let after = abandon_work(&columns, nodes.len(), *clock, heads, tails, entries);
+    *clock = after.clock;
+    after.answer
 }

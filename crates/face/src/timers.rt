@@ -3,10 +3,12 @@ ghost use Rattle.face_rules.specs.Face.{scheduled_says, rescheduled_says, record
 ghost use Rattle.rules.specs.Wheel.{schedule, reschedule, deschedule};
 ghost use Rattle.wheel_rules.specs.Promise.{noted_says, Promised};
 
-use face_rules::{Node, Rescheduled, Scheduled};
-use face_works::timers::{deschedule_work, reschedule_work, schedule_work};
-use nodes::{ROOM, load, store};
-use wheel_rules::calls::{Clock, Noted};
+use crate::writing::write_nodes;
+use face_rules::Node;
+use face_works::writing::{Deschedule, Reschedule, Schedule};
+use numbers::refusals::Refusal;
+use wheel::Entries;
+use wheel_rules::calls::{Clock, Handle, Rescheduled};
 
 // Arms a timer for the entry e, whose generation is h. Refuses (1, 4, 5, 7 to 11).
 pub fn schedule(
@@ -19,50 +21,20 @@ pub fn schedule(
     stamp: &[u32],
     e: usize,
     h: u32,
-) -> Scheduled
+) -> Result<Handle, Refusal>
     ensures { Promised (schedule e h)
         (records_of heads.old tails.old nodes.old dated.now deadline.now stamp.now clock.old)
         (records_of heads.new tails.new nodes.new dated.now deadline.now stamp.now clock.new) (scheduled_says result) }
 {
-    let mut next = [0usize; ROOM];
-    let mut prev = [0usize; ROOM];
-    let mut bucket = [0usize; ROOM];
-    let mut entry = [0usize; ROOM];
-    let mut generation = [0u32; ROOM];
-    let mut serial = [0u64; ROOM];
-    load(
-        nodes,
-        &mut next,
-        &mut prev,
-        &mut bucket,
-        &mut entry,
-        &mut generation,
-        &mut serial,
-    );
-    let turn = schedule_work(
-        &mut next,
-        &mut prev,
-        &mut bucket,
-        &mut entry,
-        &mut generation,
-        &mut serial,
-        nodes.len(),
-        *clock,
-        heads,
-        tails,
+    let entries = Entries {
         dated,
         deadline,
-        stamp,
-        e,
-        h,
-    );
-    *clock = turn.clock;
-    store(nodes, &next, &prev, &bucket, &entry, &generation, &serial);
-    turn.answer
+        generation: stamp,
+    };
+    write_nodes(nodes, clock, heads, tails, entries, Schedule { e, h })
 }
 
-// Moves the timer with the handle (slot, number), armed with the generation h, or removes it. Refuses (1, 4, 5, 12,
-// 13).
+// Moves the timer with the handle, armed with the generation h, or removes it. Refuses (1, 4, 5, 12, 13).
 pub fn reschedule(
     nodes: &mut [Node],
     clock: &mut Clock,
@@ -71,54 +43,30 @@ pub fn reschedule(
     dated: &[bool],
     deadline: &[u64],
     stamp: &[u32],
-    slot: usize,
-    number: u64,
+    handle: Handle,
     h: u32,
-) -> Rescheduled
-    ensures { Promised (reschedule slot number h)
+) -> Result<Rescheduled, Refusal>
+    ensures { Promised (reschedule handle.slot handle.serial h)
         (records_of heads.old tails.old nodes.old dated.now deadline.now stamp.now clock.old)
         (records_of heads.new tails.new nodes.new dated.now deadline.now stamp.now clock.new)
         (rescheduled_says result) }
 {
-    let mut next = [0usize; ROOM];
-    let mut prev = [0usize; ROOM];
-    let mut bucket = [0usize; ROOM];
-    let mut entry = [0usize; ROOM];
-    let mut generation = [0u32; ROOM];
-    let mut serial = [0u64; ROOM];
-    load(
-        nodes,
-        &mut next,
-        &mut prev,
-        &mut bucket,
-        &mut entry,
-        &mut generation,
-        &mut serial,
-    );
-    let turn = reschedule_work(
-        &mut next,
-        &mut prev,
-        &mut bucket,
-        &mut entry,
-        &mut generation,
-        &mut serial,
-        nodes.len(),
-        *clock,
-        heads,
-        tails,
+    let entries = Entries {
         dated,
         deadline,
-        stamp,
-        slot,
-        number,
-        h,
-    );
-    *clock = turn.clock;
-    store(nodes, &next, &prev, &bucket, &entry, &generation, &serial);
-    turn.answer
+        generation: stamp,
+    };
+    write_nodes(
+        nodes,
+        clock,
+        heads,
+        tails,
+        entries,
+        Reschedule { handle, h },
+    )
 }
 
-// Removes the timer with the handle (slot, number), armed with the generation h. Refuses (1, 4, 5, 12, 13).
+// Removes the timer with the handle, armed with the generation h. Refuses (1, 4, 5, 12, 13).
 pub fn deschedule(
     nodes: &mut [Node],
     clock: &mut Clock,
@@ -127,48 +75,24 @@ pub fn deschedule(
     dated: &[bool],
     deadline: &[u64],
     stamp: &[u32],
-    slot: usize,
-    number: u64,
+    handle: Handle,
     h: u32,
-) -> Noted
-    ensures { Promised (deschedule slot number h)
+) -> Result<(), Refusal>
+    ensures { Promised (deschedule handle.slot handle.serial h)
         (records_of heads.old tails.old nodes.old dated.now deadline.now stamp.now clock.old)
         (records_of heads.new tails.new nodes.new dated.now deadline.now stamp.now clock.new) (noted_says result) }
 {
-    let mut next = [0usize; ROOM];
-    let mut prev = [0usize; ROOM];
-    let mut bucket = [0usize; ROOM];
-    let mut entry = [0usize; ROOM];
-    let mut generation = [0u32; ROOM];
-    let mut serial = [0u64; ROOM];
-    load(
-        nodes,
-        &mut next,
-        &mut prev,
-        &mut bucket,
-        &mut entry,
-        &mut generation,
-        &mut serial,
-    );
-    let turn = deschedule_work(
-        &mut next,
-        &mut prev,
-        &mut bucket,
-        &mut entry,
-        &mut generation,
-        &mut serial,
-        nodes.len(),
-        *clock,
-        heads,
-        tails,
+    let entries = Entries {
         dated,
         deadline,
-        stamp,
-        slot,
-        number,
-        h,
-    );
-    *clock = turn.clock;
-    store(nodes, &next, &prev, &bucket, &entry, &generation, &serial);
-    turn.answer
+        generation: stamp,
+    };
+    write_nodes(
+        nodes,
+        clock,
+        heads,
+        tails,
+        entries,
+        Deschedule { handle, h },
+    )
 }

@@ -19,21 +19,7 @@ use Rattle.numbers.specs.Refusals.{number_of}
 use Rattle.numbers.specs.declared.refusals.Refusal.{Refusal}
 use Rattle.face_rules.specs.declared.Node.{Node}
 use Rattle.face_rules.specs.Face.{records_of as shown}
-use Rattle.face_rules.specs.Crowded.{crowded_number}
-
--- the calls that 1 names: "all wheel calls but create, enable"
-abbrev pub OfOne : Call → Type 0
-OfOne (create n) = ⊥
-OfOne (enable m k f) = ⊥
-OfOne (set_entry e o h) = Unit {0}
-OfOne (schedule e h) = Unit {0}
-OfOne (reschedule x n h) = Unit {0}
-OfOne (deschedule x n h) = Unit {0}
-OfOne (start q) = Unit {0}
-OfOne pull = Unit {0}
-OfOne abandon = Unit {0}
-OfOne armed_count = Unit {0}
-OfOne next_due = Unit {0}
+use Rattle.face_rules.specs.Crowded.{crowded_number, OfOne}
 
 -- their rows begin with 1 and 4, and no length is given to them
 module _ (R : Records) (k : ℕ) (f : (more : ℕ → Type 0) → standing R more k) where

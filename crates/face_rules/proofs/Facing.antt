@@ -9,10 +9,10 @@ use Rattle.wheel_rules.specs.Promise.{Promised}
 use Rattle.numbers.specs.Refusals.{number_of}
 use Rattle.numbers.specs.declared.refusals.Refusal.{Refusal}
 use Rattle.face_rules.specs.nodes.Columns.{Columns, front}
-use Rattle.face_rules.specs.Crowded.{crowded_number}
+use Rattle.face_rules.specs.Crowded.{crowded_number, OfOne}
 use Rattle.face_rules.specs.Works.{Stored, Loaded}
 use Rattle.face_rules.proofs.Loading.{held, reads, writes, stays, stays_stored}
-use Rattle.face_rules.proofs.Crowding.{OfOne, crowd_no}
+use Rattle.face_rules.proofs.Crowding.{crowd_no}
 
 -- the same promise of an answer that says the same
 said : (q : Call) (R R' : Records) (a b : Answer) → b ≡ a → Promised q R R' a → Promised q R R' b

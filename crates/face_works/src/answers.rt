@@ -1,102 +1,31 @@
-// What the calls over parallel slices answer, in two: the answer without the clock, and the clock from now on, which is
-// the caller's own where none is handed back.
-// No `requires`.
-ghost use Rattle.face_rules.specs.Turns.{TurnsTimed, TurnsScheduled, TurnsRescheduled, TurnsPulled};
+// What a call over columns answers, in two: the answer without the clock, and the clock from now on, which is the
+// caller's own where the call is refused. No `requires`.
+ghost use Rattle.std.specs.Prelude.{◌≡◌};
+ghost use Rattle.face_rules.specs.Turns.{Turns};
+ghost use Rattle.wheel_rules.specs.Promise.{noted_says, timed_says, timed_clock};
 
-use face_rules::{NotedTurn, Pulled, Rescheduled, Scheduled};
-pub use face_rules::{PulledTurn, RescheduledTurn, ScheduledTurn};
-use wheel_rules::calls::{Clock, Noted, Timed};
+use numbers::refusals::Refusal;
+use wheel_rules::calls::{After, Clock};
 
-pub fn timed(own: Clock, r: Timed) -> NotedTurn
-    ensures { TurnsTimed own r result }
+pub fn after<A>(own: Clock, told: Result<After<A>, Refusal>) -> After<Result<A, Refusal>>
+    ensures { Turns own told result }
 {
-    match r {
-        Timed::Done(clock) => NotedTurn {
-            clock,
-            answer: Noted::Done,
+    match told {
+        Ok(done) => After {
+            clock: done.clock,
+            answer: Ok(done.answer),
         },
-        Timed::Refused(n) => NotedTurn {
+        Err(why) => After {
             clock: own,
-            answer: Noted::Refused(n),
+            answer: Err(why),
         },
     }
 }
 
-pub fn scheduled(own: Clock, r: wheel_rules::calls::Scheduled) -> ScheduledTurn
-    ensures { TurnsScheduled own r result }
+// The same where the clock is all that is handed back.
+pub fn timed(own: Clock, told: Result<Clock, Refusal>) -> After<Result<(), Refusal>>
+    ensures says { noted_says result.answer ≡ timed_says told }
+    ensures clock_is { result.clock ≡ timed_clock own told }
 {
-    match r {
-        wheel_rules::calls::Scheduled::Armed {
-            slot,
-            serial,
-            clock,
-        } => ScheduledTurn {
-            clock,
-            answer: Scheduled::Armed { slot, serial },
-        },
-        wheel_rules::calls::Scheduled::Refused(n) => ScheduledTurn {
-            clock: own,
-            answer: Scheduled::Refused(n),
-        },
-    }
-}
-
-pub fn rescheduled(own: Clock, r: wheel_rules::calls::Rescheduled) -> RescheduledTurn
-    ensures { TurnsRescheduled own r result }
-{
-    match r {
-        wheel_rules::calls::Rescheduled::Moved => RescheduledTurn {
-            clock: own,
-            answer: Rescheduled::Moved,
-        },
-        wheel_rules::calls::Rescheduled::Removed(clock) => RescheduledTurn {
-            clock,
-            answer: Rescheduled::Removed,
-        },
-        wheel_rules::calls::Rescheduled::Refused(n) => RescheduledTurn {
-            clock: own,
-            answer: Rescheduled::Refused(n),
-        },
-    }
-}
-
-pub fn pulled(own: Clock, r: wheel_rules::calls::Pulled) -> PulledTurn
-    ensures { TurnsPulled own r result }
-{
-    match r {
-        wheel_rules::calls::Pulled::Expired {
-            entry,
-            serial,
-            deadline,
-            clock,
-        } => PulledTurn {
-            clock,
-            answer: Pulled::Expired {
-                entry,
-                serial,
-                deadline,
-            },
-        },
-        wheel_rules::calls::Pulled::Rescheduled {
-            entry,
-            serial,
-            place,
-            clock,
-        } => PulledTurn {
-            clock,
-            answer: Pulled::Rescheduled {
-                entry,
-                serial,
-                place,
-            },
-        },
-        wheel_rules::calls::Pulled::End(clock) => PulledTurn {
-            clock,
-            answer: Pulled::End,
-        },
-        wheel_rules::calls::Pulled::Refused(n) => PulledTurn {
-            clock: own,
-            answer: Pulled::Refused(n),
-        },
-    }
+    after(own, told.map(|clock| After { clock, answer: () }))
 }

@@ -5,13 +5,19 @@ ghost use Rattle.story.specs.Story.{Reached, begun, Watched, cancelled, abandone
 
 use crate::answers::{is_count, is_end, is_expired, is_handle, is_moved, is_noted, is_refused};
 use crate::held::Held;
-use face::Refusal;
+use face::{Handle, Refusal};
 
 // 2^30 nanoseconds.
 const TICK: u64 = 1073741824;
 
 // The deadline of the timer that the story is about.
 const DUE: u64 = TICK + 5;
+
+// The handle of the other timer.
+const OTHER: Handle = Handle {
+    slot: 166,
+    serial: 8,
+};
 
 // A wheel whose serials begin at 7, enabled.
 pub fn begin() -> Held
@@ -38,8 +44,8 @@ pub fn cancel_another(s: &mut Held)
 {
     check::expect(is_noted(s.set(1, 64 * TICK, 3)));
     check::expect(is_handle(s.schedule(1, 3), 166, 8));
-    check::expect(is_noted(s.deschedule(166, 8, 3)));
-    check::expect(is_refused(s.deschedule(166, 8, 3), Refusal::StaleHandle));
+    check::expect(is_noted(s.deschedule(OTHER, 3)));
+    check::expect(is_refused(s.deschedule(OTHER, 3), Refusal::StaleHandle));
 }
 
 // An advance far beyond the deadline is abandoned before anything is read of it: the reading is 0 again.

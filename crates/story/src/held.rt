@@ -93,9 +93,9 @@ impl Held {
         )
     }
 
-    // Cancels the timer with the handle (slot, number).
-    pub fn deschedule(&mut self, slot: usize, number: u64, h: u32) -> Result<(), Refusal>
-        ensures { Promised (deschedule slot number h) (held self.old) (held self.new) (noted_says result) }
+    // Cancels the timer with the handle.
+    pub fn deschedule(&mut self, handle: Handle, h: u32) -> Result<(), Refusal>
+        ensures { Promised (deschedule handle.slot handle.serial h) (held self.old) (held self.new) (noted_says result) }
     {
         face::deschedule(
             &mut self.nodes,
@@ -105,8 +105,7 @@ impl Held {
             &self.dated,
             &self.deadline,
             &self.stamp,
-            slot,
-            number,
+            handle,
             h,
         )
     }

@@ -1,12 +1,12 @@
 -- `enable_work` meets its promise.
-use Rattle.face_rules.proofs.Enabling.{enable_refused, enable_asks, enable_done}
+use Rattle.std.proofs.Common.{ap}
+use Rattle.face_rules.proofs.Enabling.{enable_refused, enable_done}
+use Rattle.numbers.specs.Refusals.{refusal_in}
 use Rattle.face_works.proofs.making.enable_work.Goals as goal
 
-pub returns-then-no-ne0 : goal.returns-then-no-ne0
-returns-then-no-ne0 c = enable_refused _ _ _ _ _ _ _ _ c.around_refusal-no.ensures c.if-no-ne0.true
+pub returns-in-Ok-clause-does : goal.returns-in-Ok-clause-does
+returns-in-Ok-clause-does c =
+    enable_done _ _ _ _ _ _ c.around_refusal.ensures (ap refusal_in c.in-Ok.is) c.lay_out_around.ensures.does
 
-pub lay_out_around-after-requires : goal.lay_out_around-after-requires
-lay_out_around-after-requires c = search enable_asks
-
-pub returns : goal.returns
-returns c = search enable_done
+pub returns-in-Err-clause-does : goal.returns-in-Err-clause-does
+returns-in-Err-clause-does c = enable_refused _ _ _ _ _ _ c.around_refusal.ensures c.in-Err.why (ap refusal_in c.in-Err.is)

@@ -1,0 +1,2 @@
+-- What the works share.
+pub mod Moving

@@ -1,0 +1,2 @@
+-- inner: what the contracts of the works cite.
+pub mod Slots
