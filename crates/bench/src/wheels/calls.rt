@@ -34,7 +34,9 @@ impl Wheel<'_> {
         requires { Works (shown self.old) }
         ensures { Works (shown self.new) }
     {
-        if x < BUCKETS || x >= self.nodes.linked.home.len() || self.nodes.linked.home[x] >= BUCKETS
+        if x < BUCKETS
+            || x >= self.nodes.linked.home.len()
+            || self.nodes.linked.home[x] >= BUCKETS
         {
             return false;
         }

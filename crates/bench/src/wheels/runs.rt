@@ -74,8 +74,11 @@ pub fn count(nodes: usize, calls: u64, first: u64) -> u64
     wheel.arm_listed(&told, first, &|x| x >> 14);
     let mut sum = 0u64;
     for _ in 0..calls {
-        let counted =
-            wheel::armed_count(wheel.nodes.as_read(), wheel.entries.as_read(), wheel.clock);
+        let counted = wheel::armed_count(
+            wheel.nodes.as_read(),
+            wheel.entries.as_read(),
+            wheel.clock,
+        );
         sum = sum.wrapping_add(counted.unwrap_or(0) as u64);
     }
     sum
