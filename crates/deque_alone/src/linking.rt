@@ -9,7 +9,7 @@ ghost use Rattle.deque.specs.Slices.{links_of, links_now, SameSlices};
 ghost use Rattle.deque_alone.specs.Slices.{records, state_now, SameDeques};
 
 use crate::lending::{Deques, DequesMut};
-use crate::unchecked::shift;
+use crate::unchecked::shift_links;
 use deque::linked::{Linked, LinkedMut};
 use deque_rules::alone::{Done, Placed, Pushed};
 use numbers::refusals::Refusal;
@@ -57,7 +57,7 @@ pub fn move_to_back(
     ensures same { SameSlices links.old links.new }
 {
     refuse_move(links.as_read(), lens, cursors, element, free, d, s)?;
-    shift(links, lens, cursors, element, free, d, s);
+    shift_links(links, lens, cursors, element, free, d, s);
     Ok(())
 }
 

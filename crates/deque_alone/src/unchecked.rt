@@ -2,7 +2,7 @@
 // caller shows that the records are sound (or tests it once).
 ghost use Rattle.std.specs.Prelude.{◌<◌, ◌≡◌, length};
 ghost use Rattle.deque_rules.specs.Change.{HeldBy};
-ghost use Rattle.deque_rules.specs.Deque.{step_off};
+ghost use Rattle.deque_rules.specs.Deque.{state, step_off};
 ghost use Rattle.deque_rules.specs.alone.Ready.{DequeReady, PushReady, NodeReady};
 ghost use Rattle.deque_rules.specs.alone.Work.{Pushes, Drops, Moves, Pops, Shifts};
 ghost use Rattle.deque.specs.Slices.{links_now, SameSlices};
@@ -10,6 +10,7 @@ ghost use Rattle.deque_alone.specs.Slices.{records, state_now, SameDeques};
 
 use crate::lending::DequesMut;
 use crate::looks::moved_on;
+use deque::change::move_to_back;
 use deque::linked::LinkedMut;
 use deque_rules::alone::Taken;
 
@@ -78,8 +79,35 @@ impl DequesMut<'_> {
     }
 }
 
-// The same on lengths and elements that are lent for reading: a move writes none.
+// The same on records of which lengths, homes and elements are lent for reading: a move writes none, and no call asks
+// more than it did.
 pub fn shift(
+    heads: &mut [usize],
+    tails: &mut [usize],
+    lens: &[usize],
+    cursors: &mut [usize],
+    next: &mut [usize],
+    prev: &mut [usize],
+    home: &[usize],
+    element: &[u64],
+    free: usize,
+    d: usize,
+    s: usize,
+)
+    requires { NodeReady (state heads.old tails.old lens.now cursors.old next.old prev.old home.now element.now) free
+        d s }
+    ensures { Moves (state heads.old tails.old lens.now cursors.old next.old prev.old home.now element.now)
+        (state heads.new tails.new lens.now cursors.new next.new prev.new home.now element.now) free d s }
+{
+    if tails[d] == s {
+        return;
+    }
+    step_off(cursors, next, d, s);
+    move_to_back(heads, tails, next, prev, home, d, s);
+}
+
+// The same on links that are lent for changing.
+pub(crate) fn shift_links(
     links: &mut LinkedMut<'_>,
     lens: &[usize],
     cursors: &mut [usize],

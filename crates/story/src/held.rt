@@ -1,4 +1,5 @@
 // The records of one wheel of 168 nodes and 2 entries, and the wheel's calls on them, each with the wheel's own promise.
+ghost use Rattle.std.specs.Prelude.{true};
 ghost use Rattle.std.proofs.Math.Option.{some};
 ghost use Rattle.face_rules.specs.Face.{scheduled_says, pulled_says};
 ghost use Rattle.rules.specs.Wheel.{create, enable, set_entry, schedule, deschedule, start, pull, abandon, armed_count, ok};
@@ -33,13 +34,19 @@ impl Held {
         ensures { Promised (create first) (held result) (held result) ok }
     {
         let made = face::create(first);
+        let heads = made.heads;
+        let tails = made.tails;
+        let nodes = [BLANK; 168];
+        let dated = [false; 2];
+        let deadline = [0; 2];
+        let stamp = [0; 2];
         Held {
-            heads: made.heads,
-            tails: made.tails,
-            nodes: [BLANK; 168],
-            dated: [false; 2],
-            deadline: [0; 2],
-            stamp: [0; 2],
+            heads,
+            tails,
+            nodes,
+            dated,
+            deadline,
+            stamp,
             clock: made.clock,
         }
     }

@@ -11,7 +11,7 @@ use mir.Syntax.{w64}
 use mir.Val.{Fits}
 use Rattle.numbers.specs.Shared.{no_slot as none}
 use Rattle.deque_rules.specs.Links.{Links, Deques as Lists, links, home_of}
-use Rattle.deque_rules.specs.Change.{Pushable, PushesBack, Held, HeldBy, Removes}
+use Rattle.deque_rules.specs.Change.{Pushable, PushesBack, Held, HeldBy, Removes, Ahead, MovesBack}
 use Rattle.deque_rules.specs.Deque.{State, state, moved_on, step_off, pushed, released, moved_back}
 use Rattle.deque_rules.specs.alone.State.{Shows}
 use Rattle.deque_rules.specs.alone.Ready.{DequeReady, PushReady, NodeReady}
@@ -89,6 +89,20 @@ module _ (h t l c n p o e : List ℕ) (free d : ℕ) where
         }
 
     -- ---- move to back
+    pub node_ahead : (get_or t d 0 ≡ s → ⊥) → Ahead (links h t n p o) d s
+    node_ahead i = record { held = record { v = y.v; loose = []; rep = y.shows.rep; slot = y.slot; deque = y.deque; homed = y.homed }; not_last = i }
+
+    pub move_stays : get_or t d 0 ≡ s → Moves (state h t l c n p o e) (state h t l c n p o e) free d s
+    move_stays i =
+        let q : a ≡ moved_back a d s = simp (eq-eqb (get_or t d 0) s i) in
+        record { is = q; does = λ v m. let u = node_same v m in rw q (moved_shows a free v m d s u.0 u.1 y.homed) }
+
+    pub move_does : (c' h' t' n' p' o' : List ℕ) → (get_or t d 0 ≡ s → ⊥) → c' ≡ step_off c n d s → MovesBack (links h t n p o) (links h' t' n' p' o') d s →
+        Moves (state h t l c n p o e) (state h' t' l c' n' p' o' e) free d s
+    move_does c' h' t' n' p' o' i j k =
+        let q : state h' t' l c' n' p' o' e ≡ moved_back a d s = simp (ne_eqb (get_or t d 0) s i) (rw j (same_links l (step_off c n d s) e k.is)) in
+        record { is = q; does = λ v m. let u = node_same v m in rw q (moved_shows a free v m d s u.0 u.1 y.homed) }
+
     pub shift_asks : HeldBy (links h t n p o) d s × (d < length c)
     shift_asks = (
       record { v = y.v; loose = []; rep = y.shows.rep; slot = y.slot; deque = y.deque; homed = y.homed },

@@ -1,9 +1,12 @@
 -- `shift` meets its contract.
-use Rattle.deque_rules.proofs.alone.Working.{shift_asks, shift_does}
+use Rattle.deque_rules.proofs.alone.Working.{move_stays, node_ahead, move_does}
 use Rattle.deque_alone.proofs.unchecked.shift.Goals as goal
 
-pub to_back-requires : goal.to_back-requires
-to_back-requires c = search shift_asks
+pub returns-then-tails-d : goal.returns-then-tails-d
+returns-then-tails-d c = search move_stays
 
-pub returns-clause-does : goal.returns-clause-does
-returns-clause-does c = search shift_does
+pub move_to_back-requires : goal.move_to_back-requires
+move_to_back-requires c = search node_ahead
+
+pub returns : goal.returns
+returns c = search move_does

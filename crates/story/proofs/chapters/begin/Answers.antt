@@ -10,8 +10,8 @@ use Rattle.story.proofs.chapters.begin.Goals as goal
 pub expect-requires : goal.expect-requires
 unfolding tick
 expect-requires c = c.is_noted.ensures.yes (says (enable 168 2 true) _ _
-    (beginning 7 (held c.create.result) _ c.create.ensures) c.enable.ensures _ refl)
+    (beginning 7 (held c.create-s.result) _ c.create-s.ensures) c.enable.ensures _ refl)
 
 pub returns : goal.returns
-returns c = on (enable 168 2 true) _ _ (beginning 7 (held c.create.result) _
-    c.create.ensures) c.enable.ensures
+returns c = on (enable 168 2 true) _ _ (beginning 7 (held c.create-s.result) _
+    c.create-s.ensures) c.enable.ensures

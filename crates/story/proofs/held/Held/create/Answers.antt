@@ -2,4 +2,4 @@
 use Rattle.story.proofs.held.Held.create.Goals as goal
 
 pub returns : goal.returns
-returns c = c.create.ensures.promised _
+returns c = c.create-made.ensures.promised _
