@@ -13,8 +13,8 @@ use crate::place::bucket_of;
 use wheel_rules::calls::{After, Clock, Handle};
 
 impl NodesMut<'_> {
-    // Arms the first free slot for the entry e, with its generation h, at the back of the bucket of its deadline. Answers
-    // its handle.
+    // Arms the first free slot for the entry e, with its generation h, at the back of the bucket of its deadline.
+    // Answers its handle.
     #[inline(always)]
     pub fn arm(&mut self, clock: Clock, e: usize, h: u32, deadline: u64) -> After<Handle>
         requires { ArmReady wheel01 (nodes_now self.old) clock }
