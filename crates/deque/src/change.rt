@@ -1,5 +1,5 @@
 // For proved code only, unchecked: push, remove, move to the back, turn until a member is last. Each takes constant
-// time.
+// time. The methods are made a part of their callers, which then hold the slices in registers.
 ghost use Rattle.std.specs.Prelude.{◌≡◌};
 ghost use Rattle.deque_rules.specs.Change.{CanPut, Puts, Linkable, LinksBack, Held, CutsOut, Pushable, PushesBack, Removes, Movable, MovesBack, HeldBy, Ahead};
 ghost use Rattle.deque_rules.specs.Change.{Turns};
@@ -11,6 +11,7 @@ use crate::free::give_back;
 use crate::linked::LinkedMut;
 
 // The slot after p in the deque d is q from now on: the head, where p is NONE. With tails and prev: the slot before p.
+#[inline(always)]
 fn put(ends: &mut [usize], next: &mut [usize], d: usize, p: usize, q: usize)
     requires { CanPut ends.old next.old d p }
     ensures { Puts ends.old next.old ends.new next.new d p q }
@@ -24,6 +25,7 @@ fn put(ends: &mut [usize], next: &mut [usize], d: usize, p: usize, q: usize)
 
 impl LinkedMut<'_> {
     // Links the loose slot s at the back of the deque d.
+    #[inline(always)]
     fn link_back(&mut self, d: usize, s: usize)
         requires { Linkable (links_now self.old) d s }
         ensures does { LinksBack (links_now self.old) (links_now self.new) d s }
@@ -38,6 +40,7 @@ impl LinkedMut<'_> {
     }
 
     // Takes the slot s out of its deque. It is loose then.
+    #[inline(always)]
     fn unlink(&mut self, s: usize)
         requires { Held (links_now self.old) s }
         ensures does { CutsOut (links_now self.old) (links_now self.new) s }
@@ -53,6 +56,7 @@ impl LinkedMut<'_> {
 
     // Takes the first free slot, free, and links it at the back of the deque d. Answers the first free slot from then
     // on.
+    #[inline(always)]
     pub fn push(&mut self, free: usize, d: usize) -> usize
         requires { Pushable (links_now self.old) free d }
         ensures does { PushesBack (links_now self.old) (links_now self.new) free d result }
@@ -64,6 +68,7 @@ impl LinkedMut<'_> {
     }
 
     // Takes the slot s out of its deque and gives it back, where free is the first free slot: s is the first one then.
+    #[inline(always)]
     pub fn remove(&mut self, free: usize, s: usize)
         requires { Held (links_now self.old) s }
         ensures does { Removes (links_now self.old) (links_now self.new) free s }
@@ -74,6 +79,7 @@ impl LinkedMut<'_> {
     }
 
     // Moves the slot s from its deque to the back of the deque d, which may be the same.
+    #[inline(always)]
     pub fn move_back(&mut self, d: usize, s: usize)
         requires { Movable (links_now self.old) d s }
         ensures does { MovesBack (links_now self.old) (links_now self.new) d s }
@@ -85,6 +91,7 @@ impl LinkedMut<'_> {
 
     // Moves the slot s, which is not last, to the back of its own deque d: what `move_back` writes, with no home read
     // or written and no choice but at the front.
+    #[inline(always)]
     pub fn move_to_back(&mut self, d: usize, s: usize)
         requires { Ahead (links_now self.old) d s }
         ensures does { MovesBack (links_now self.old) (links_now self.new) d s }
@@ -104,6 +111,7 @@ impl LinkedMut<'_> {
 
     // Turns the deque d until its member s is last: what stood after s, what stood before it, s. The records are those
     // of moving nodes from front to back one by one. No home changes.
+    #[inline(always)]
     pub fn turn(&mut self, d: usize, s: usize)
         requires { HeldBy (links_now self.old) d s }
         ensures does { Turns (links_now self.old) (links_now self.new) d s }

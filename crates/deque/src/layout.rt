@@ -7,6 +7,7 @@ use crate::NONE;
 use crate::linked::LinkedMut;
 
 // Makes every deque empty.
+#[inline(always)]
 fn empty(heads: &mut [usize], tails: &mut [usize])
     requires { length tails.old ≡ length heads.old }
     ensures { Empties heads.old heads.new tails.new }
@@ -16,6 +17,7 @@ fn empty(heads: &mut [usize], tails: &mut [usize])
 }
 
 // Makes every slot free, each followed by the one above it.
+#[inline(always)]
 fn string(next: &mut [usize], prev: &mut [usize], home: &mut [usize]) -> usize
     requires { (length prev.old ≡ length next.old) × (length home.old ≡ length next.old) }
     ensures { Strings next.old next.new prev.new home.new result }
@@ -32,6 +34,7 @@ fn string(next: &mut [usize], prev: &mut [usize], home: &mut [usize]) -> usize
 
 impl LinkedMut<'_> {
     // Makes every deque empty and every slot free, in ascending order from 0, and answers the first free slot.
+    #[inline(always)]
     pub fn lay_out(&mut self) -> usize
         requires { Sizes (links_now self.old) }
         ensures does { LaysOut (links_now self.old) (links_now self.new) result }

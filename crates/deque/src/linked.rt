@@ -25,6 +25,7 @@ pub struct LinkedMut<'a> {
 
 impl LinkedMut<'_> {
     // The same records, for reading.
+    #[inline(always)]
     pub fn as_read(&self) -> Linked<'_>
         ensures { Reads self.now result }
     {

@@ -5,6 +5,7 @@ ghost use Rattle.std.specs.Prelude.{◌<◌, length};
 ghost use Rattle.deque_rules.specs.Read.{Front, Follows};
 
 // The front of the deque d, or NONE where it is empty.
+#[inline(always)]
 pub fn front(heads: &[usize], d: usize) -> usize
     requires { d < length heads.now }
     ensures { Front heads.now d result }
@@ -13,6 +14,7 @@ pub fn front(heads: &[usize], d: usize) -> usize
 }
 
 // The slot after s in its deque, or NONE where it is last.
+#[inline(always)]
 pub fn following(next: &[usize], s: usize) -> usize
     requires { s < length next.now }
     ensures { Follows next.now s result }

@@ -10,6 +10,7 @@ use wheel_timers::place::find;
 
 // Pops the node x: freed without an event where its entry has no deadline, freed with one where that is due, else
 // placed anew.
+#[inline(always)]
 pub fn pop(nodes: &mut NodesMut<'_>, entries: &Entries<'_>, clock: Clock, x: usize) -> Turn
     requires { PopReady
         wheel01 (nodes_now nodes.old) entries.now.dated.now entries.now.deadline.now clock x }

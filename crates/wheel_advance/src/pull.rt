@@ -10,6 +10,7 @@ use wheel_rules::calls::{After, Clock, Event};
 use wheel_timers::lent::{Entries, NodesMut};
 
 // One event, or End, which closes the advance and keeps its reading.
+#[inline(always)]
 pub fn pull(nodes: &mut NodesMut<'_>, entries: &Entries<'_>, clock: Clock) -> After<Event>
     requires { TurnReady wheel01 (nodes_now nodes.old) entries.now.dated.now entries.now.deadline.now clock }
     ensures does { Pulls

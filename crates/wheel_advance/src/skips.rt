@@ -12,6 +12,7 @@ use wheel_rules::calls::Clock;
 use wheel_timers::place::visits::{bucket_at, visited};
 
 // Whether the bucket b holds its sentinel alone: that is both first and last.
+#[inline(always)]
 fn alone(linked: Linked<'_>, b: usize) -> bool
     requires { Lent linked.heads.now linked.next.now b }
     ensures { TellsAlone linked.entry.heads.now linked.entry.next.now b result }
@@ -23,6 +24,7 @@ fn alone(linked: Linked<'_>, b: usize) -> bool
 }
 
 // The step once every next bucket of the level that holds its sentinel alone has been entered.
+#[inline(always)]
 fn step_past(linked: Linked<'_>, clock: Clock) -> usize
     requires { IdleReady wheel01 linked.heads.now linked.next.now clock }
     ensures { Passes
@@ -39,6 +41,7 @@ fn step_past(linked: Linked<'_>, clock: Clock) -> usize
 }
 
 // As long as no node waits and the next bucket of the level holds its sentinel alone, the advance goes on to it.
+#[inline(always)]
 pub fn pass_over(linked: Linked<'_>, clock: Clock) -> Clock
     requires { PassReady wheel01 linked.heads.now linked.next.now }
     ensures { Passes wheel01 linked.entry.heads.now linked.entry.next.now clock result }
@@ -46,6 +49,7 @@ pub fn pass_over(linked: Linked<'_>, clock: Clock) -> Clock
     if waiting(linked.heads, clock) < linked.next.len() {
         return clock;
     }
+    // (made over the clock, by `..clock`, it was tried, and is slower)
     let mut after = clock;
     after.step = step_past(linked, clock);
     after

@@ -19,6 +19,7 @@ use wheel_timers::place::visits::bucket_at;
 
 // The first node before the sentinel of the bucket that the advance stands in, or NONE where there is none.
 // It answers a slot's number or NONE: a rule of the project, 01's forms.
+#[inline(always)]
 pub fn waiting(heads: &[usize], clock: Clock) -> usize
     requires { WaitReady wheel01 heads.now }
     ensures { Waits wheel01 heads.now clock result }
@@ -35,6 +36,7 @@ pub fn waiting(heads: &[usize], clock: Clock) -> usize
 }
 
 // Enters the next bucket, so that its sentinel is last; or ends the advance where there is none.
+#[inline(always)]
 fn go_on(linked: &mut LinkedMut<'_>, clock: Clock) -> Turn
     requires { OnReady wheel01 (links_now linked.old) clock }
     ensures does { GoesOn wheel01 (links_now linked.old) clock (links_now linked.new) result }
@@ -49,16 +51,18 @@ fn go_on(linked: &mut LinkedMut<'_>, clock: Clock) -> Turn
     };
     let b = bucket_at(to.level, clock.previous, to.step - 1);
     linked.turn(b, b);
-    let mut entered = clock;
-    entered.level = to.level;
-    entered.step = to.step;
+    // (made over the clock, by `..clock`, it was tried, and is slower)
+    let mut after = clock;
+    after.level = to.level;
+    after.step = to.step;
     Turn {
-        clock: entered,
+        clock: after,
         event: None,
     }
 }
 
 // One turn: pops the first node before the sentinel, or goes on where there is none.
+#[inline(always)]
 pub fn take_turn(nodes: &mut NodesMut<'_>, entries: &Entries<'_>, clock: Clock) -> Turn
     requires { TurnReady wheel01 (nodes_now nodes.old) entries.now.dated.now entries.now.deadline.now clock }
     ensures does { Turned

@@ -11,6 +11,7 @@ use deque::linked::LinkedMut;
 use wheel_rules::calls::Clock;
 
 // Links each sentinel alone in its bucket; the slots after the sentinels are free, in ascending order.
+#[inline(always)]
 fn seat(linked: &mut LinkedMut<'_>)
     requires { SeatReady (links_now linked.old) }
     ensures does { Seats (links_now linked.old) (links_now linked.new) }
@@ -23,9 +24,11 @@ fn seat(linked: &mut LinkedMut<'_>)
 }
 
 // The clock of a wheel just enabled.
+#[inline(always)]
 pub fn enabled(clock: Clock, total: usize, nodes: usize, entries: usize) -> Clock
     ensures { result ≡ enabled_with total nodes entries clock }
 {
+    // (made over the ended clock, by `..end(clock)`, it was tried, and is slower)
     let mut after = end(clock);
     after.enabled = true;
     after.free = total;
@@ -36,6 +39,7 @@ pub fn enabled(clock: Clock, total: usize, nodes: usize, entries: usize) -> Cloc
 
 impl EntriesMut<'_> {
     // Makes every entry one without a deadline, of generation 0.
+    #[inline(always)]
     pub fn clear(&mut self)
         requires { (length self.old.deadline.now ≡ length self.old.dated.now) ×
             (length self.old.generation.now ≡ length self.old.dated.now) }
@@ -51,6 +55,7 @@ impl EntriesMut<'_> {
 }
 
 // Sentinels placed, other slots free, no advance, each entry without a deadline.
+#[inline(always)]
 pub fn lay_out(nodes: &mut NodesMut<'_>, entries: &mut EntriesMut<'_>, clock: Clock) -> Clock
     requires { LayReady wheel01 (nodes_now nodes.old) (entries_now entries.old) }
     ensures does { Lays

@@ -23,6 +23,7 @@ pub struct NodesMut<'a> {
 }
 
 impl NodesMut<'_> {
+    #[inline(always)]
     pub fn as_read(&self) -> Nodes<'_>
         ensures { ReadsNodes self.now result }
     {
@@ -52,6 +53,7 @@ pub struct EntriesMut<'a> {
 }
 
 impl EntriesMut<'_> {
+    #[inline(always)]
     pub fn as_read(&self) -> Entries<'_>
         ensures { ReadsEntries self.now result }
     {

@@ -8,6 +8,7 @@ use crate::lent::NodesMut;
 
 impl NodesMut<'_> {
     // Writes the payload of the slot x. The links stay.
+    #[inline(always)]
     pub fn write(&mut self, x: usize, e: usize, h: u32, n: u64)
         requires { (x < length self.old.entry.now) × (x < length self.old.generation.now) × (x < length self.old.serial.now) }
         ensures does { Writes

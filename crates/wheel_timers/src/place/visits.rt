@@ -7,6 +7,7 @@ use crate::place::levels::{level_count, level_first, level_shift};
 
 // How many buckets of the level an advance from p to q visits: none where the level's tick does not move, else those
 // from p's tick to q's, at most the level's count.
+#[inline(always)]
 pub fn visited(level: usize, p: u64, q: u64) -> usize
     ensures { result ≡ visited_at wheel01 p q level }
 {
@@ -25,6 +26,7 @@ pub fn visited(level: usize, p: u64, q: u64) -> usize
 }
 
 // The bucket that an advance from p enters after `step` others of the level.
+#[inline(always)]
 pub fn bucket_at(level: usize, p: u64, step: usize) -> usize
     ensures { result ≡ bucket_at wheel01 p level step }
 {
