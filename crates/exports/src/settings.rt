@@ -10,6 +10,7 @@ use face_rules::Node;
 use wheel_rules::calls::Clock;
 
 // Sets the entry e: whether it has a deadline, which, and its generation. Refuses (1, 4, 5, 7).
+// Kept for the C interface: a flag with the deadline beside it.
 pub fn wheel_set_entry(
     nodes: &[Node],
     clock: Clock,

@@ -30,6 +30,7 @@ pub extern "C" fn juop_schedule(
 
 // Moves the timer with the handle (slot, number), armed with the generation h, or removes it. Refuses (1, 4, 5, 12,
 // 13).
+// Kept for the C interface: the handle as two numbers, here and below.
 #[unsafe(no_mangle)]
 pub extern "C" fn juop_reschedule(
     nodes: &mut [Node],
