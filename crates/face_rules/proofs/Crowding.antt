@@ -1,7 +1,7 @@
 -- Where more nodes are lent than a wheel may have, the rows give the number of specs/Crowded.antt.
 use Prim.Native.Nat.{ℕ, ◌≤◌, ◌<◌}
 use native.Mathlib.Omega.{arith}
-use mathlib.Core.Path.{◌≡◌, refl, sym, ◌∙◌}
+use mathlib.Core.Path.{◌≡◌, refl, sym, ◌∙◌, subst}
 use mathlib.Core.Logic.{inl, inr}
 use mathlib.Core.Bool.{Bool, true, false, cond, false≢true}
 use mathlib.Core.List.{List}
@@ -17,6 +17,7 @@ use Rattle.wheel_rules.proofs.calls.Deciding.{LentTo, later}
 use Rattle.wheel_rules.proofs.calls.Calling.{no}
 use Rattle.numbers.specs.Refusals.{number_of}
 use Rattle.numbers.specs.declared.refusals.Refusal.{Refusal}
+use Rattle.numbers.specs.declared.refusals.Refusal.TheVariants.{NotEnabled, NotSound}
 use Rattle.face_rules.specs.declared.Node.{Node}
 use Rattle.face_rules.specs.Face.{records_of as shown}
 use Rattle.face_rules.specs.Crowded.{crowded_number, OfOne}
@@ -57,7 +58,13 @@ module _ (h t : List ℕ) (ns : List Node) (d : List Bool) (l m : List ℕ) (c :
           inr (sym on, inl ((λ s. too_many (omega (arith, s.lengths.nodes.next_len, s.lengths.ranges.nodes_most))), i))
       go false off i = inl ((λ s. false≢true (off ∙ s)), i)
 
-  pub crowd_no : (q : Call) → OfOne q → (why : Refusal) → number_of why ≡ crowded_number c → Promised q crowd crowd (refused (number_of why))
-  crowd_no q o why e =
-      let u = stops crowd (number_of why) (λ more. numbered more (number_of why) e) q o in
-      no q crowd why u.0 u.1
+  -- what the number is, a case of the refusals has
+  cased : (b : Bool) → (why : Refusal) × (number_of why ≡ cond b 4 1)
+  cased true = (NotSound, refl)
+  cased false = (NotEnabled, refl)
+
+  pub crowd_no : (q : Call) → OfOne q → (k : ℕ) → k ≡ crowded_number c → Promised q crowd crowd (refused k)
+  crowd_no q o k e =
+      let w = cased c.enabled in
+      let u = stops crowd (number_of w.0) (λ more. numbered more (number_of w.0) w.1) q o in
+      subst (λ (n : ℕ). Promised q crowd crowd (refused n)) (w.1 ∙ sym e) (no q crowd w.0 u.0 u.1)

@@ -26,7 +26,7 @@ module _ {q : Call} {k : Columns} {n : ℕ} {c : Clock} {hs ts : List ℕ} {E : 
       record {
         meets =
             stays_stored (λ R R'. Promised q R R' (refused (number_of w))) k n hs ts E c many
-            (λ ns f. crowd_no hs ts ns E.dated E.deadline E.generation c f q o w z);
+            (λ ns f. crowd_no hs ts ns E.dated E.deadline E.generation c f q o (number_of w) z);
       }
 
   -- as the call over columns answers a, with the clock b; a' says the same, and c' is that clock
@@ -41,7 +41,7 @@ module _ {q : Call} {k : Columns} {n : ℕ} {c : Clock} {hs ts : List ℕ} {E : 
       record {
         meets =
             stays (λ R R'. Promised q R R' (refused (number_of w))) k n hs ts E c many
-            (λ ns f. crowd_no hs ts ns E.dated E.deadline E.generation c f q o w z);
+            (λ ns f. crowd_no hs ts ns E.dated E.deadline E.generation c f q o (number_of w) z);
       }
 
   pub loaded_done : {a a' : Answer} {b c' : Clock} {E' : Entries} → n ≤ 4096
