@@ -4,7 +4,7 @@ use Rattle.std.specs.Prelude.{ℕ, List, ◌≡◌}
 use Rattle.deque.specs.Slices.{links_of, links_now, SameSlices}
 use Rattle.deque_alone.specs.declared.lending.Deques.{Deques}
 use Rattle.deque_alone.specs.declared.lending.DequesMut.{DequesMut}
-use Rattle.deque_rules.specs.Deque.{State}
+use Rattle.deque_rules.specs.Deque.{State, state}
 use Rattle.deque_rules.specs.Links.{Links}
 
 -- the records, their links as one
@@ -13,11 +13,11 @@ records k l c e = record { links = k; lens = l; cursors = c; elements = e }
 
 -- the records that are lent for reading, and their cursors
 abbrev pub state_of : Deques → List ℕ → State
-state_of a cursors = records (links_of a.links) a.lens.now cursors a.element.now
+state_of a cursors = let k = a.links in state k.heads.now k.tails.now a.lens.now cursors k.next.now k.prev.now k.home.now a.element.now
 
 -- the records that are lent for changing, as they are now, and their cursors
 abbrev pub state_now : DequesMut → List ℕ → State
-state_now a cursors = records (links_now a.links) a.lens.now cursors a.element.now
+state_now a cursors = let k = a.links in state k.heads.now k.tails.now a.lens.now cursors k.next.now k.prev.now k.home.now a.element.now
 
 -- b lends the slices that a lends, so who lent them to a learns from b what they hold
 pub record SameDeques (a b : DequesMut) : Type 0 where

@@ -4,7 +4,7 @@
 
 ghost use Rattle.deque_rules.specs.Deque.{DequePromised, push_back, move_to_back};
 ghost use Rattle.deque_rules.specs.alone.Refuse.{RefusesNode};
-ghost use Rattle.numbers.specs.Refusals.{refusal_in};
+ghost use Rattle.numbers.specs.Rows.{refusal_in};
 ghost use Rattle.deque.specs.Slices.{links_of, links_now, SameSlices};
 ghost use Rattle.deque_alone.specs.Slices.{records, state_now, SameDeques};
 

@@ -1,7 +1,7 @@
 // Which refusal applies: that of the lowest number of 01 whose row holds. Each reads the records and changes nothing.
 ghost use Rattle.deque_rules.specs.alone.Refuse.{RefusesDeque, RefusesPush, RefusesNode};
 ghost use Rattle.deque_alone.specs.Slices.{state_of};
-ghost use Rattle.numbers.specs.Refusals.{refusal_in};
+ghost use Rattle.numbers.specs.Rows.{refusal_in};
 
 use crate::NONE;
 use crate::lending::Deques;

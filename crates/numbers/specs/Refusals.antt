@@ -1,5 +1,5 @@
--- The table of refusals: each case and its number; and a result's number, 0 where it is none.
-use Rattle.std.specs.Prelude.{ℕ, Result, Ok, Err}
+-- The table of refusals: each case and its number.
+use Rattle.std.specs.Prelude.{ℕ}
 use Rattle.numbers.specs.declared.refusals.Refusal.{Refusal}
 use Rattle.numbers.specs.declared.refusals.Refusal.TheVariants as why
 
@@ -39,8 +39,3 @@ number_of why.CapacityTooLarge = 15
 number_of why.NoSuchDeque = 16
 -- "slot not in this deque"
 number_of why.NotInThisDeque = 17
-
--- the number of a result's refusal, 0 where it is none
-abbrev pub refusal_in : {A : Type 0} → Result A Refusal → ℕ
-refusal_in (Ok a) = 0
-refusal_in (Err why) = number_of why

@@ -1,6 +1,6 @@
 // The sketch's public calls: refusals in order, then the unchecked work.
 ghost use Rattle.std.specs.Prelude.{◌≡◌, ◌<◌, ◌≤◌};
-ghost use Rattle.numbers.specs.Refusals.{refusal_in};
+ghost use Rattle.numbers.specs.Rows.{refusal_in};
 ghost use Rattle.sketch_rules.specs.Sketch.{standing, sample_for, unused_sketch, Ensures, Estimates, Increases};
 
 use crate::sound::is_sound;

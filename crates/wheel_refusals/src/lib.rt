@@ -4,7 +4,7 @@
 // No `requires`.
 #![tactic(auto)]
 
-ghost use Rattle.numbers.specs.Refusals.{refusal_in};
+ghost use Rattle.numbers.specs.Rows.{refusal_in};
 ghost use Rattle.wheel_rules.specs.Lent.{records};
 ghost use Rattle.wheel_rules.specs.refusals.Refuse.{IsLast, RefusesEnable, RefusesAround, RefusesCount, RefusesClosed, RefusesOpen, RefusesSet, RefusesSchedule};
 ghost use Rattle.wheel_rules.specs.refusals.Refuse.{RefusesHandle};

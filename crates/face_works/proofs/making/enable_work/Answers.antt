@@ -1,7 +1,7 @@
 -- `enable_work` meets its promise.
 use Rattle.std.proofs.Common.{ap}
 use Rattle.face_rules.proofs.Enabling.{enable_refused, enable_done}
-use Rattle.numbers.specs.Refusals.{refusal_in}
+use Rattle.numbers.specs.Rows.{refusal_in}
 use Rattle.face_works.proofs.making.enable_work.Goals as goal
 
 pub returns-in-Ok-clause-does : goal.returns-in-Ok-clause-does
