@@ -7,7 +7,7 @@ ghost use Rattle.deque_rules.specs.Links.{links};
 ghost use Rattle.deque.specs.Slices.{links_now, SameSlices};
 
 use crate::NONE;
-use crate::free::give_back;
+use crate::free::{give_back, take};
 use crate::linked::LinkedMut;
 
 // The slot after p in the deque d is q from now on: the head, where p is NONE. With tails and prev: the slot before p.
@@ -62,7 +62,7 @@ impl LinkedMut<'_> {
         ensures does { PushesBack (links_now self.old) (links_now self.new) free d result }
         ensures same { SameSlices self.old self.new }
     {
-        let rest = self.next[free];
+        let rest = take(self.as_read().next, free);
         self.link_back(d, free);
         rest
     }

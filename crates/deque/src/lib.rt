@@ -5,7 +5,7 @@
 #![tactic(auto)]
 
 pub mod change; // push, remove, move to the back, turn until a member is last
-mod free; // give a slot back
+mod free; // take a free slot, give one back
 pub mod linked; // the records lent together, for reading and for changing
 pub mod layout; // all deques empty, all slots free
 pub mod read; // the front of a deque, the slot after a slot

@@ -7,6 +7,7 @@
 
 pub mod asking; // look front, look back, length, next by cursor, reset cursor
 pub mod freeing; // pop front, unlink and drop
+pub mod layout; // lengths, cursors and elements at making
 pub mod lending; // the lent records but the cursors, as one value
 pub mod linking; // push back, move to back
 pub mod looks; // front, back and the cursor, on sound records

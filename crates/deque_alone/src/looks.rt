@@ -11,6 +11,7 @@ use crate::{NONE, PAST_END};
 use deque_rules::alone::Node;
 
 // Where the cursor goes from the node s: to the node after it, or past the end.
+#[inline(always)]
 pub fn moved_on(next: &[usize], s: usize) -> usize
     requires { s < length next.now }
     ensures { result ≡ moved_on next.now s }

@@ -3,7 +3,7 @@ ghost use Rattle.std.specs.Prelude.{ℕ};
 ghost use Rattle.deque_rules.specs.Deque.{DequePromised, make};
 ghost use Rattle.deque_alone.specs.Slices.{state_now, SameDeques};
 
-use crate::NONE;
+use crate::layout::{clear, zero};
 use crate::lending::DequesMut;
 use deque_rules::alone::Made;
 use numbers::refusals::Refusal;
@@ -19,9 +19,8 @@ impl DequesMut<'_> {
         if !self.as_read().lent(cursors) {
             return Err(Refusal::LengthsOutOfRange);
         }
-        self.lens.fill(0);
-        cursors.fill(NONE);
-        self.element.fill(0);
+        clear(self.lens, cursors);
+        zero(self.element);
         Ok(self.links.lay_out())
     }
 }

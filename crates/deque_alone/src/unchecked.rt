@@ -1,6 +1,6 @@
 // For proved code only, unchecked: the work of the calls that link and unlink nodes, on records known to be sound. A
 // caller shows that the records are sound (or tests it once).
-ghost use Rattle.std.specs.Prelude.{ℕ, ◌<◌, ◌≡◌, List, length, get_or};
+ghost use Rattle.std.specs.Prelude.{◌<◌, ◌≡◌, length};
 ghost use Rattle.deque_rules.specs.Change.{HeldBy};
 ghost use Rattle.deque_rules.specs.Deque.{state, step_off};
 ghost use Rattle.deque_rules.specs.alone.Ready.{DequeReady, PushReady, NodeReady};
@@ -9,18 +9,19 @@ ghost use Rattle.deque.specs.Slices.{links_now, SameSlices};
 ghost use Rattle.deque_alone.specs.Slices.{records, state_now, SameDeques};
 
 use crate::lending::DequesMut;
-use crate::{NONE, PAST_END};
+use crate::looks::moved_on;
 use deque::change::move_to_back;
 use deque::linked::LinkedMut;
 use deque_rules::alone::Taken;
 
-// Moves the cursor of the deque d on if it stands at s, which q follows.
-fn step_off(cursors: &mut [usize], d: usize, s: usize, q: usize)
-    requires { d < length cursors.old }
-    ensures { (next : List ℕ) → get_or next s 0 ≡ q → cursors.new ≡ step_off cursors.old next d s }
+// Moves the cursor of the deque d on if it stands at s.
+#[inline(always)]
+fn step_off(cursors: &mut [usize], next: &[usize], d: usize, s: usize)
+    requires { (d < length cursors.old) × (s < length next.now) }
+    ensures { cursors.new ≡ step_off cursors.old next.now d s }
 {
     if cursors[d] == s {
-        cursors[d] = if q == NONE { PAST_END } else { q };
+        cursors[d] = moved_on(next, s);
     }
 }
 
@@ -45,7 +46,7 @@ impl DequesMut<'_> {
     {
         let element = self.element[s];
         self.lens[d] -= 1;
-        step_off(cursors, d, s, self.links.next[s]);
+        step_off(cursors, self.links.as_read().next, d, s);
         self.links.remove(free, s);
         self.element[s] = 0;
         element
@@ -102,7 +103,7 @@ pub fn shift(
     if tails[d] == s {
         return;
     }
-    step_off(cursors, d, s, next[s]);
+    step_off(cursors, next, d, s);
     move_to_back(heads, tails, next, prev, home, d, s);
 }
 
@@ -133,6 +134,6 @@ fn to_back(links: &mut LinkedMut<'_>, cursors: &mut [usize], d: usize, s: usize)
     if links.tails[d] == s {
         return;
     }
-    step_off(cursors, d, s, links.next[s]);
+    step_off(cursors, links.as_read().next, d, s);
     links.move_to_back(d, s);
 }

@@ -8,6 +8,7 @@ pub mod Meeting
 pub mod Relinking
 pub mod Working
 pub mod Calling
+pub mod Rows
 pub mod Coincide
 pub mod Laws
 pub mod Cursor

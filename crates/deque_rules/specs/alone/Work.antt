@@ -1,6 +1,6 @@
 -- inner: what the unchecked functions do: the equation on the records, what is told, and the law on the lists that they
 -- stand for.
-use Rattle.std.specs.Prelude.{ℕ, ◌<◌, ◌≤◌, List, [], ◌∷◌, ◌++◌, ◌≡◌, length, get_or, Ok, Option, Some, None}
+use Rattle.std.specs.Prelude.{ℕ, ◌<◌, ◌≤◌, List, [], ◌∷◌, ◌++◌, ◌≡◌, length, get_or, replicate, Ok, Option, Some, None}
 use Rattle.deque_rules.specs.Deque.{State, front_of, back_of, stepped, next_of, element_of, pushed, released, moved_back, step_off, popped, looked_told, look_told}
 use Rattle.deque_rules.specs.Deque.{next_told, popped_told, pop_told}
 use Rattle.deque_rules.specs.Links.{Links, Deques, deq, move_back}
@@ -9,6 +9,7 @@ use Rattle.deque_rules.specs.alone.State.{Shows}
 use Rattle.deque_rules.specs.declared.alone.Node.{Node}
 use Rattle.deque_rules.specs.declared.alone.Taken.{Taken}
 use Rattle.numbers.specs.Lists.{remove}
+use Rattle.numbers.specs.Shared.{no_slot}
 
 -- the node x with its element, if it is one
 pub record ReadsNode (elements : List ℕ) (x : ℕ) (r : Option Node) : Type 0 where
@@ -24,6 +25,11 @@ pub record LooksBack (a : State) (d : ℕ) (r : Option Node) : Type 0 where
 pub record Steps (a b : State) (d : ℕ) (r : Option Node) : Type 0 where
   pub is : b ≡ stepped a d
   pub told : looked_told (Ok r) ≡ next_told a d
+
+-- every recorded length 0 and every cursor at none
+pub record Clears (lens₀ lens cursors : List ℕ) : Type 0 where
+  pub lens_is : lens ≡ replicate (length lens₀) 0
+  pub cursors_is : cursors ≡ replicate (length lens₀) no_slot
 
 -- ---- on the lists
 -- s goes to the back of its deque d

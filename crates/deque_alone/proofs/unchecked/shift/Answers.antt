@@ -1,5 +1,4 @@
 -- `shift` meets its contract.
-use Rattle.std.proofs.Common.{refl}
 use Rattle.deque_rules.proofs.alone.Working.{move_stays, node_ahead, move_does}
 use Rattle.deque_alone.proofs.unchecked.shift.Goals as goal
 
@@ -10,4 +9,4 @@ pub move_to_back-requires : goal.move_to_back-requires
 move_to_back-requires c = search node_ahead
 
 pub returns : goal.returns
-returns c = let moved = c.step_off.ensures c.args.next.now refl in search move_does
+returns c = search move_does

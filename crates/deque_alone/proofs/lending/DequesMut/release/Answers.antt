@@ -1,7 +1,6 @@
 -- `release` meets its contract.
-use Rattle.std.proofs.Common.{refl}
 use Rattle.deque_rules.proofs.alone.Working.{release_does}
 use Rattle.deque_alone.proofs.lending.DequesMut.release.Goals as goal
 
 pub returns-clause-does : goal.returns-clause-does
-returns-clause-does c = let moved = c.step_off.ensures c.args.self.now.links.next.now refl in search release_does
+returns-clause-does c = let moved = rw c.as_read.ensures.next at c.step_off.ensures in search release_does
