@@ -9,9 +9,8 @@ use lib.Seq.{length-take-le, take_at}
 use Rattle.wheel_rules.specs.declared.calls.Clock.{Clock}
 use Rattle.wheel_rules.specs.Lent.{Entries, Records, records}
 use Rattle.face_rules.specs.declared.Node.{Node}
-use Rattle.face_rules.specs.nodes.Columns.{Columns, columns, columns_of, front, Loads, Stores}
+use Rattle.face_rules.specs.nodes.Columns.{Columns, columns, columns_of, front, Holds, Loads, Stores}
 use Rattle.face_rules.specs.Works.{lent_with as shown, slots, OfLoaded, OfStored}
-use Rattle.face_rules.proofs.nodes.Using.{Holds}
 
 -- the records that columns are, with heads and tails, the entries and the clock beside them
 abbrev pub held : List ℕ → List ℕ → Columns → Entries → Clock → Records

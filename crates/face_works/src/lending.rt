@@ -1,5 +1,5 @@
-// The first n of each column, lent as the slots of a wheel with the heads and tails of its buckets. No `requires` but
-// that so many fit.
+// The first n of each column, lent as the slots of a wheel with the heads and tails of its buckets. For proved code
+// only, unchecked: n is at most 4,096.
 ghost use Rattle.std.specs.Prelude.{◌≡◌, ◌≤◌};
 ghost use Rattle.face_rules.specs.Works.{slots};
 ghost use Rattle.face_rules.specs.nodes.Columns.{front};

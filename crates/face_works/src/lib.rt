@@ -1,6 +1,6 @@
 // The work of the wheel's calls over lent nodes, behind the functions that lend them. The fields of n lent nodes come
 // as the first n numbers of the columns; to enable's, which reads none, comes n alone. Where more than 4,096 are lent
-// the columns say nothing of them, and the call is refused. No `requires`.
+// the columns say nothing of them, and the call is refused. No `requires` but in lending, which is unchecked.
 #![tactic(auto)]
 
 pub mod advancing; // start, abandon

@@ -1,4 +1,5 @@
-// One field of a block of nodes, read into its part of a column, so that a column is written as one stream.
+// One field of a block of nodes, read into its part of a column, so that a column is written as one stream. For load
+// alone, unchecked.
 ghost use Rattle.std.specs.Prelude.{◌≡◌, length, map};
 ghost use Rattle.std.specs.Fn.{FnReturnsAt};
 ghost use Rattle.face_rules.specs.declared.Node.{Node};

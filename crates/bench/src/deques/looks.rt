@@ -5,6 +5,7 @@ ghost use Rattle.std.specs.Prelude.{◌≤◌};
 use crate::deques::records::laid;
 
 // So many steps of the cursor: the sum of the elements that they gave.
+#[inline(never)]
 pub fn walk(n: usize, calls: u64, x: u64) -> u64
     requires { n ≤ 4096 }
 {
@@ -24,6 +25,7 @@ pub fn walk(n: usize, calls: u64, x: u64) -> u64
 }
 
 // So many checked lengths: their sum.
+#[inline(never)]
 pub fn check(n: usize, calls: u64, x: u64) -> u64
     requires { n ≤ 4096 }
 {

@@ -12,6 +12,7 @@ use deque_alone::DequesMut;
 
 // So many times a push, with a pop of the front after it, on a deque that has `count` nodes at first: the sum of what
 // was popped, and the digest of what is left.
+#[inline(never)]
 pub fn queue(n: usize, count: usize, calls: u64, first: u64) -> u64
     requires { n ≤ 4096 }
 {
@@ -53,6 +54,7 @@ pub fn queue(n: usize, count: usize, calls: u64, first: u64) -> u64
 }
 
 // So many moves to the back at random, on a deque that has every node: the digest.
+#[inline(never)]
 pub fn moves(n: usize, calls: u64, first: u64) -> u64
     requires { n ≤ 4096 }
 {
@@ -92,6 +94,7 @@ pub fn moves(n: usize, calls: u64, first: u64) -> u64
 }
 
 // So many nodes unlinked at random, each with a push after it, on a deque that has every node: the digest.
+#[inline(never)]
 pub fn unlinking(n: usize, calls: u64, first: u64) -> u64
     requires { n ≤ 4096 }
 {

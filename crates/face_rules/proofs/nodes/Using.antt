@@ -6,17 +6,8 @@ use mathlib.Core.List.{List, map}
 use native.Mathlib.Omega.{arith}
 use lib.ListN.{length, get_or, take}
 use Rattle.face_rules.specs.declared.Node.{Node}
-use Rattle.face_rules.specs.nodes.Columns.{Columns, columns, columns_of, front}
+use Rattle.face_rules.specs.nodes.Columns.{Columns, columns, columns_of, front, Holds}
 use Rattle.face_rules.proofs.nodes.Fills.{fills, fills_field}
-
--- there are m or more in each column
-pub record Holds (m : ℕ) (c : Columns) : Type 0 where
-  pub next_has : m ≤ length c.next
-  pub prev_has : m ≤ length c.prev
-  pub bucket_has : m ≤ length c.bucket
-  pub entry_has : m ≤ length c.entry
-  pub generation_has : m ≤ length c.generation
-  pub serial_has : m ≤ length c.serial
 
 -- a node of zeros, which stands past the end of a list
 abbrev pub blank : Node

@@ -23,6 +23,15 @@ columns_of ns = columns (next_slots ns) (prev_slots ns) (bucket_numbers ns) (ent
 abbrev pub front : ℕ → Columns → Columns
 front n c = columns (take n c.next) (take n c.prev) (take n c.bucket) (take n c.entry) (take n c.generation) (take n c.serial)
 
+-- there are m or more in each
+pub record Holds (m : ℕ) (c : Columns) : Type 0 where
+  pub next_has : m ≤ length c.next
+  pub prev_has : m ≤ length c.prev
+  pub bucket_has : m ≤ length c.bucket
+  pub entry_has : m ≤ length c.entry
+  pub generation_has : m ≤ length c.generation
+  pub serial_has : m ≤ length c.serial
+
 -- the columns begin with the fields of the lent nodes, where they fit; what lies after them is not asked
 pub record Loads (ns : List Node) (c : Columns) : Type 0 where
   pub is : length ns ≤ 4096 → front (length ns) c ≡ columns_of ns

@@ -1,9 +1,8 @@
 -- The columns so far: they begin with the fields of the nodes before `from`; the nodes from there on are left.
 use Rattle.std.proofs.Common.{◌≡◌, ◌≤◌, drop, length, take}
 use Rattle.std.specs.Slice.Iter.{chunks_rest, chunks_size}
-use Rattle.face_rules.specs.nodes.Columns.{columns_of, front}
-use Rattle.nodes.specs.Held.{held}
-use Rattle.nodes.proofs.Columns.load.Given as goal
+use Rattle.face_rules.specs.nodes.Columns.{columns, columns_of, front}
+use Rattle.nodes.proofs.load.Given as goal
 
 abbrev pub ghost-read : goal.ghost-read
 ghost-read a = λ v. v.next
@@ -28,5 +27,5 @@ invariant-loop-block l = record {
   within : l.from ≤ length l.nodes;
   size : chunks_size l.block-iterator ≡ 256;
   left : chunks_rest l.block-iterator ≡ drop l.from l.nodes;
-  read : front l.from (held l.self) ≡ columns_of (take l.from l.nodes);
+  read : front l.from (columns l.next l.prev l.bucket l.entry l.generation l.serial) ≡ columns_of (take l.from l.nodes);
 }
