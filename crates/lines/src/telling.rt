@@ -45,9 +45,7 @@ impl Answers {
                 self.append(rt, b"\n");
             }
         }
-        if input.is_all_taken() {
-            self.flush(rt);
-        }
+        self.settle(rt, input);
     }
 
     // A space before each of so many numbers, or before the dash for none.

@@ -19,9 +19,7 @@ pub fn session(
         Answer::Done.say(rt, answers);
     }
     for _ in 0..u64::MAX {
-        if input.is_all_taken() {
-            answers.flush(rt);
-        }
+        answers.settle(rt, input);
         input.advance(rt);
         let line = input.line()?;
         let request = match kind_of(line) {
