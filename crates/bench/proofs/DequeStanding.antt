@@ -1,11 +1,10 @@
 -- The records stay those of one deque: what each call of the workloads asks, and what it leaves.
-use Rattle.std.proofs.Common.{◌≡◌, ℕ, ◌<◌, ◌≤◌, Bool, true, List, [], ◌∷◌, ◌++◌, length, sym, refl, ◌∙◌, subst, inl, ⊎_elim, arith}
+use Rattle.std.proofs.Common.{◌≡◌, ℕ, ◌<◌, ◌≤◌, true, List, [], ◌∷◌, ◌++◌, length, sym, refl, ◌∙◌, subst, inl, ⊎_elim, arith}
 use Rattle.std.specs.Prelude.{Option}
 use Rattle.deque_rules.specs.Links.{first, home_of, deq}
 use Rattle.numbers.specs.Shared.{no_slot as none, In}
 use Rattle.deque_rules.specs.Lists.{take_out, freed, taken, push_back}
 use Rattle.deque_rules.specs.Deque.{State, node_count as nodes, front_of}
-use Rattle.deque_rules.specs.alone.State.{Shows}
 use Rattle.deque_rules.specs.alone.Sound.{Judged}
 use Rattle.deque_rules.specs.alone.Ready.{DequeReady, PushReady, NodeReady}
 use Rattle.deque_rules.specs.alone.Work.{Steps, Pushes, Drops, Moves}
