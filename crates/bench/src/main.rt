@@ -21,9 +21,7 @@ fn main(rt: HostRuntime) {
             break;
         };
         answer(&rt, &mut answers, line);
-        if input.is_all_taken() {
-            answers.flush(&rt);
-        }
+        answers.settle(&rt, &input);
     }
     answers.flush(&rt);
 }

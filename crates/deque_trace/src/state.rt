@@ -48,8 +48,8 @@ impl State {
     {
         Plan {
             call,
-            deques: self.deques.min(MOST_DEQUES),
-            nodes: self.nodes.min(MOST_NODES),
+            deques: lines::within(self.deques, MOST_DEQUES),
+            nodes: lines::within(self.nodes, MOST_NODES),
         }
     }
 }

@@ -1,6 +1,6 @@
 -- The parts of a line by the words of the library: what `before`, `after`, `skipped`, `count_of` and `alike` are; and
 -- one byte more of a scan.
-use Rattle.std.proofs.Common.{◌≡◌, ℕ, suc, ◌+◌, ◌-◌, ◌<◌, ◌≤◌, Bool, true, false, cond, not, ◌&&◌, eqb, Some, None, List, [], ◌∷◌}
+use Rattle.std.proofs.Common.{◌≡◌, ℕ, zero, suc, ◌+◌, ◌-◌, ◌<◌, ◌≤◌, Bool, true, false, cond, not, ◌&&◌, eqb, Some, None, List, [], ◌∷◌}
 use Rattle.std.proofs.Common.{length, take, drop, get_or, refl, sym, ap, ◌∙◌, subst, arith, add-one, drop-cons, eq-eqb, ne_eqb, ltb-false}
 use lib.ListN.{drop_of_length-le}
 use lib.Seq.{take_all}
@@ -74,6 +74,17 @@ no_cut l e =
     (sym (take_all _ l n) ∙ front l, sym (drop_of_length-le l (omega arith)) ∙ back l)
 
 -- ---- skipped
+
+skipped_none : (k : ℕ) → skipped k [] ≡ []
+unfolding skipped after
+skipped_none zero = refl
+skipped_none (suc k) = skipped_none k
+
+-- where nothing is left, every part that follows is empty
+pub none_left : (k : ℕ) (l : List ℕ) → length l ≡ 0 → l ≡ before space (skipped k l)
+unfolding before
+none_left k [] h = ap (before space) (sym (skipped_none k))
+none_left k (x ∷ l) h = absurd (omega arith)
 
 pub skipped_on : (k i : ℕ) (l : List ℕ) → i < k → skipped (k - i) l ≡ skipped (k - (i + 1)) (after space l)
 unfolding skipped

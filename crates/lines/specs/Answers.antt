@@ -1,5 +1,6 @@
 -- inner to the programs: a buffer in which answers wait: what `append` and `append_decimal` promise.
-use Rattle.std.specs.Prelude.{ℕ, ◌+◌, ◌≤◌, ◌<◌, ◌≡◌, cond, List, [], ◌∷◌, length, leb}
+use Rattle.std.specs.Prelude.{ℕ, ◌+◌, ◌≤◌, ◌<◌, ◌≡◌, cond, List, [], ◌∷◌, length, leb, ltb}
+use Rattle.lines.specs.declared.collecting.Lines.{Lines}
 use Rattle.std.proofs.Math.Seq.{paste}
 use Rattle.lines.specs.Parts.{space}
 use Rattle.io.specs.Digits.{last_digits, IsDigitCount}
@@ -8,6 +9,10 @@ use Rattle.io.specs.Digits.{last_digits, IsDigitCount}
 -- are written out first
 abbrev pub place_of : ℕ → ℕ → ℕ → ℕ
 place_of at n most = cond (leb (at + n) most) at 0
+
+-- how many bytes wait where the answers are written out unless more of the block is to be answered
+abbrev pub settled : ℕ → Lines → ℕ
+settled at s = cond (ltb s.from s.upto) at 0
 
 -- `text` was put after the `at` bytes that waited in `out`, which is `buffer` now, and r bytes wait.
 pub record Appended (out : List ℕ) (at : ℕ) (text : List ℕ) (buffer : List ℕ) (r : ℕ) : Type 0 where

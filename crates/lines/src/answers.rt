@@ -1,8 +1,9 @@
 // Answers: bytes and numbers that wait in a buffer until they are written to standard output.
 ghost use Rattle.std.specs.Prelude.{◌≡◌, ◌+◌, ◌≤◌, length};
 ghost use Rattle.std.proofs.Math.Seq.{paste};
-ghost use Rattle.lines.specs.Answers.{Appended, AppendedNumber, AppendedField, place_of};
+ghost use Rattle.lines.specs.Answers.{Appended, AppendedNumber, AppendedField, place_of, settled};
 
+use crate::collecting::Lines;
 use crate::parts::first;
 
 // The bytes that wait are the first of the buffer. (A fixed array: a rule of the project, no heap.)
@@ -25,9 +26,20 @@ impl Answers {
 
     // Writes what waits to standard output: then none waits. Where it cannot be written it is lost.
     pub fn flush(&mut self, rt: &impl Print)
-        ensures { self.new.waiting ≡ 0 }
+        ensures none_waits { self.new.waiting ≡ 0 }
+        ensures same { self.new.out ≡ self.old.out }
     {
         self.waiting = write_out(rt, &self.out, self.waiting);
+    }
+
+    // Writes out what waits where all that was read is taken, so that nothing waits while more is read.
+    pub fn settle(&mut self, rt: &impl Print, input: &Lines)
+        ensures waits { self.new.waiting ≡ settled self.old.waiting input.now }
+        ensures same { self.new.out ≡ self.old.out }
+    {
+        if input.is_all_taken() {
+            self.flush(rt);
+        }
     }
 
     // Puts text after what waits. Where there is no room for it that is written out first, and where it is longer than

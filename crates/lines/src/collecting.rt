@@ -24,7 +24,7 @@ pub struct Collected {
 // Standard input as lines: a block of it, of which the bytes from `from` to `upto` are yet to be taken, and the line
 // found last, as much of it as there is room for: so many bytes, and none where there was no line. (Fixed arrays: a
 // rule of the project, no heap.)
-#[derive(Drop)]
+#[derive(Clone, Copy)]
 pub struct Lines {
     pub block: [u8; 65536],
     pub from: usize,

@@ -15,7 +15,7 @@ pub fn digest_start() -> u64
 pub fn digest_step(h: u64, x: u64) -> u64
     ensures { result ≡ mixed h x }
 {
-    (h ^ x).wrapping_mul(PRIME)
+    numbers::wrapping_mul(h ^ x, PRIME)
 }
 
 // The digest h with all of the words after it.

@@ -27,4 +27,4 @@ pub use crate::lending::within;
 pub use crate::parts::{count, first, is_part, part};
 pub use crate::reading::{Number, number_at};
 pub use crate::rows::{NONE, PAST_END, Value, digest_row};
-pub use crate::telling::{BAD_LINE, NO_LINE, tell, tell_none};
+pub use crate::telling::{BAD_LINE, NO_LINE, SHOWN, tell, tell_none};

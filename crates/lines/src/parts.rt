@@ -24,6 +24,9 @@ pub fn part(line: &[u8], k: usize) -> &[u8]
 {
     let mut rest = line;
     for _ in 0..k {
+        if rest.is_empty() {
+            return rest;
+        }
         rest = cut(rest).1;
     }
     cut(rest).0

@@ -7,9 +7,11 @@ use crate::collecting::Lines;
 use crate::parts::part;
 
 // What is told is the place of its first word in the program's table, how many numbers follow, these, and one number
-// that only the program reads. Two are no words of a table: no line, or one that waits among the answers already, and a
-// line that is no call.
+// that only the program reads. Three are no words of a table: no line, a line that waits among the answers already, and
+// a line that is no call.
 pub const NO_LINE: u64 = 97;
+
+pub const SHOWN: u64 = 98;
 
 pub const BAD_LINE: u64 = 99;
 
@@ -37,7 +39,7 @@ impl Answers {
         ensures { all_taken input.now ≡ true → self.new.waiting ≡ 0 }
     {
         match told[0] {
-            NO_LINE => {}
+            NO_LINE | SHOWN => {}
             BAD_LINE => self.append(rt, b"bad line\n"),
             word => {
                 self.append(rt, part(words, word as usize));
@@ -45,9 +47,7 @@ impl Answers {
                 self.append(rt, b"\n");
             }
         }
-        if input.is_all_taken() {
-            self.flush(rt);
-        }
+        self.settle(rt, input);
     }
 
     // A space before each of so many numbers, or before the dash for none.

@@ -20,7 +20,7 @@ pub fn word_at(hash: u64, depth: u64, words: u64) -> u64
     ensures { Places hash depth words result }
 {
     let seed = SEEDS[depth as usize];
-    let x = hash.wrapping_add(seed).wrapping_mul(seed);
+    let x = numbers::wrapping_mul(hash.wrapping_add(seed), seed);
     x.wrapping_add(x >> 32) & (words - 1)
 }
 

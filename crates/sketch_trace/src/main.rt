@@ -26,7 +26,7 @@ fn main(rt: HostRuntime) {
         if let Request::Lend(words) = request {
             lent = Some(words);
         }
-        let words = lent.unwrap_or(0).min(65536);
+        let words = lines::within(lent.unwrap_or(0), 65536);
         let answer = perform(&mut table[..words], &mut record, request);
         say(&rt, &mut answers, answer, &input);
     }

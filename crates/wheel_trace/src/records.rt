@@ -104,7 +104,7 @@ impl Records {
 
 // The first n places of the column, all of them where it has fewer.
 fn first<T>(column: &mut [T], n: usize) -> &mut [T] {
-    let end = n.min(column.len());
+    let end = lines::within(n, column.len());
     &mut column[..end]
 }
 

@@ -16,12 +16,10 @@ pub fn session(
     let mut records = Records::new();
     let mut wheel = records.lend(lend.unwrap_or(Lend::NOTHING));
     if lend.is_some() {
-        Answer::Done.say(rt, answers);
+        Answer::Done.say(rt, answers, input);
     }
     for _ in 0..u64::MAX {
-        if input.is_all_taken() {
-            answers.flush(rt);
-        }
+        answers.settle(rt, input);
         input.advance(rt);
         let line = input.line()?;
         let request = match kind_of(line) {
@@ -41,7 +39,7 @@ pub fn session(
             Some(Request::Poke(poke)) => wheel.poke(poke),
             None => Answer::BadLine,
         };
-        answer.say(rt, answers);
+        answer.say(rt, answers, input);
     }
     None
 }

@@ -7,4 +7,4 @@ pub overflow_sub-result : goal.overflow_sub-result
 overflow_sub-result c = power_least 16 _ c.requires.words_value
 
 pub returns : goal.returns
-returns c = placed _ _ _ _ _ _ _ refl refl refl refl c.requires.words_value
+returns c = placed _ _ _ _ _ _ _ refl refl c.wrapping_mul-x.ensures refl c.requires.words_value
