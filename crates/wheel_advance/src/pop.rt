@@ -4,7 +4,7 @@ ghost use Rattle.wheel_rules.specs.popping.Pop.{PopReady, Pops};
 ghost use Rattle.wheel_timers.specs.Slices.{nodes_now, SameNodes};
 
 use wheel_rules::calls::{Clock, Event};
-use wheel_rules::popping::Turn;
+pub use wheel_rules::popping::Turn;
 use wheel_timers::lent::{Entries, NodesMut};
 use wheel_timers::place::find;
 

@@ -165,16 +165,26 @@ pub fn around_refusal(
 pub fn enable_refusal(nodes: Nodes<'_>, entries: Entries<'_>, clock: Clock) -> Result<(), Refusal>
     ensures { RefusesEnable (records (nodes_of nodes.entry) (entries_of entries.entry) clock) (refusal_in result) }
 {
+    let links = nodes.linked;
     around_refusal(
         clock.enabled,
-        nodes.linked.heads.len(),
-        nodes.linked.tails.len(),
-        nodes.linked.next.len(),
+        links.heads.len(),
+        links.tails.len(),
+        links.next.len(),
         entries.dated.len(),
         entries.deadline.len(),
         entries.generation.len(),
     )?;
-    if !nodes_lent(nodes, nodes.linked.next.len()) {
+    let fits = nodes_lent(
+        links.next.len(),
+        links.next.len(),
+        links.prev.len(),
+        links.home.len(),
+        nodes.entry.len(),
+        nodes.generation.len(),
+        nodes.serial.len(),
+    );
+    if !fits {
         return Err(Refusal::LengthsOutOfRange);
     }
     Ok(())

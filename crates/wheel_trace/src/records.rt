@@ -43,14 +43,11 @@ pub struct Wheel<'a> {
 }
 
 impl Records {
-    // No slot in any bucket, all else 0.
+    // All 0, so that they are zeroed where the caller keeps them, and nothing is copied there.
     pub fn new() -> Records {
-        let made = wheel::create(0);
-        let heads = made.heads;
-        let tails = made.tails;
         Records {
-            heads,
-            tails,
+            heads: [0; 165],
+            tails: [0; 165],
             next: [0; 4100],
             prev: [0; 4100],
             bucket: [0; 4100],
@@ -63,7 +60,7 @@ impl Records {
         }
     }
 
-    // The wheel on the first of them.
+    // The wheel on the first of them, with no slot in any bucket.
     pub fn lend(&mut self, lend: Lend) -> Wheel<'_> {
         let Lend { nodes, entries } = lend;
         let Records {
@@ -79,6 +76,9 @@ impl Records {
             deadline,
             stamp,
         } = self;
+        let made = wheel::create(0);
+        heads.copy_from_slice(&made.heads);
+        tails.copy_from_slice(&made.tails);
         Wheel {
             nodes: NodesMut {
                 linked: LinkedMut {
@@ -97,7 +97,7 @@ impl Records {
                 deadline: first(deadline, entries),
                 generation: first(stamp, entries),
             },
-            clock: wheel::create(0).clock,
+            clock: made.clock,
         }
     }
 }

@@ -1,5 +1,4 @@
 // Whether the lent lengths are those at enabling, and these in their ranges. No `requires`.
-ghost use Rattle.std.specs.Prelude.{length};
 ghost use Rattle.wheel_rules.specs.Lent.{Decides, records, Ranges, EndsLengths, NodesLengths, EntriesLengths, Lengths};
 ghost use Rattle.wheel_timers.specs.Slices.{nodes_of, entries_of};
 
@@ -23,19 +22,24 @@ pub fn ends_lent(total: usize, heads: usize, tails: usize) -> bool
     heads == total && tails == total
 }
 
-// The slices of the node records, of which there are `count`.
-pub fn nodes_lent(nodes: Nodes<'_>, count: usize) -> bool
-    ensures { let N = nodes_of nodes.entry in Decides
-        (NodesLengths count (length N.links.next) (length N.links.prev) (length N.links.home) (length N.entry)
-        (length N.generation) (length N.serial))
-        result }
+// The slices of the node records.
+pub fn nodes_lent(
+    nodes: usize,
+    next: usize,
+    prev: usize,
+    bucket: usize,
+    entry: usize,
+    generation: usize,
+    serial: usize,
+) -> bool
+    ensures { Decides (NodesLengths nodes next prev bucket entry generation serial) result }
 {
-    nodes.linked.next.len() == count
-        && nodes.linked.prev.len() == count
-        && nodes.linked.home.len() == count
-        && nodes.entry.len() == count
-        && nodes.generation.len() == count
-        && nodes.serial.len() == count
+    next == nodes
+        && prev == nodes
+        && bucket == nodes
+        && entry == nodes
+        && generation == nodes
+        && serial == nodes
 }
 
 // The slices of the entries.
@@ -49,9 +53,18 @@ pub fn entries_lent(entries: usize, dated: usize, deadline: usize, generation: u
 pub fn lengths_kept(nodes: Nodes<'_>, entries: Entries<'_>, clock: Clock, total: usize) -> bool
     ensures { Decides (Lengths total (records (nodes_of nodes.entry) (entries_of entries.entry) clock)) result }
 {
+    let links = nodes.linked;
     ranged(total, clock.nodes, clock.entries)
-        && ends_lent(total, nodes.linked.heads.len(), nodes.linked.tails.len())
-        && nodes_lent(nodes, clock.nodes)
+        && ends_lent(total, links.heads.len(), links.tails.len())
+        && nodes_lent(
+            clock.nodes,
+            links.next.len(),
+            links.prev.len(),
+            links.home.len(),
+            nodes.entry.len(),
+            nodes.generation.len(),
+            nodes.serial.len(),
+        )
         && entries_lent(
             clock.entries,
             entries.dated.len(),

@@ -20,14 +20,7 @@ impl Filing {
         requires { Walkable self.now.before serial.now latest }
         ensures { Decides (Met self.now.before serial.now latest wanted) result }
     {
-        let mut y = latest;
-        while 0 < y {
-            if serial[y] == wanted {
-                return true;
-            }
-            y = usize::from(self.before[y]);
-        }
-        false
+        is_met(&self.before, serial, latest, wanted)
     }
 
     // Files the slot x, if it is armed: whether it is the first with its serial.
@@ -35,19 +28,50 @@ impl Filing {
         requires { Fileable total bucket.now serial.now self.old.latest self.old.before x }
         ensures { Files total bucket.now serial.now self.new.latest self.new.before x result }
     {
-        if total <= bucket[x] {
+        file(&mut self.latest, &mut self.before, bucket, serial, total, x)
+    }
+}
+
+// Whether a slot with the wanted serial is filed at the slot `latest` or before it. This and `file` are lent the arrays
+// one by one, for callers that have no `Filing`.
+pub fn is_met(before: &[u16; 4096], serial: &[u64], latest: usize, wanted: u64) -> bool
+    requires { Walkable before.now serial.now latest }
+    ensures { Decides (Met before.now serial.now latest wanted) result }
+{
+    let mut y = latest;
+    while 0 < y {
+        if serial[y] == wanted {
             return true;
         }
-        let wanted = serial[x];
-        let k = (wanted % 4096) as usize;
-        let y = self.latest[k];
-        if self.is_met(serial, usize::from(y), wanted) {
-            return false;
-        }
-        self.before[x] = y;
-        self.latest[k] = x as u16;
-        true
+        y = usize::from(before[y]);
     }
+    false
+}
+
+// Files the slot x, if it is armed: whether it is the first with its serial.
+pub fn file(
+    latest: &mut [u16; 4096],
+    before: &mut [u16; 4096],
+    bucket: &[usize],
+    serial: &[u64],
+    total: usize,
+    x: usize,
+) -> bool
+    requires { Fileable total bucket.now serial.now latest.old before.old x }
+    ensures { Files total bucket.now serial.now latest.new before.new x result }
+{
+    if total <= bucket[x] {
+        return true;
+    }
+    let wanted = serial[x];
+    let k = (wanted % 4096) as usize;
+    let y = latest[k];
+    if is_met(before, serial, usize::from(y), wanted) {
+        return false;
+    }
+    before[x] = y;
+    latest[k] = x as u16;
+    true
 }
 
 // Whether the serials of armed slots differ.
