@@ -1,5 +1,5 @@
 // What a call answers, and the line that says it.
-use lines::{Answers, Lines};
+use lines::Answers;
 use wheel::{Event, Handle, Refusal, Rescheduled};
 
 #[derive(Clone, Copy)]
@@ -20,7 +20,7 @@ pub enum Answer {
 
 impl Answer {
     // Puts the answer's line after those that wait.
-    pub fn say(self, rt: &impl Print, answers: &mut Answers, input: &Lines) {
+    pub fn say(self, rt: &impl Print, answers: &mut Answers) {
         match self {
             Answer::Done => say(rt, answers, b"ok", &[]),
             Answer::Armed(handle) => {
@@ -31,7 +31,7 @@ impl Answer {
             Answer::Event(event) => say_event(rt, answers, event),
             Answer::Count(n) => say(rt, answers, b"armed", &[n as u64]),
             Answer::Due(Some(time)) => say(rt, answers, b"due", &[time]),
-            Answer::Due(None) => say_none(rt, answers, b"due", input),
+            Answer::Due(None) => answers.append(rt, b"due -\n"),
             Answer::Place(place) => say(rt, answers, b"place", &[place]),
             Answer::Digest(digest) => say(rt, answers, b"digest", &[digest]),
             Answer::Shown => {}
@@ -55,13 +55,6 @@ fn say_event(rt: &impl Print, answers: &mut Answers, event: Event) {
         } => say(rt, answers, b"rescheduled", &[entry as u64, serial, place]),
         Event::End => say(rt, answers, b"end", &[]),
     }
-}
-
-// A line of a word and none.
-fn say_none(rt: &impl Print, answers: &mut Answers, word: &[u8], input: &Lines) {
-    let mut told = [0; 6];
-    lines::tell_none(&mut told, 0);
-    answers.say(rt, word, &told, input);
 }
 
 // A line of a word and numbers.

@@ -16,7 +16,7 @@ pub fn session(
     let mut records = Records::new();
     let mut wheel = records.lend(lend.unwrap_or(Lend::NOTHING));
     if lend.is_some() {
-        Answer::Done.say(rt, answers, input);
+        Answer::Done.say(rt, answers);
     }
     for _ in 0..u64::MAX {
         answers.settle(rt, input);
@@ -39,7 +39,7 @@ pub fn session(
             Some(Request::Poke(poke)) => wheel.poke(poke),
             None => Answer::BadLine,
         };
-        answer.say(rt, answers, input);
+        answer.say(rt, answers);
     }
     None
 }
