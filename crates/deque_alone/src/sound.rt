@@ -16,6 +16,7 @@ impl Deques<'_> {
     }
 
     // Whether the records are sound: links, free chain, lengths and cursors.
+    #[inline(always)]
     pub fn sound(self, cursors: &[usize], free: usize) -> bool
         ensures { Judged (state_of self.entry cursors.now) free result }
     {

@@ -23,6 +23,10 @@ fn main(rt: HostRuntime) {
             break;
         };
         let request = requested(line, lent.is_some());
+        if request == Request::Silent {
+            answers.settle(&rt, &input);
+            continue;
+        }
         if let Request::Lend(words) = request {
             lent = Some(words);
         }

@@ -59,8 +59,11 @@ impl Nodes<'_> {
 fn sooner(a: Option<u64>, b: Option<u64>) -> Option<u64>
     ensures { Sooner a b result }
 {
-    match (a, b) {
-        (Some(d), Some(c)) => Some(d.min(c)),
-        _ => a.or(b),
-    }
+    let Some(d) = a else {
+        return b;
+    };
+    let Some(c) = b else {
+        return a;
+    };
+    Some(d.min(c))
 }

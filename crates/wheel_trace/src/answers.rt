@@ -31,7 +31,7 @@ impl Answer {
             Answer::Event(event) => say_event(rt, answers, event),
             Answer::Count(n) => say(rt, answers, b"armed", &[n as u64]),
             Answer::Due(Some(time)) => say(rt, answers, b"due", &[time]),
-            Answer::Due(None) => answers.append(rt, b"due -\n"),
+            Answer::Due(None) => say_none(rt, answers, b"due"),
             Answer::Place(place) => say(rt, answers, b"place", &[place]),
             Answer::Digest(digest) => say(rt, answers, b"digest", &[digest]),
             Answer::Shown => {}
@@ -55,6 +55,13 @@ fn say_event(rt: &impl Print, answers: &mut Answers, event: Event) {
         } => say(rt, answers, b"rescheduled", &[entry as u64, serial, place]),
         Event::End => say(rt, answers, b"end", &[]),
     }
+}
+
+// A line of a word and none, put after those that wait part by part, as a line of numbers is.
+fn say_none(rt: &impl Print, answers: &mut Answers, word: &[u8]) {
+    answers.append(rt, word);
+    answers.append(rt, b" -");
+    answers.append(rt, b"\n");
 }
 
 // A line of a word and numbers.
