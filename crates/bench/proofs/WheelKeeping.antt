@@ -1,5 +1,5 @@
 -- The records stay those of a sound wheel: what each call of a workload asks, and what it leaves.
-use Rattle.std.proofs.Common.{◌≡◌, ℕ, ◌-◌, ◌^◌, ◌<◌, ◌≤◌, Bool, true, false, List, [], length, refl, subst, arith}
+use Rattle.std.proofs.Common.{◌≡◌, ℕ, ◌-◌, ◌^◌, ◌<◌, ◌≤◌, Bool, true, false, List, [], length, refl, sym, ap, ◌∙◌, subst, arith}
 use mathlib.Core.Option.{none, some}
 use Rattle.deque_rules.specs.Links.{home_of}
 use Rattle.rules.specs.Places.{wheel01}
@@ -39,6 +39,20 @@ laid_works N N' E E' c c' i d =
       shows = d.does w refl refl;
       sound = enable_sound wheel01 w (length N.links.next) (length E.dated) i;
     }
+
+-- a sound wheel has the lengths that its clock says
+pub lengths_are : (N : Nodes) (E : Entries) (c : Clock) → Works (records N E c) → (length N.links.next ≡ c.nodes) × (length E.dated ≡ c.entries)
+lengths_are N E c y = (
+  slots_are wheel01 N E c y.w y.shows ∙ sym y.shows.nodes_len,
+  y.shows.dated_len ∙ sym y.shows.entries_len,
+)
+
+-- those that were laid out
+pub laid_lengths : (N N' : Nodes) (E E' : Entries) (c c' : Clock) → 165 ≤ length N.links.next → Lays wheel01 N E c N' E' c'
+    → (length N'.links.next ≡ length N.links.next) × (length E'.dated ≡ length E.dated)
+laid_lengths N N' E E' c c' i d =
+    let l = lengths_are N' E' c' (laid_works N N' E E' c c' i d) in
+    (l.0 ∙ ap (λ (k : Clock). k.nodes) d.clock_is, l.1 ∙ ap (λ (k : Clock). k.entries) d.clock_is)
 
 module _ (N : Nodes) (E : Entries) (c : Clock) (y : Works (records N E c)) where
   abbrev w : Wheel

@@ -1,4 +1,5 @@
--- inner to the programs: what a workload keeps: its records show a sound wheel.
+-- inner to the programs: what a workload keeps: its records show a sound wheel, over as many nodes as it was given.
+use Rattle.std.specs.Prelude.{◌≡◌, ℕ, ◌-◌, length}
 use Rattle.rules.specs.Places.{wheel01}
 use Rattle.wheel_rules.specs.Lent.{Records, records}
 use Rattle.wheel_rules.specs.timers.Timers.{Ready}
@@ -12,3 +13,8 @@ shown w = records (nodes_now w.nodes) (entries_now w.entries) w.clock
 -- the records show a sound wheel
 abbrev pub Works : Records → Type 0
 Works R = Ready wheel01 R
+
+-- the wheel that is laid out over n node records: it is sound, has all of these, and an entry for each slot beside the
+-- sentinels
+abbrev pub Lies : ℕ → Wheel → Type 0
+Lies n w = Works (shown w) × (length w.nodes.linked.next.now ≡ n) × (length w.entries.dated.now ≡ n - 165)
