@@ -18,3 +18,8 @@ Works R = Ready wheel01 R
 -- sentinels
 abbrev pub Lies : ℕ → Wheel → Type 0
 Lies n w = Works (shown w) × (length w.nodes.linked.next.now ≡ n) × (length w.entries.dated.now ≡ n - 165)
+
+-- w has so many nodes and entries as v
+abbrev pub SameSize : Wheel → Wheel → Type 0
+SameSize v w =
+    (length w.nodes.linked.next.now ≡ length v.nodes.linked.next.now) × (length w.entries.dated.now ≡ length v.entries.dated.now)

@@ -1,6 +1,6 @@
 // What a workload does to the wheel. The calls are unchecked: the records show a sound wheel all the time, and what
 // they do not allow is not done.
-ghost use Rattle.bench.specs.Kept.{shown, Works};
+ghost use Rattle.bench.specs.Kept.{shown, Works, SameSize};
 
 use crate::wheels::records::{BUCKETS, Wheel};
 use crate::wheels::told::Told;
@@ -14,7 +14,8 @@ impl Wheel<'_> {
     #[inline(always)]
     pub fn arm(&mut self, e: usize, due: u64) -> usize
         requires { Works (shown self.old) }
-        ensures { Works (shown self.new) }
+        ensures works { Works (shown self.new) }
+        ensures size { SameSize self.old self.new }
     {
         if e >= self.entries.dated.len() {
             return NONE;
@@ -32,7 +33,8 @@ impl Wheel<'_> {
     #[inline(always)]
     pub fn disarm(&mut self, x: usize) -> bool
         requires { Works (shown self.old) }
-        ensures { Works (shown self.new) }
+        ensures works { Works (shown self.new) }
+        ensures size { SameSize self.old self.new }
     {
         if x < BUCKETS
             || x >= self.nodes.linked.home.len()
@@ -48,7 +50,8 @@ impl Wheel<'_> {
     #[inline(always)]
     pub fn advance(&mut self, q: u64, told: &mut Told)
         requires { Works (shown self.old) }
-        ensures { Works (shown self.new) }
+        ensures works { Works (shown self.new) }
+        ensures size { SameSize self.old self.new }
     {
         self.clock = start(self.clock, q);
         for _ in 0..u64::MAX {
@@ -63,7 +66,8 @@ impl Wheel<'_> {
     #[inline(always)]
     fn pull(&mut self) -> Event
         requires { Works (shown self.old) }
-        ensures { Works (shown self.new) }
+        ensures works { Works (shown self.new) }
+        ensures size { SameSize self.old self.new }
     {
         if !self.clock.open {
             return Event::End;
