@@ -149,3 +149,8 @@ module _ (N : Nodes) (E : Entries) (c : Clock) (y : Works (records N E c)) where
       let s = ((pulls_own t d i k N' r a p).does E.generation w y.shows y.sound).1 in
       same_lengths N N' E E c r y (pulled_works t d i k N' r a p) (s.nodes_len ∙ sym y.shows.nodes_len)
       (s.entries_len ∙ sym y.shows.entries_len)
+
+  pub pulled_reading : (t : List Bool) (d : List ℕ) → t ≡ E.dated → d ≡ E.deadline → (N' : Nodes) (r : Clock) (a : Event)
+      → Pulls wheel01 N t d c N' r a → r.reading ≡ c.reading
+  pulled_reading t d i k N' r a p =
+      ((pulls_own t d i k N' r a p).does E.generation w y.shows y.sound).1.reading ∙ sym y.shows.reading

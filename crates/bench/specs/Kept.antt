@@ -2,6 +2,8 @@
 use Rattle.std.specs.Prelude.{◌≡◌, ℕ, ◌-◌, length}
 use Rattle.rules.specs.Places.{wheel01}
 use Rattle.wheel_rules.specs.Lent.{Records, records}
+use Rattle.wheel_rules.specs.declared.calls.Clock.{Clock}
+use Rattle.wheel_rules.specs.records.Moments.{Starts}
 use Rattle.wheel_rules.specs.timers.Timers.{Ready}
 use Rattle.wheel_timers.specs.Slices.{nodes_now, entries_now}
 use Rattle.bench.specs.declared.wheels.records.Wheel.{Wheel}
@@ -23,3 +25,7 @@ Lies n w = Works (shown w) × (length w.nodes.linked.next.now ≡ n) × (length 
 abbrev pub SameSize : Wheel → Wheel → Type 0
 SameSize v w =
     (length w.nodes.linked.next.now ≡ length v.nodes.linked.next.now) × (length w.entries.dated.now ≡ length v.entries.dated.now)
+
+-- an advance to q is opened
+abbrev pub Opens : Clock → ℕ → Clock → Type 0
+Opens c q r = Starts wheel01 c r q

@@ -1,6 +1,7 @@
 // What a workload does to the wheel. The calls are unchecked: the records show a sound wheel all the time, and what
 // they do not allow is not done.
-ghost use Rattle.bench.specs.Kept.{shown, Works, SameSize};
+ghost use Rattle.std.specs.Prelude.{◌≡◌};
+ghost use Rattle.bench.specs.Kept.{shown, Works, SameSize, Opens};
 
 use crate::wheels::records::{BUCKETS, Wheel};
 use crate::wheels::told::Told;
@@ -52,8 +53,9 @@ impl Wheel<'_> {
         requires { Works (shown self.old) }
         ensures works { Works (shown self.new) }
         ensures size { SameSize self.old self.new }
+        ensures reading { self.new.clock.reading ≡ q }
     {
-        self.clock = start(self.clock, q);
+        self.open_to(q);
         for _ in 0..u64::MAX {
             match self.pull() {
                 Event::End => break,
@@ -62,12 +64,24 @@ impl Wheel<'_> {
         }
     }
 
+    // Opens an advance to the reading q.
+    #[inline(always)]
+    fn open_to(&mut self, q: u64)
+        requires { Works (shown self.old) }
+        ensures works { Works (shown self.new) }
+        ensures size { SameSize self.old self.new }
+        ensures opens { Opens self.old.clock q self.new.clock }
+    {
+        self.clock = start(self.clock, q);
+    }
+
     // An event of the open advance, or its end; the end too where none is open.
     #[inline(always)]
     fn pull(&mut self) -> Event
         requires { Works (shown self.old) }
         ensures works { Works (shown self.new) }
         ensures size { SameSize self.old self.new }
+        ensures reading { self.new.clock.reading ≡ self.old.clock.reading }
     {
         if !self.clock.open {
             return Event::End;
