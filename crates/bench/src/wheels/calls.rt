@@ -1,6 +1,7 @@
 // What a workload does to the wheel. The calls are unchecked: the records show a sound wheel all the time, and what
 // they do not allow is not done.
-ghost use Rattle.bench.specs.Kept.{shown, Works};
+ghost use Rattle.std.specs.Prelude.{◌≡◌};
+ghost use Rattle.bench.specs.Kept.{shown, Works, SameSize, Opens};
 
 use crate::wheels::records::{BUCKETS, Wheel};
 use crate::wheels::told::Told;
@@ -14,7 +15,8 @@ impl Wheel<'_> {
     #[inline(always)]
     pub fn arm(&mut self, e: usize, due: u64) -> usize
         requires { Works (shown self.old) }
-        ensures { Works (shown self.new) }
+        ensures works { Works (shown self.new) }
+        ensures size { SameSize self.old self.new }
     {
         if e >= self.entries.dated.len() {
             return NONE;
@@ -32,7 +34,8 @@ impl Wheel<'_> {
     #[inline(always)]
     pub fn disarm(&mut self, x: usize) -> bool
         requires { Works (shown self.old) }
-        ensures { Works (shown self.new) }
+        ensures works { Works (shown self.new) }
+        ensures size { SameSize self.old self.new }
     {
         if x < BUCKETS
             || x >= self.nodes.linked.home.len()
@@ -48,9 +51,11 @@ impl Wheel<'_> {
     #[inline(always)]
     pub fn advance(&mut self, q: u64, told: &mut Told)
         requires { Works (shown self.old) }
-        ensures { Works (shown self.new) }
+        ensures works { Works (shown self.new) }
+        ensures size { SameSize self.old self.new }
+        ensures reading { self.new.clock.reading ≡ q }
     {
-        self.clock = start(self.clock, q);
+        self.open_to(q);
         for _ in 0..u64::MAX {
             match self.pull() {
                 Event::End => break,
@@ -59,11 +64,24 @@ impl Wheel<'_> {
         }
     }
 
+    // Opens an advance to the reading q.
+    #[inline(always)]
+    fn open_to(&mut self, q: u64)
+        requires { Works (shown self.old) }
+        ensures works { Works (shown self.new) }
+        ensures size { SameSize self.old self.new }
+        ensures opens { Opens self.old.clock q self.new.clock }
+    {
+        self.clock = start(self.clock, q);
+    }
+
     // An event of the open advance, or its end; the end too where none is open.
     #[inline(always)]
     fn pull(&mut self) -> Event
         requires { Works (shown self.old) }
-        ensures { Works (shown self.new) }
+        ensures works { Works (shown self.new) }
+        ensures size { SameSize self.old self.new }
+        ensures reading { self.new.clock.reading ≡ self.old.clock.reading }
     {
         if !self.clock.open {
             return Event::End;

@@ -1,6 +1,6 @@
 // The records of a workload, and the wheel on them.
 ghost use Rattle.std.specs.Prelude.{◌≡◌, ◌<◌, ◌≤◌, length};
-ghost use Rattle.bench.specs.Kept.{shown, Works};
+ghost use Rattle.bench.specs.Kept.{shown, Works, Lies};
 
 use deque::linked::LinkedMut;
 use wheel_rules::calls::Clock;
@@ -57,7 +57,8 @@ impl Records {
     #[inline(always)]
     pub fn lay(&mut self, nodes: usize) -> Wheel<'_>
         requires { (165 < nodes) × (nodes ≤ 4096) }
-        ensures { Works (shown result) }
+        ensures works { Works (shown result) }
+        ensures lies { Lies nodes result }
     {
         let Records {
             heads,

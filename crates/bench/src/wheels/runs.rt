@@ -1,6 +1,6 @@
-// The workloads.
+// The workloads. The wheel of each has as many node records as it was given, to its end.
 ghost use Rattle.std.specs.Prelude.{◌<◌, ◌≤◌};
-ghost use Rattle.bench.specs.Kept.{shown, Works};
+ghost use Rattle.bench.specs.Kept.{shown, Works, SameSize};
 
 use crate::generator::following;
 use crate::wheels::records::{Records, Wheel};
@@ -32,6 +32,7 @@ pub fn cancel(nodes: usize, calls: u64, first: u64) -> u64
     }
     let mut told = Told::listing(0);
     wheel.advance(u64::MAX, &mut told);
+    prove!(wheel.nodes.linked.next.len() == nodes);
     told.digest
 }
 
@@ -60,6 +61,7 @@ pub fn go_on<D: Fn(u64) -> u64, S: Fn(u64) -> u64>(
         wheel.advance(clock.reading.wrapping_add(stride(x)), &mut told);
         x = wheel.arm_listed(&told, x, &delay);
     }
+    prove!(wheel.nodes.linked.next.len() == nodes);
     digest_step(told.digest, told.moved)
 }
 
@@ -81,6 +83,7 @@ pub fn count(nodes: usize, calls: u64, first: u64) -> u64
         );
         sum = sum.wrapping_add(counted.unwrap_or(0) as u64);
     }
+    prove!(wheel.nodes.linked.next.len() == nodes);
     sum
 }
 
@@ -91,7 +94,8 @@ impl Wheel<'_> {
     fn arm_listed<D: Fn(u64) -> u64>(&mut self, told: &Told, first: u64, delay: &D) -> u64
         requires works { Works (shown self.old) }
         requires delays { D.IsAlwaysCallable delay.now }
-        ensures { Works (shown self.new) }
+        ensures works { Works (shown self.new) }
+        ensures size { SameSize self.old self.new }
     {
         let mut x = first;
         for i in 0..told.listed {

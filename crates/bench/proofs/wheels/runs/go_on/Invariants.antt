@@ -1,6 +1,6 @@
--- `go_on`: the records show a sound wheel from turn to turn.
-use Rattle.bench.specs.Kept.{shown, Works}
+-- `go_on`: the wheel lies over the nodes that were given, from turn to turn.
+use Rattle.bench.specs.Kept.{Lies}
 use Rattle.bench.proofs.wheels.runs.go_on.Given as goal
 
 abbrev pub invariant-loop : goal.invariant-loop
-invariant-loop g l = Works (shown l.wheel)
+invariant-loop g l = Lies l.nodes l.wheel
