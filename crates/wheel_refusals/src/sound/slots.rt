@@ -5,28 +5,27 @@ ghost use Rattle.wheel_rules.specs.Lent.{Decides, KindAt, Kinds, EntriesExist, S
 
 use deque::NONE;
 
-// Whether the slot x, whose bucket field is b, is a sentinel, armed or free. Tests one by one: as one condition the pass
-// over all slots takes a third more time.
+// Whether the slot x, whose bucket field is b, is a sentinel, armed or free.
 pub fn has_kind(total: usize, x: usize, b: usize) -> bool
     ensures { Decides (KindAt total x b) result }
 {
     if x < total {
-        return b == x;
+        b == x
+    } else {
+        b < total || b == NONE
     }
-    if b < total {
-        return true;
-    }
-    b == NONE
 }
 
-// Whether each slot is a sentinel, armed or free.
+// Whether each slot is a sentinel, armed or free. All are looked at, whatever the first ones are: so the compiler takes
+// several at a time.
 pub fn kinds(bucket: &[usize], total: usize) -> bool
     ensures { Decides (Kinds total bucket.now) result }
 {
-    bucket
-        .iter()
-        .enumerate()
-        .all(|(x, b)| has_kind(total, x, *b))
+    let mut good = true;
+    for (x, b) in bucket.iter().enumerate() {
+        good &= has_kind(total, x, *b);
+    }
+    good
 }
 
 // Whether the entries of armed slots exist.
