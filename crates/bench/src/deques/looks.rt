@@ -1,23 +1,31 @@
 // The workloads that change no link: the steps of a cursor, and the checked lengths. Each stands in a function of its
 // own, so that the program around it takes none of its registers.
 ghost use Rattle.std.specs.Prelude.{◌≤◌};
+ghost use Rattle.bench.specs.Ready.{Ready};
+ghost use Rattle.deque_alone.specs.Slices.{state_of};
 
 use crate::deques::records::laid;
+use deque_alone::Deques;
 
 // So many steps of the cursor: the sum of the elements that they gave.
-#[inline(never)]
 pub fn walk(n: usize, calls: u64, x: u64) -> u64
     requires { n ≤ 4096 }
 {
     let Some(made) = laid(n, n, x) else {
         return 0;
     };
-    let deques = made.as_read(n);
-    let free = made.free;
     let mut cursors = made.cursors;
+    steps(made.as_read(n), &mut cursors, made.free, calls)
+}
+
+// The steps, over records that are laid out.
+#[inline(never)]
+fn steps(deques: Deques<'_>, cursors: &mut [usize], free: usize, calls: u64) -> u64
+    requires { Ready (state_of deques cursors.old) free }
+{
     let mut sum: u64 = 0;
     for _ in 0..calls {
-        if let Some(node) = deques.step(&mut cursors, free, 0) {
+        if let Some(node) = deques.step(cursors, free, 0) {
             sum = sum.wrapping_add(node.element);
         }
     }

@@ -1,7 +1,7 @@
--- `walk` keeps the records those of one deque.
+-- `steps` keeps the records those of one deque.
 use Rattle.deque_alone.specs.Slices.{state_of}
 use Rattle.bench.specs.Ready.{Ready}
-use Rattle.bench.proofs.deques.looks.walk.Given as goal
+use Rattle.bench.proofs.deques.looks.steps.Given as goal
 
 abbrev pub invariant-loop : goal.invariant-loop
 invariant-loop l = Ready (state_of l.deques l.cursors) l.free
