@@ -1,1 +1,2 @@
+-- What the soundness test keeps from slot to slot.
 pub mod SlotKinds
